@@ -9,7 +9,13 @@ mapfile -t files < <(find bench docs page python release tests -name '*.py' -not
 
 # wide FILE..: the lines of more than 120 characters.
 wide() {
-    awk 'length > 120 { print FILENAME ":" FNR ": " length " characters"; found = 1 } END { exit found }' "$@"
+    python3 - "$@" << 'END'
+import sys
+found = [f"{name}:{number}: {len(line) - 1} characters" for name in sys.argv[1:]
+         for number, line in enumerate(open(name, encoding="utf-8"), 1) if len(line) > 121]
+print("\n".join(found)) if found else None
+sys.exit(len(found) > 0)
+END
 }
 
 # named COMMAND..: the first of some commands that is there.

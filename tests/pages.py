@@ -8,11 +8,11 @@ virtual environment, they are shown as not run. With --text it runs nothing, and
 
 Then it looks at the text of all pages: links and names of files that lead nowhere, lines of more than 100 characters,
 sentences of more than 35 words, and words that docs/CONTRIBUTING.md lists to avoid. Tables, code and quoted output are
-exempt; they count where the words of a page are too many. It compares docs/DEFINITIONS.md with what
-docs/definitions.py makes, whose sentences come from the sources. The doc comments of crates, the comments of their specs
-and of all scripts and programs, and all texts of Python avoid the same words. And it looks for each block
-below `# Example` in the documentation of calls, and for each block that docs/CALLING.md shows other crates, among the
-lines of crates/calling, which the gate proves. Prints what is wrong, and ends with status 1 then.
+exempt; they count where the words of a page are too many. It compares docs/DEFINITIONS.md with what docs/definitions.py
+makes, whose sentences come from the sources. The doc comments of crates, the comments of their specs and of all scripts
+and programs, and all texts of Python avoid the same words. And it looks for each block below `# Example` in the
+documentation of calls, and for each block that docs/CALLING.md shows other crates, among the lines of crates/calling,
+which the gate proves. Prints what is wrong, and ends with status 1 then.
 """
 import glob
 import importlib.util
@@ -30,19 +30,21 @@ RUN = ["README.md", "docs/MODELLING.md", "docs/SCRIPTS.md"]
 RELEASED = re.compile(r"\brelease/|\bplanner\b")
 GENERATED = "docs/DEFINITIONS.md"
 # The most words of each page. The generated one and the list of changes may have any number.
-MOST_OF_PAGE = {
-    "README.md": 1550, "SECURITY.md": 250, "bench/README.md": 800, "examples/README.md": 200, "docs/ARCHITECTURE.md": 1450,
-    "docs/CALLING.md": 700, "docs/CONTRIBUTING.md": 850, "docs/DECISIONS.md": 1100, "docs/FORMATS.md": 2200,
-    "docs/MODELLING.md": 1200, "docs/PROOFS.md": 1000, "docs/PROVED.md": 3300, "docs/PYTHON.md": 1700, "docs/RATTLE.md": 400,
-    "docs/ROSTERS.md": 2000, "docs/RULES.md": 950, "docs/SCRIPTS.md": 850, "docs/TESTING.md": 650,
-}
+MOST_OF_PAGE = {"README.md": 1550, "SECURITY.md": 250, "bench/README.md": 800, "examples/README.md": 200,
+                "docs/ARCHITECTURE.md": 1450, "docs/CALLING.md": 700, "docs/CONTRIBUTING.md": 850,
+                "docs/DECISIONS.md": 1100, "docs/FORMATS.md": 2200, "docs/MODELLING.md": 1200, "docs/PROOFS.md": 1000,
+                "docs/PROVED.md": 3300, "docs/PYTHON.md": 1700, "docs/RATTLE.md": 400, "docs/ROSTERS.md": 2000,
+                "docs/RULES.md": 950, "docs/SCRIPTS.md": 850, "docs/TESTING.md": 650}
 UNCOUNTED = (GENERATED, "CHANGELOG.md")
 # The sources whose comments avoid the same words, the beginning of these comments, and code in them.
 COMMENTS = {"crates/*/src/**/*.rt": re.compile(r"\s*//[/!]"), "crates/*/specs/**/*.antt": re.compile(r"\s*--")}
-# The other sources, and what their comments are, by how their names end; the texts of Python are found by its own reader.
-SCRIPTED = (".ci/run", "prove", "bench/**/*", "c/*", "docs/*.py", "page/*", "programs/**/*", "python/**/*.py", "release/**/*", "tests/**/*")
-SCRIPTS = {("/run", ".sh"): re.compile(r'^\s*#.*$|"""[\s\S]*?"""', re.M), (".c", ".h"): re.compile(r"/\*.*?\*/", re.DOTALL),
-           (".rs", ".rt.txt"): re.compile(r"^\s*//.*$", re.M), (".mjs",): re.compile(r"^\s*//.*$|/\*\*.*?\*/", re.M | re.S)}
+# The other sources, and what their comments are, by how their names end; the texts of Python are found by its own
+# reader.
+SCRIPTED = (".ci/run", "prove", "bench/**/*", "c/*", "docs/*.py", "page/*", "programs/**/*", "python/**/*.py",
+            "release/**/*", "tests/**/*")
+SCRIPTS = {("/run", ".sh"): re.compile(r'^\s*#.*$|"""[\s\S]*?"""', re.M),
+           (".c", ".h"): re.compile(r"/\*.*?\*/", re.DOTALL), (".rs", ".rt.txt"): re.compile(r"^\s*//.*$", re.M),
+           (".mjs",): re.compile(r"^\s*//.*$|/\*\*.*?\*/", re.M | re.S)}
 QUOTED = re.compile(r"```.*?```|`[^`\n]*`", re.DOTALL)
 # The crate of examples, and the section of a page that shows some of them.
 EXAMPLES = "crates/calling/src"
@@ -109,9 +111,11 @@ def unreleased():
 
 
 def surroundings(work, command):
-    """The environment of a command: the program on the path, and the Python package of the checkout or of the release."""
+    """The environment of a command: the program on the path, and the Python package of the checkout or of the
+    release."""
     path = os.path.join(work, "bin") + os.pathsep + os.environ["PATH"]
-    found = {**os.environ, "PATH": path, "PYTHONDONTWRITEBYTECODE": "1", "PIP_NO_INDEX": "1", "PIP_DISABLE_PIP_VERSION_CHECK": "1"}
+    found = {**os.environ, "PATH": path, "PYTHONDONTWRITEBYTECODE": "1", "PIP_NO_INDEX": "1",
+             "PIP_DISABLE_PIP_VERSION_CHECK": "1"}
     found.pop("PYTHONPATH", None)
     return found if RELEASED.search(command) else {**found, "PYTHONPATH": os.path.join(TOP, "python")}
 
@@ -267,7 +271,8 @@ def look_at_generated(faults):
 
 def sources(pattern):
     """The code of some crates."""
-    return sorted(os.path.relpath(path, TOP) for path in glob.glob(os.path.join(TOP, pattern, "**/*.rt"), recursive=True))
+    return sorted(os.path.relpath(path, TOP) for path in glob.glob(os.path.join(TOP, pattern, "**/*.rt"),
+                                                                   recursive=True))
 
 
 def documented(path):

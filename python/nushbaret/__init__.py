@@ -4,12 +4,13 @@
     result = nushbaret.solve([[1, 2], [3, 5]])
     result.columns, result.cost, result.column_duals
 
-`solve` takes a matrix, `solve_sparse` listed pairs, and `linear_sum_assignment` is SciPy's call. `assign_counts` plans where rows and
-columns count several times, and `plan_roster` where there are rules, such as of rest, weeks and weekends; for it SciPy finds, and a check
-in whole numbers proves. `k_best` yields plans from the best on, and `bottleneck` makes the worst pair as good as possible. `check` and
-`compare` judge plans from elsewhere. Plans are best for the costs as given, of any size. Nushbaret's proved library solves all costs
-that are up to 10**12 multiples of one unit, and proves the plan; for any others it solves rounded ones, level by level. What this
-package adds is tested, not proved: how costs are read, levels, dummies where some stay out, and the order of plans.
+`solve` takes a matrix, `solve_sparse` listed pairs, and `linear_sum_assignment` is SciPy's call. `assign_counts` plans
+where rows and columns count several times, and `plan_roster` where there are rules, such as of rest, weeks and
+weekends; for it SciPy finds, and a check in whole numbers proves. `k_best` yields plans from the best on, and
+`bottleneck` makes the worst pair as good as possible. `check` and `compare` judge plans from elsewhere. Plans are best
+for the costs as given, of any size. Nushbaret's proved library solves all costs that are up to 10**12 multiples of one
+unit, and proves the plan; for any others it solves rounded ones, level by level. What this package adds is tested, not
+proved: how costs are read, levels, dummies where some stay out, and the order of plans.
 """
 import importlib
 import os
@@ -28,13 +29,12 @@ if TYPE_CHECKING:
     from .costs.limits import GREATEST_COST, MOST_PERSONS
     from .lap.library import VERSION as __version__, LibraryNotFound
 
-__all__ = [
-    "GREATEST_COST", "MOST_PERSONS", "Comparison", "CountsInfeasible", "CountsResult", "Infeasible", "LibraryNotFound", "Plan", "Result",
-    "RosterPlan", "Shortage", "Verdict", "__version__", "assign_counts", "bottleneck", "check", "compare", "k_best",
-    "linear_sum_assignment", "plan_roster", "solve", "solve_sparse",
-]
+__all__ = ["GREATEST_COST", "MOST_PERSONS", "Comparison", "CountsInfeasible", "CountsResult", "Infeasible",
+           "LibraryNotFound", "Plan", "Result", "RosterPlan", "Shortage", "Verdict", "__version__", "assign_counts",
+           "bottleneck", "check", "compare", "k_best", "linear_sum_assignment", "plan_roster", "solve", "solve_sparse"]
 
-# The module of each name. It is loaded when the name is first used, so that the command can set what Ctrl-C does before that.
+# The module of each name. It is loaded when the name is first used, so that the command can set what Ctrl-C does before
+# that.
 _MODULES = {
     "api.bottleneck": ("bottleneck",),
     "api.check": ("Comparison", "check", "compare"),

@@ -51,16 +51,19 @@ def roster_of(r, n_persons, n_days, are_dates, share=0.85):
     pairs = [(person, object_) for person in range(n_persons) for object_ in range(len(objects)) if r.random() < share]
     persons = list(NAMES[:n_persons])
     numbers = [{name: number for number, name in enumerate(names)} for names in (persons, objects)]
-    roster = Roster(persons, objects, *numbers, array("H", (person for person, _ in pairs)), array("H", (object_ for _, object_ in pairs)),
-                    array("q", (r.randint(0, 9) for _ in pairs)), 0, ("nurse", "shift", "cost"), ",", False, by_persons=True)
+    roster = Roster(persons, objects, *numbers, array("H", (person for person, _ in pairs)),
+                    array("H", (object_ for _, object_ in pairs)), array("q", (r.randint(0, 9) for _ in pairs)), 0,
+                    ("nurse", "shift", "cost"), ",", False, by_persons=True)
     return roster._replace(groups=Groups("day", names, of_objects, times, kinds, True)), first
 
 
 def with_earlier(r, roster, first, are_dates):
     """The roster with up to five days before its first one, and what was worked on them."""
-    names = [(first - timedelta(back)).isoformat() if are_dates else f"earlier {-back}" for back in range(r.randint(1, 5), 0, -1)]
+    names = [(first - timedelta(back)).isoformat() if are_dates else f"earlier {-back}"
+             for back in range(r.randint(1, 5), 0, -1)]
     earlier = [Earlier(f"{kind} {name}", name, kind, Times(14 * 60, 22 * 60), 2) for name in names for kind in KINDS]
-    pairs = [(person, f"{r.choice(KINDS)} {name}", 2) for person in roster.persons for name in names if r.random() < 0.6]
+    pairs = [(person, f"{r.choice(KINDS)} {name}", 2) for person in roster.persons for name in names
+             if r.random() < 0.6]
     return roster._replace(groups=roster.groups._replace(earlier=tuple(earlier))), Before("before.csv", pairs)
 
 
@@ -68,7 +71,8 @@ def with_past(r, roster):
     """The roster with the first days past, and the pairs of the past."""
     cut = r.randint(1, max(1, len(roster.groups.names) // 2))
     past = frozenset(object_ for object_, group in roster.groups.of_objects.items() if group < cut)
-    allowed = sorted(roster.costs_of({(person, object_) for person in range(len(roster.persons)) for object_ in past}).items())
+    allowed = sorted(roster.costs_of({(person, object_) for person in range(len(roster.persons))
+                                      for object_ in past}).items())
     taken = {}
     for (person, object_), cost in r.sample(allowed, len(allowed)):
         if r.random() < 0.6:

@@ -85,8 +85,8 @@ def is_allowed(name, other):
 
 
 def layers(graph):
-    """The layer of each module, from 0 on: one more than that of the highest module that it imports. Those that no order holds, since they
-    import each other, have none."""
+    """The layer of each module, from 0 on: one more than that of the highest module that it imports. Those that no
+    order holds, since they import each other, have none."""
     found = {}
     while True:
         more = {name: 1 + max((found[other] for other in others), default=-1)
@@ -108,11 +108,13 @@ def cycle(graph):
 
 
 def drawn(graph):
-    """The folders from the highest to the lowest, each with its modules by layers and with what it imports of others."""
+    """The folders from the highest to the lowest, each with its modules by layers and with what it imports of
+    others."""
     found = layers(graph)
     for folder in reversed(BELOW):
         own = [name for name in graph if folder_of(name) == folder and name not in BELOW]
-        counts = {other: sum(folder_of(end) == other for name in own for end in graph[name]) for other in BELOW if other != folder}
+        counts = {other: sum(folder_of(end) == other for name in own for end in graph[name]) for other in BELOW
+                  if other != folder}
         below = ", ".join(f"{other} {count}" for other, count in counts.items() if count)
         yield f"{folder.replace('.', '/')}/  imports {below or 'nothing'}"
         for layer in sorted({found[name] for name in own}, reverse=True):

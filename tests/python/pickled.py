@@ -1,4 +1,5 @@
-"""Pickles results of a release, with what they say there: python3 -I pickled.py FOLDER > pickles/VERSION.json, where FOLDER has its package."""
+"""Pickles results of a release, with what they say there: python3 -I pickled.py FOLDER > pickles/VERSION.json, where
+FOLDER has its package."""
 import base64
 import json
 import pickle
@@ -7,7 +8,8 @@ from array import array
 from decimal import Decimal
 from fractions import Fraction
 
-OF_RESULTS = ("cost", "pairs", "rows", "columns", "unmatched_rows", "row_duals", "column_duals", "prices", "maximize", "is_unique")
+OF_RESULTS = ("cost", "pairs", "rows", "columns", "unmatched_rows", "row_duals", "column_duals", "prices", "maximize",
+              "is_unique")
 OF_COUNTS = ("cost", "pairs", "rows", "columns", "missing_rows", "missing_columns", "maximize")
 
 
@@ -15,7 +17,8 @@ def said(value):
     """What a value says, as texts."""
     kind = type(value).__name__
     if kind == "Result":
-        return {**{name: repr(getattr(value, name)) for name in OF_RESULTS}, "verify": repr(value.verify()), "next": repr(value.next_best())}
+        return {**{name: repr(getattr(value, name)) for name in OF_RESULTS}, "verify": repr(value.verify()),
+                "next": repr(value.next_best())}
     if kind == "CountsResult":
         return {name: repr(getattr(value, name)) for name in OF_COUNTS}
     if isinstance(value, Exception):

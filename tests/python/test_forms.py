@@ -59,7 +59,8 @@ def _drawn(draw, kind, values, odd, shape):
 
 
 def _laid_out(draw, costs):
-    """The same array in another order in memory, as a part of a larger one, unaligned, or with another object as its dtype."""
+    """The same array in another order in memory, as a part of a larger one, unaligned, or with another object as its
+    dtype."""
     def strided():
         wide = np.zeros((2 * costs.shape[0], 3 * costs.shape[1]), costs.dtype)
         wide[::2, 1::3] = costs
@@ -69,8 +70,9 @@ def _laid_out(draw, costs):
         held = np.frombuffer(b"\0" + costs.tobytes(), np.uint8)[1:]
         return held.view(costs.dtype).reshape(costs.shape)
 
-    forms = [lambda: costs, lambda: np.asfortranarray(costs), lambda: costs[::-1, ::-1], lambda: pickle.loads(pickle.dumps(costs)),
-             lambda: costs.astype(costs.dtype.newbyteorder()), strided, unaligned]
+    forms = [lambda: costs, lambda: np.asfortranarray(costs), lambda: costs[::-1, ::-1],
+             lambda: pickle.loads(pickle.dumps(costs)), lambda: costs.astype(costs.dtype.newbyteorder()), strided,
+             unaligned]
     return draw.choice(forms)()
 
 
@@ -82,7 +84,8 @@ def _said(call, costs, maximize):
         return type(fault), str(fault)
     if isinstance(found, tuple):
         return [(type(values), values.dtype, values.tolist()) for values in found]
-    return [repr(found.cost), found.pairs, found.row_duals, found.column_duals, found.prices, repr(found.rows), repr(found.columns)]
+    return [repr(found.cost), found.pairs, found.row_duals, found.column_duals, found.prices, repr(found.rows),
+            repr(found.columns)]
 
 
 @unittest.skipUnless(np, "NumPy isn't there")
@@ -98,8 +101,11 @@ class Forms(unittest.TestCase):
     def test_beside_the_longer_way(self):
         draw = drawing(171)
         for turn in range(3000):
-            kind, values, odd = draw.choice(FLOATS * 3 + WHOLE), draw.choice(list(VALUES)), draw.choice(list(ODD) + ["plain", "infinite"])
-            shape = draw.choice([(0, 0), (0, 3), (3, 0), (1, 1), (1, 5), (4, 1)] + [(draw.randint(1, 6), draw.randint(1, 6))] * 12)
+            kind, values, odd = draw.choice(FLOATS * 3 + WHOLE), draw.choice(list(VALUES)), draw.choice(list(ODD)
+                                                                                                        + ["plain",
+                                                                                                           "infinite"])
+            shape = draw.choice([(0, 0), (0, 3), (3, 0), (1, 1), (1, 5), (4, 1)]
+                                + [(draw.randint(1, 6), draw.randint(1, 6))] * 12)
             self.both(_laid_out(draw, _drawn(draw, kind, values, odd, shape)), draw.random() < 0.5)
 
     def test_larger(self):
@@ -116,13 +122,14 @@ class Forms(unittest.TestCase):
         plain = _drawn(draw, "f8", "even", "plain", (8, 8))
         allowed = plain.copy()
         allowed[0, 1:5] = np.inf
-        forms = [plain, pickle.loads(pickle.dumps(plain)), allowed, plain.astype("f4"), plain.astype("f2"), (plain * 99).astype("i4"),
-                 plain > 0.5, _drawn(draw, "f8", "cents", "plain", (8, 8))]
+        forms = [plain, pickle.loads(pickle.dumps(plain)), allowed, plain.astype("f4"), plain.astype("f2"),
+                 (plain * 99).astype("i4"), plain > 0.5, _drawn(draw, "f8", "cents", "plain", (8, 8))]
         if pandas:
             forms += [pandas.DataFrame(plain), pandas.DataFrame((plain * 99).astype("i4"))]
         for form in forms:
             self.assertIsNotNone(arrays.found(form, False))
-            self.assertIsNotNone(arrays.assignment(form, True) if form is not allowed else arrays.assignment(-form, True))
+            self.assertIsNotNone(arrays.assignment(form, True) if form is not allowed
+                                 else arrays.assignment(-form, True))
 
     @unittest.skipUnless(pandas, "pandas isn't there")
     def test_frames(self):
@@ -130,7 +137,8 @@ class Forms(unittest.TestCase):
         for turn in range(200):
             kind, odd = draw.choice(FLOATS + WHOLE), draw.choice(["plain", "infinite", "NaN"])
             n, m = draw.randint(1, 5), draw.randint(1, 5)
-            frame = pandas.DataFrame(_drawn(draw, kind, draw.choice(list(VALUES)), odd, (n, m)), [f"r{row}" for row in range(n)])
+            frame = pandas.DataFrame(_drawn(draw, kind, draw.choice(list(VALUES)), odd, (n, m)),
+                                     [f"r{row}" for row in range(n)])
             if turn % 4 == 0:
                 frame[0] = draw.randint(0, 9)
             for call in nushbaret.solve, nushbaret.linear_sum_assignment:
@@ -179,7 +187,8 @@ class Listed(unittest.TestCase):
             if turn % 3 == 0:
                 rows, columns = map(list, zip(*sorted(zip(rows, columns)))) if count else ([], [])
             value = VALUES[draw.choice(list(VALUES))]
-            costs, maximize = [draw.choice([value(draw), 0.25, -0.0, 1e300 if turn % 5 == 0 else 1.0]) for _ in range(count)], turn % 2 == 0
+            costs, maximize = [draw.choice([value(draw), 0.25, -0.0, 1e300 if turn % 5 == 0 else 1.0])
+                               for _ in range(count)], turn % 2 == 0
             arrays = np.array(rows, draw.choice(["u1", "i8", "i4"])), np.array(columns, np.intp), np.array(costs)
             with self.subTest(rows=rows, columns=columns, costs=costs, maximize=maximize):
                 listed = nushbaret.solve_sparse(n, m, rows, columns, costs, maximize, partial=True)
@@ -196,7 +205,8 @@ class Listed(unittest.TestCase):
 
     def once_by_arrays(self, n, m, rows, columns, costs):
         kind = np.uint16
-        problem = _problem.once(_problem.Problem(n, m, False, costs, (rows + 1).astype(kind), (columns + 1).astype(kind), raw=True, numpy=np))
+        problem = _problem.once(_problem.Problem(n, m, False, costs, (rows + 1).astype(kind),
+                                                 (columns + 1).astype(kind), raw=True, numpy=np))
         return list(zip((problem.persons - 1).tolist(), (problem.objects - 1).tolist(), problem.costs.tolist()))
 
 
@@ -219,12 +229,14 @@ class Shortest(unittest.TestCase):
     def test_of_32_bits(self):
         draw = drawing(176)
         powers = np.array([2.0**power for power in range(-149, 128)], np.float32)
-        self.compare(np.concatenate([powers, -powers, np.nextafter(powers, np.float32(0)), np.nextafter(powers, np.float32(np.inf))]))
+        self.compare(np.concatenate([powers, -powers, np.nextafter(powers, np.float32(0)),
+                                     np.nextafter(powers, np.float32(np.inf))]))
         with np.errstate(all="ignore"):
             self.compare(np.array([draw.getrandbits(32) for _ in range(20000)], np.uint32).view(np.float32))
         for count in 1, 64, 20000:
             self.compare(np.array([10**draw.uniform(-4.2, 7.4) for _ in range(count)], np.float32))
-            self.compare(np.array([draw.randint(-10**6, 10**6) / 10**draw.randint(0, 5) for _ in range(count)], np.float32))
+            self.compare(np.array([draw.randint(-10**6, 10**6) / 10**draw.randint(0, 5) for _ in range(count)],
+                                  np.float32))
             self.compare(np.array([draw.random() for _ in range(count)], np.float32))
 
 

@@ -1,4 +1,5 @@
-"""The next plans, and fair ones, compared with a search through all plans: with counts, groups and bounds, and without."""
+"""The next plans, and fair ones, compared with a search through all plans: with counts, groups and bounds, and
+without."""
 import math
 import pathlib
 import sys
@@ -23,7 +24,8 @@ def single(case):
 # Drawn rosters, how these are answered, and what a roster has of the drawn one.
 KINDS = (("by counts", drawings(31, 200), answer_by_counts, lambda case: case.roster()),
          ("equal costs", drawings(32, 150, 2), answer_by_counts, lambda case: case.roster()),
-         ("single", [single(case) for case in drawings(33, 200)], answer_of, lambda case: case.roster()._replace(tasks=None, places=None)),
+         ("single", [single(case) for case in drawings(33, 200)], answer_of,
+          lambda case: case.roster()._replace(tasks=None, places=None)),
          ("single, equal costs", [single(case) for case in drawings(34, 150, 2)], answer_of,
           lambda case: case.roster()._replace(tasks=None, places=None)))
 
@@ -74,7 +76,8 @@ class Fair(unittest.TestCase):
                         self.assertEqual((answer.plan.pairs, min(plan[1] for plan in every)), ([], 0))
                         continue
                     dearest, cost, _ = min(every)
-                    self.assertEqual((sign * fair.pair.cost if fair.pair else -math.inf, sign * answer.plan.cost), (dearest, cost))
+                    self.assertEqual((sign * fair.pair.cost if fair.pair else -math.inf, sign * answer.plan.cost),
+                                     (dearest, cost))
                     self.assertIn((dearest, cost, pairs_of(answer.plan)), every)
                     self.assertEqual(sign * fair.best.cost, min(plan[1] for plan in every))
                     self.assertIn(fair.best_pair, fair.best.pairs)

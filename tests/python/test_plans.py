@@ -32,7 +32,8 @@ def pairs_of(plan, n_rows, n_columns):
 
 def kept(costs, keeps):
     """The costs of the pairs that are kept, and None elsewhere."""
-    return [[cost if keeps(row, column) else None for column, cost in enumerate(line)] for row, line in enumerate(costs)]
+    return [[cost if keeps(row, column) else None for column, cost in enumerate(line)]
+            for row, line in enumerate(costs)]
 
 
 def split_by_pairs(costs, maximize, k):
@@ -150,7 +151,8 @@ class Checked(unittest.TestCase):
     def test_a_wrong_plan(self):
         def turned(ranking, part):
             return part._replace(columns=part.columns[::-1])
-        self.refused("_first_of_its_cost", turned, "found to be the best of its part, and the library says otherwise: row 0")
+        self.refused("_first_of_its_cost", turned, "found to be the best of its part, and the library says otherwise: "
+                     "row 0")
 
     def test_a_wrong_cost(self):
         def cheaper(ranking, part):
@@ -186,8 +188,8 @@ class Bottlenecks(unittest.TestCase):
             n_rows, n_columns = len(costs), len(costs[0])
             served = len(nushbaret.solve(form, maximize, partial=True, missing="forbid").rows)
             sign = -1 if maximize else 1
-            wanted = min((max((sign * costs[row][column] for row, column in enumerate(own) if column < n_columns), default=0), sign * cost)
-                         for cost, own in ordered(costs, maximize, served))
+            wanted = min((max((sign * costs[row][column] for row, column in enumerate(own) if column < n_columns),
+                              default=0), sign * cost) for cost, own in ordered(costs, maximize, served))
             result = nushbaret.bottleneck(form, maximize, partial=True, missing="forbid")
             worst = max((sign * costs[row][column] for row, column in result.pairs), default=0)
             self.assertEqual((worst, sign * result.cost, len(result.rows)), (*wanted, served))
@@ -199,7 +201,8 @@ class Bottlenecks(unittest.TestCase):
         self.assertGreater(partial, 40)
 
     def test_refusals(self):
-        with self.assertRaisesRegex(ValueError, 'nan at row 0, column 1: None or an infinite cost forbids a pair, and missing="forbid"'):
+        with self.assertRaisesRegex(ValueError, 'nan at row 0, column 1: None or an infinite cost forbids a pair, and '
+                                    'missing="forbid"'):
             nushbaret.bottleneck([[1, float("nan")]])
         with self.assertRaisesRegex(ValueError, "missing is 'drop': it must be 'refuse' or 'forbid'"):
             nushbaret.bottleneck([[1]], missing="drop")
@@ -208,7 +211,8 @@ class Bottlenecks(unittest.TestCase):
     def test_too_few_pairs(self):
         for module, call in (("api.bottleneck", nushbaret.bottleneck), ("lap.solving", nushbaret.solve)):
             with mock.patch(f"nushbaret.{module}.most_served", return_value=1):
-                with self.assertRaisesRegex(RuntimeError, "1 pairs were found to be the most, and the library says otherwise"):
+                with self.assertRaisesRegex(RuntimeError, "1 pairs were found to be the most, and the library says "
+                                            "otherwise"):
                     call([[1, None, None], [2, 3, None], [4, None, None]], partial=True)
 
 

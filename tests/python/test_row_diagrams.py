@@ -53,7 +53,8 @@ class Diagrams(unittest.TestCase):
     def check_each(self, model, costs_of, found):
         for value, variable in itertools.product((0, 1), range(model.variables)):
             least = min((price for plan, price in costs_of.items() if plan[variable] == value), default=None)
-            self.assertEqual(None if found[value, variable] >= diagrams.TOO_MUCH // 2 else found[value, variable], least)
+            self.assertEqual(None if found[value, variable] >= diagrams.TOO_MUCH // 2 else found[value, variable],
+                             least)
 
     def test_too_wide(self):
         rows = [Limits(1000, tuple((variable, 3**variable) for variable in range(12)), 100_000)]
@@ -76,7 +77,8 @@ class Trees_(unittest.TestCase):
             with self.subTest(seed=seed):
                 try:
                     tree = trees.tree(model.costs, most)
-                    self.assertTrue(shows_here(Certificate(model.variables, (*rows, Limits(None, terms, most)), None, flat(tree))))
+                    self.assertTrue(shows_here(Certificate(model.variables, (*rows, Limits(None, terms, most)), None,
+                                                           flat(tree))))
                     self.assertGreater(min(prices, default=most + 1), most)
                     counts[0] += 1
                 except Open:
@@ -89,7 +91,8 @@ class Trees_(unittest.TestCase):
 class Prices(unittest.TestCase):
     def proof(self, model, make, target):
         """The certificate of a proof that no plan costs `target` or less."""
-        rows = (*limits(model), Limits(None, tuple((variable, cost) for variable, cost in enumerate(model.costs) if cost), target))
+        rows = (*limits(model), Limits(None, tuple((variable, cost) for variable, cost in enumerate(model.costs)
+                                                   if cost), target))
         return Certificate(model.variables, rows, None, flat(make()))
 
     def months(self):
@@ -113,7 +116,8 @@ class Prices(unittest.TestCase):
                     chain(pricing, bound, target + 1, end())
 
     def test_closing(self):
-        """From poor prices, too, a tree after the persons' links shows the least cost; for more it comes upon a plan."""
+        """From poor prices, too, a tree after the persons' links shows the least cost; for more it comes upon a
+        plan."""
         for model, least in self.months():
             pricing = Pricing(model, end())
             bound = pricing.bound(np.zeros(len(pricing.shared), dtype=np.int64))

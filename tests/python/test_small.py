@@ -1,4 +1,5 @@
-"""Small matrices take a shorter way where NumPy is loaded: plans are compared with a slow search in fractions, and results with the longer way."""
+"""Small matrices take a shorter way where NumPy is loaded: plans are compared with a slow search in fractions, and
+results with the longer way."""
 import pickle
 import unittest
 from decimal import Decimal
@@ -18,9 +19,11 @@ except ImportError:
 
 
 def _tied(draw):
-    """Decimals that add up to the same sum while their doubles don't, and doubles that do while their decimals don't."""
+    """Decimals that add up to the same sum while their doubles don't, and doubles that do while their decimals
+    don't."""
     tenths = draw.randint(1, 9)
-    return draw.choice([tenths / 10, tenths * 0.1, 0.1 + 0.2, 0.3, 1 / 3, 2 / 3, 1 - 1 / 3, 0.1 + 0.2 + draw.randint(0, 2) * 2.0**-54])
+    return draw.choice([tenths / 10, tenths * 0.1, 0.1 + 0.2, 0.3, 1 / 3, 2 / 3, 1 - 1 / 3,
+                        0.1 + 0.2 + draw.randint(0, 2) * 2.0**-54])
 
 
 def _beside(draw):
@@ -31,7 +34,8 @@ def _beside(draw):
 
 def _short(draw):
     """Decimals of 12 to 14 digits."""
-    return float(f"{draw.randint(0, 9)}.{draw.randint(1, 999):03}{draw.choice(['', '000000001', '00000001', '0000000001'])}")
+    whole, part = draw.randint(0, 9), draw.randint(1, 999)
+    return float(f"{whole}.{part:03}{draw.choice(['', '000000001', '00000001', '0000000001'])}")
 
 
 OWN_KINDS = {"tied": _tied, "neighbours": _beside, "12 digits": _short}
@@ -63,7 +67,8 @@ class Small(unittest.TestCase):
                     result, exact = nushbaret.solve(form, maximize), exactly(costs, True)
                     wanted = best(exact, maximize, served)
                     paid = sum((exact[row][column] for row, column in zip(result.rows, result.columns)), Fraction(0))
-                    self.assertEqual((paid, Fraction(result.cost), len(set(map(int, result.columns)))), (wanted, wanted, served))
+                    self.assertEqual((paid, Fraction(result.cost), len(set(map(int, result.columns)))),
+                                     (wanted, wanted, served))
                     if turn % 20 == 0:
                         self.assertTrue(proves(exact, result, maximize))
                         self.assertTrue(result.verify())
@@ -89,13 +94,15 @@ class Small(unittest.TestCase):
         for turn in range(40):
             n_rows, maximize = draw.randint(8, 40), turn % 2 == 0
             n_columns = draw.choice([n_rows, n_rows, n_rows + 5, max(n_rows - 5, 1)])
-            costs = [[draw.choice([draw.random(), _tied(draw), _beside(draw)]) for _ in range(n_columns)] for _ in range(n_rows)]
+            costs = [[draw.choice([draw.random(), _tied(draw), _beside(draw)]) for _ in range(n_columns)]
+                     for _ in range(n_rows)]
             for form in costs, np.array(costs):
                 exact = exactly(costs, True)
                 self.assertEqual(Fraction(nushbaret.solve(form, maximize).cost), hungarian(exact, maximize))
                 exact = exactly(costs, False)
                 rows, columns = nushbaret.linear_sum_assignment(form, maximize)
-                self.assertEqual(sum(exact[row][column] for row, column in zip(rows, columns)), hungarian(exact, maximize))
+                self.assertEqual(sum(exact[row][column] for row, column in zip(rows, columns)),
+                                 hungarian(exact, maximize))
 
     def test_beside_the_longer_way(self):
         """The same sum in the same form, and lists and arrays of the same kind."""
@@ -115,18 +122,20 @@ class Small(unittest.TestCase):
                 for own in result, pickle.loads(pickle.dumps(result)):
                     self.assertEqual(self.form_of(own), self.form_of(longer))
                 if turn % 7 == 0 and form is costs:
-                    self.assertEqual((result.is_unique, result.unmatched_rows == longer.unmatched_rows), (longer.is_unique, True))
+                    self.assertEqual((result.is_unique, result.unmatched_rows == longer.unmatched_rows),
+                                     (longer.is_unique, True))
 
     def form_of(self, result):
-        kinds = [type(values) for values in (result.cost, result.rows, result.columns)] + [{type(column) for column in result.columns}]
+        kinds = [type(values) for values in (result.cost, result.rows,
+                                             result.columns)] + [{type(column) for column in result.columns}]
         return str(result.cost), kinds, len(result.rows), result.maximize
 
     def test_other_numbers_go_the_longer_way(self):
         """Floats of other sizes print as other decimals, and an int may be no double."""
         exact = 0.1234567890123456
-        for other, cost in ((np.float32(0.1), "0.1"), (np.float16(0.1), "0.1"), (np.float64(0.1), "0.1"), (Decimal("0.1"), "0.1"),
-                            (True, "1"), (2**53 + 1, "9007199254740993"), (np.int64(2**53 + 1), "9007199254740993"),
-                            (Fraction(1, 3), "1/3")):
+        for other, cost in ((np.float32(0.1), "0.1"), (np.float16(0.1), "0.1"), (np.float64(0.1), "0.1"),
+                            (Decimal("0.1"), "0.1"), (True, "1"), (2**53 + 1, "9007199254740993"),
+                            (np.int64(2**53 + 1), "9007199254740993"), (Fraction(1, 3), "1/3")):
             result = nushbaret.solve([[other, 1e17], [1e17, exact]])
             self.assertEqual(Fraction(result.cost), Fraction(cost) + Fraction(str(exact)))
         for wrong in float("nan"), float("-inf"), "1", 1j:
@@ -146,7 +155,8 @@ class Small(unittest.TestCase):
 
     def test_costs_changed_afterwards(self):
         """A result reads its caller's costs again, and says so where they are others."""
-        for form in [[0.1234567890123456, 2.5], [3.5, 1 / 3]], np.array([[0.1234567890123456, 2.5], [3.5, 1 / 3]]), [[1, 5], [7, 2]]:
+        for form in ([[0.1234567890123456, 2.5], [3.5, 1 / 3]], np.array([[0.1234567890123456, 2.5], [3.5, 1 / 3]]),
+                     [[1, 5], [7, 2]]):
             result = nushbaret.solve(form)
             before = result.cost
             self.assertTrue(result.verify())

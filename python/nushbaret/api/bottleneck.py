@@ -28,7 +28,8 @@ def bottleneck(costs: Any, maximize: bool = False, decimals: Optional[int] = Non
     Returns
     -------
     Result
-        Of the problem that forbids each worse pair. The library also proves that each plan has a pair as bad as its worst one.
+        Of the problem that forbids each worse pair. The library also proves that each plan has a pair as bad as its
+        worst one.
 
     Raises
     ------
@@ -76,7 +77,8 @@ def _best_within(pairs: Problem, served: int, source: Source) -> Result:
             lower, width = middle, 2 * width
     result = solve_served(_within(fewest, values[upper]), served, source._replace(worst=pairs.ratio(values[upper])))
     if result is None or lower >= 0 and solve_served(_within(pairs, values[lower]), served) is not None:
-        raise RuntimeError(f"{values[upper]} was found to be the worst cost that is needed, and the library says otherwise")
+        raise RuntimeError(f"{values[upper]} was found to be the worst cost that is needed, and the library says "
+                           "otherwise")
     return result
 
 
@@ -88,8 +90,8 @@ def _values(pairs: Problem) -> List[int]:
 
 
 def _unavoidable(pairs: Problem, served: int, best: int) -> int:
-    """A cost that some pair of each plan is at least as bad as: if all rows have a pair, the worst of the rows' best costs; the same of
-    columns."""
+    """A cost that some pair of each plan is at least as bad as: if all rows have a pair, the worst of the rows' best
+    costs; the same of columns."""
     worse = min if pairs.maximize else max
     for count, nodes in ((pairs.n_rows, pairs.persons), (pairs.n_columns, pairs.objects)):
         if count == served:
@@ -115,4 +117,5 @@ def _within(pairs: Problem, worst: int) -> Problem:
     """The problem without the pairs that are worse than a cost."""
     if pairs.numpy:
         return kept(pairs, pairs.costs >= worst if pairs.maximize else pairs.costs <= worst)
-    return kept(pairs, [place for place, cost in enumerate(pairs.costs) if (cost >= worst if pairs.maximize else cost <= worst)])
+    return kept(pairs, [place for place, cost in enumerate(pairs.costs)
+                        if (cost >= worst if pairs.maximize else cost <= worst)])

@@ -14,8 +14,8 @@ from .verdicts import Verdict, verdict_on
 
 
 class Comparison(NamedTuple):
-    """A plan made by hand compared with the best one: its cost, the best cost, by how much it is worse (0 or more), and the best one's
-    result.
+    """A plan made by hand compared with the best one: its cost, the best cost, by how much it is worse (0 or more), and
+    the best one's result.
 
     >>> import nushbaret
     >>> nushbaret.compare([[1, 2], [3, 5]], columns=[0, 1])[:3]
@@ -45,7 +45,8 @@ def _pairs_of(problem: Problem, columns: Any, rows: Any) -> List[Tuple[int, int]
         if not 0 <= row < problem.n_rows:
             raise ValueError(f"row {row} of the plan isn't from 0 to {problem.n_rows - 1}")
         if not 0 <= column < problem.n_columns:
-            raise ValueError(f"row {row} of the plan has column {column}, which isn't from 0 to {problem.n_columns - 1}")
+            raise ValueError(f"row {row} of the plan has column {column}, which isn't from 0 to "
+                             f"{problem.n_columns - 1}")
         if row in seen:
             raise ValueError(f"row {problem.row_name(row)} stands twice in the plan")
         seen.add(row)
@@ -68,10 +69,12 @@ def check(costs: Any, columns: Any, prices: Any, rows: Any = None, maximize: boo
     costs : matrix
         As in `solve`.
     columns : list of int, or dict
-        The column of each row, from 0; None for a row that stays out. With a DataFrame labels will do too, except whole numbers.
+        The column of each row, from 0; None for a row that stays out. With a DataFrame labels will do too, except whole
+        numbers.
     prices : list of numbers, dict or Series
-        One for each column, or by its name, in the unit of the costs, as `Result.prices`. A price is added to its column's costs, and
-        subtracted under maximize. So a solver's column duals are prices with reversed signs, and under maximize as they are.
+        One for each column, or by its name, in the unit of the costs, as `Result.prices`. A price is added to its
+        column's costs, and subtracted under maximize. So a solver's column duals are prices with reversed signs, and
+        under maximize as they are.
     rows : list of int, optional
         The row of each of `columns`, if they aren't 0, 1, 2 ...
     maximize, decimals, missing
@@ -80,19 +83,20 @@ def check(costs: Any, columns: Any, prices: Any, rows: Any = None, maximize: boo
     Returns
     -------
     Verdict
-        True as a condition exactly if the plan has as many pairs as can be made, and the prices prove that no plan of as many is
-        better. A plan may be best though these prices don't prove it: see `compare`.
+        True as a condition exactly if the plan has as many pairs as can be made, and the prices prove that no plan of
+        as many is better. A plan may be best though these prices don't prove it: see `compare`.
 
     Raises
     ------
     ValueError, TypeError
-        As in `solve`, or if a number of the plan is none of the problem's, a row is in it twice, or there aren't as many
-        prices as columns.
+        As in `solve`, or if a number of the plan is none of the problem's, a row is in it twice, or there aren't as
+        many prices as columns.
 
     Notes
     -----
-    Within its range the proved library checks, at prices that are whole in the unit of the costs: others are rounded so that what they
-    prove they still prove. Beyond it Python compares exactly: the plan is proved if what all rows pay above their best adds up to less than the unit of the costs.
+    Within its range the proved library checks, at prices that are whole in the unit of the costs: others are rounded so
+    that what they prove they still prove. Beyond it Python compares exactly: the plan is proved if what all rows pay
+    above their best adds up to less than the unit of the costs.
 
     >>> import nushbaret
     >>> nushbaret.check([[1, 2], [3, 5]], columns=[1, 0], prices=[1, 0])
@@ -100,7 +104,8 @@ def check(costs: Any, columns: Any, prices: Any, rows: Any = None, maximize: boo
     """
     problem = sources.problem_of(sources.lasting(costs), None, None, None, exact.manner(maximize, decimals, missing))
     pairs = _pairs_of(problem, columns, rows)
-    return verdict_on(problem, [row for row, _ in pairs], [column for _, column in pairs], exact_prices(problem, prices))
+    return verdict_on(problem, [row for row, _ in pairs], [column for _, column in pairs],
+                      exact_prices(problem, prices))
 
 
 def compare(costs: Any, columns: Any, rows: Any = None, maximize: bool = False,

@@ -20,7 +20,8 @@ ONE_AT_MOST = Bounds(0, 1)
 
 
 class CountsInfeasible(Infeasible):
-    """No plan meets all least counts, and each of `shortages` proves it. No two of them share rows and columns that they need.
+    """No plan meets all least counts, and each of `shortages` proves it. No two of them share rows and columns that
+    they need.
 
     Attributes
     ----------
@@ -36,7 +37,8 @@ class CountsInfeasible(Infeasible):
     """
 
     def __init__(self, shortages: List[Shortage], labels: Labels = None):
-        super().__init__([(sorted({*short.rows, *(row for row, _ in short.once)}), short.columns) for short in shortages], labels)
+        super().__init__([(sorted({*short.rows, *(row for row, _ in short.once)}), short.columns)
+                          for short in shortages], labels)
         self.shortages = shortages
         more = f" (the first of {len(shortages)} groups)" if len(shortages) > 1 else ""
         self.args = (f"counts can't be met: {_why(shortages[0], labels)}{more}",)
@@ -49,7 +51,8 @@ def _why(short: Shortage, labels: Labels) -> str:
     """A shortage in words."""
     rows = numbered("row", short.rows, labels and labels[0])
     columns = numbered("column", short.columns, labels and labels[1])
-    need, word, others, by = (columns, "row", short.rows, rows) if short.of_columns else (rows, "column", short.columns, columns)
+    need, word, others, by = (columns, "row", short.rows, rows) if short.of_columns else (rows, "column", short.columns,
+                                                                                          columns)
     parts = [f"{short.had - len(short.once)} by the most of {by}"] if others else []
     if short.once:
         parts.append(f"{len(short.once)} where a pair or a group counts once")
@@ -67,7 +70,8 @@ def shortages_of(counted: Counted, lacks: List[Lack]) -> List[Shortage]:
     found = []
     for lack in lacks:
         own = set(lack.columns)
-        once = [(row, [column for column in members[row, group] if not lack.of_columns or column in own]) for row, group in lack.once]
+        once = [(row, [column for column in members[row, group] if not lack.of_columns or column in own])
+                for row, group in lack.once]
         found.append(Shortage(lack.of_columns, lack.rows, lack.columns, once, lack.wanted, lack.had))
     return found
 
@@ -75,8 +79,9 @@ def shortages_of(counted: Counted, lacks: List[Lack]) -> List[Shortage]:
 class CountsResult(Lasting):
     """A best plan by counts.
 
-    Row `rows[k]` has column `columns[k]`, each pair once; numbers are from 0, and rows rise, then columns. They are NumPy arrays if the
-    costs are one, and lists otherwise. A result can be pickled and copied, and its attributes can't be set.
+    Row `rows[k]` has column `columns[k]`, each pair once; numbers are from 0, and rows rise, then columns. They are
+    NumPy arrays if the costs are one, and lists otherwise. A result can be pickled and copied, and its attributes can't
+    be set.
 
     Attributes
     ----------
@@ -150,7 +155,8 @@ class CountsResult(Lasting):
 def _costs_of(counted: Counted, pairs: List[Pair]) -> List[int]:
     """The costs of some pairs."""
     wanted = set(pairs)
-    held = {(row, column): cost for row, column, cost in zip(counted.rows, counted.columns, counted.costs) if (row, column) in wanted}
+    held = {(row, column): cost for row, column, cost in zip(counted.rows, counted.columns, counted.costs)
+            if (row, column) in wanted}
     return [held[pair] for pair in pairs]
 
 
@@ -191,8 +197,8 @@ def bounds_of(counts: Any, kind: str, number: int, labels: Optional[List[Any]]) 
         raise TypeError(f"{what} is {counts!r}: a count is a whole number, or the least and the most")
     values = naming.listed(counts, what, kind, number, labels)
     if len(values) != number:
-        raise ValueError(f"{what} has {len(values)} counts, where {number} are needed (one for all is a number, or a tuple of least and "
-                         "most)")
+        raise ValueError(f"{what} has {len(values)} counts, where {number} are needed (one for all is a number, or a "
+                         "tuple of least and " "most)")
     return [_bound(value, f"{what}[{place}]") for place, value in enumerate(values)]
 
 
@@ -227,7 +233,8 @@ def _of_lists(values: List[Any], given: List[Optional[int]]) -> int:
             if not 0 <= column < len(given):
                 raise ValueError(f"column_groups[{group}] has column {column}: it must be from 0 to {len(given) - 1}")
             if given[column] is not None:
-                raise ValueError(f"column {column} is in column_groups[{given[column]}] and in column_groups[{group}]: groups share none")
+                raise ValueError(f"column {column} is in column_groups[{given[column]}] and in column_groups[{group}]: "
+                                 "groups share none")
             given[column] = group
     return len(values)
 
@@ -255,9 +262,9 @@ def _counted(problem: Problem, rows: List[Bounds], columns: List[Bounds], groups
     return Counted(rows, columns, *groups, of_rows, of_columns, costs)
 
 
-def assign_counts(costs: Any, row_counts: Any = None, column_counts: Any = None, column_groups: Any = None, maximize: bool = False,
-                  decimals: Optional[int] = None, partial: bool = False, missing: str = "refuse",
-                  timeout: Optional[float] = None) -> CountsResult:
+def assign_counts(costs: Any, row_counts: Any = None, column_counts: Any = None, column_groups: Any = None,
+                  maximize: bool = False, decimals: Optional[int] = None, partial: bool = False,
+                  missing: str = "refuse", timeout: Optional[float] = None) -> CountsResult:
     """A best plan in which each row takes from so many to so many columns, and each column rows.
 
     Each pair is made at most once, and of a group of columns a row takes at most one.
@@ -267,15 +274,17 @@ def assign_counts(costs: Any, row_counts: Any = None, column_counts: Any = None,
     costs : matrix
         As in `solve`.
     row_counts, column_counts : int, tuple, list, dict or Series, optional
-        How many columns a row takes, and how many rows a column: a number, exactly so many, or a tuple (least, most). One for all, or a
-        list with one for each, or a dict or a Series by the labels of a DataFrame, else by numbers. None is (0, 1); not both may be None.
+        How many columns a row takes, and how many rows a column: a number, exactly so many, or a tuple (least, most).
+        One for all, or a list with one for each, or a dict or a Series by the labels of a DataFrame, else by numbers.
+        None is (0, 1); not both may be None.
     column_groups : list, dict or Series, optional
-        Groups of columns, no two of which share any: a list of lists of column numbers, or a label for each column, None for no group.
+        Groups of columns, no two of which share any: a list of lists of column numbers, or a label for each column,
+        None for no group.
     maximize, decimals, missing, timeout
         As in `solve`.
     partial : bool, optional
-        If not all least counts can be met, misses them by as little as can be, summed over all rows and columns, and takes a plan of the
-        best sum among these, instead of raising. Greatest counts and groups are kept.
+        If not all least counts can be met, misses them by as little as can be, summed over all rows and columns, and
+        takes a plan of the best sum among these, instead of raising. Greatest counts and groups are kept.
 
     Returns
     -------
@@ -290,10 +299,11 @@ def assign_counts(costs: Any, row_counts: Any = None, column_counts: Any = None,
 
     Notes
     -----
-    Rows and columns become as many nodes as they count at most, and what counts once needs two more where a plan would break it; the
-    library takes 4194304 nodes of each side. Each plan and each shortage is then checked on rows that say
-    just the counts and groups: that no plan that meets them costs less, or that the names can't have more. Where all numbers are within
-    64 bits the library's proved check does this. That the rows say what was asked is tested, not proved.
+    Rows and columns become as many nodes as they count at most, and what counts once needs two more where a plan would
+    break it; the library takes 4194304 nodes of each side. Each plan and each shortage is then checked on rows that say
+    just the counts and groups: that no plan that meets them costs less, or that the names can't have more. Where all
+    numbers are within 64 bits the library's proved check does this. That the rows say what was asked is tested, not
+    proved.
 
     >>> import nushbaret
     >>> shifts = [[4, 1, 3, 2], [2, 3, 5, 1]]
@@ -304,7 +314,8 @@ def assign_counts(costs: Any, row_counts: Any = None, column_counts: Any = None,
         raise TypeError("row_counts and column_counts are both missing: give one, or call solve")
     problem = in_whole_numbers(problem_of(lasting(costs), None, None, None, manner(maximize, decimals, missing)))
     of_rows, of_columns = problem.labels or (None, None)
-    rows, columns = bounds_of(row_counts, "row", problem.n_rows, of_rows), bounds_of(column_counts, "column", problem.n_columns, of_columns)
+    rows, columns = bounds_of(row_counts, "row", problem.n_rows, of_rows), bounds_of(column_counts, "column",
+                                                                                     problem.n_columns, of_columns)
     counted = _counted(problem, rows, columns, groups_of(column_groups, problem.n_columns, of_columns))
     with library.limited(timeout):
         lacks, pairs, _ = planned(counted, partial)

@@ -15,9 +15,10 @@ def numbered(kind: str, numbers: Any, labels: Optional[List[Any]] = None) -> str
 
 
 class Shortage(NamedTuple):
-    """Least counts that can't be met. If `of_columns` is false, these rows must have `wanted` columns and can have no more than `had`: as
-    many as `columns` take at most, and for each of `once`, a row and some columns, one of these. If it is true, these columns must have
-    `wanted` rows and can have no more than `had`: as many as `rows` take at most, and for each of `once` one.
+    """Least counts that can't be met. If `of_columns` is false, these rows must have `wanted` columns and can have no
+    more than `had`: as many as `columns` take at most, and for each of `once`, a row and some columns, one of these. If
+    it is true, these columns must have `wanted` rows and can have no more than `had`: as many as `rows` take at most,
+    and for each of `once` one.
 
     >>> import nushbaret
     >>> try:
@@ -38,13 +39,14 @@ class Shortage(NamedTuple):
 class Infeasible(ValueError):
     """There is no assignment, and each group of rows and columns proves it.
 
-    If a group has more rows than columns, these rows may have no other columns. If it has more columns (in a problem of more rows
-    than columns, where each column needs a row), these columns may go to no other rows.
+    If a group has more rows than columns, these rows may have no other columns. If it has more columns (in a problem of
+    more rows than columns, where each column needs a row), these columns may go to no other rows.
 
     Attributes
     ----------
     groups : list of tuple
-        Rows and columns of each group that is short, in the order of their first rows (or columns). No two groups share any.
+        Rows and columns of each group that is short, in the order of their first rows (or columns). No two groups share
+        any.
     rows, columns : list of int, or NumPy arrays if the costs are one
         Those of the first group: numbers from 0, rising. The text names them by the labels of a DataFrame.
     shortages : list of Shortage

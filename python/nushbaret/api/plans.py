@@ -42,8 +42,8 @@ def k_best(costs: Any, k: int, maximize: bool = False, decimals: Optional[int] =
     Yields
     ------
     Plan
-        Of one cost, the plan comes first that has the lower column in the first row in which two differ. An unmatched row
-        counts as having a column after all others.
+        Of one cost, the plan comes first that has the lower column in the first row in which two differ. An unmatched
+        row counts as having a column after all others.
 
     Raises
     ------
@@ -52,10 +52,11 @@ def k_best(costs: Any, k: int, maximize: bool = False, decimals: Optional[int] =
 
     Notes
     -----
-    Murty (1968), each plan from the duals of the one before. Python finds the plans. Before it is yielded, each is checked as `check`
-    does, by the library where costs are in its range: it is a best one of its part, which has the plans that agree with an earlier plan
-    in the first rows and differ from it in the next. That the parts hold all plans and are taken in order is tested, not proved. Plans
-    differ in their rows or columns; equal rows make plans of one cost, and there may be very many.
+    Murty (1968), each plan from the duals of the one before. Python finds the plans. Before it is yielded, each is
+    checked as `check` does, by the library where costs are in its range: it is a best one of its part, which has the
+    plans that agree with an earlier plan in the first rows and differ from it in the next. That the parts hold all
+    plans and are taken in order is tested, not proved. Plans differ in their rows or columns; equal rows make plans of
+    one cost, and there may be very many.
 
     >>> import nushbaret
     >>> [(plan.columns, plan.cost) for plan in nushbaret.k_best([[4, 1], [2, 3]], 2)]

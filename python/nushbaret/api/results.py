@@ -16,7 +16,8 @@ from ..lap.solving import solved
 from .infeasible import infeasible
 from .verdicts import Verdict, verdict_on
 
-CHANGED = "the costs were changed after the call, and the plan and its duals are no longer best for them: solve them again"
+CHANGED = ("the costs were changed after the call, and the plan and its duals are no longer best for them: solve them "
+           "again")
 
 
 class Plan(NamedTuple):
@@ -51,9 +52,10 @@ class Lasting:
 class Result(Lasting):
     """A best assignment, with exact duals that prove it.
 
-    Row `rows[k]` has column `columns[k]`; numbers are from 0, and rows rise. They are NumPy arrays if the costs are one, and
-    lists otherwise. A result can be pickled and copied, and its attributes can't be set. It keeps no copy of the costs: where it needs
-    them again, it reads those of the call, and raises ValueError where they were changed so that the plan is no longer best.
+    Row `rows[k]` has column `columns[k]`; numbers are from 0, and rows rise. They are NumPy arrays if the costs are
+    one, and lists otherwise. A result can be pickled and copied, and its attributes can't be set. It keeps no copy of
+    the costs: where it needs them again, it reads those of the call, and raises ValueError where they were changed so
+    that the plan is no longer best.
 
     >>> import nushbaret
     >>> result = nushbaret.solve([[4, 1, 3], [2, 0, 5], [3, 2, 2]])
@@ -107,7 +109,8 @@ class Result(Lasting):
 
     @cached_property
     def cost(self) -> Number:
-        """The exact sum of the costs: an int, a Decimal where costs have decimal places, or a Fraction where one was given."""
+        """The exact sum of the costs: an int, a Decimal where costs have decimal places, or a Fraction where one was
+        given."""
         return self._sum_of(self._ratios)
 
     def _sum_of(self, ratios: Sequence[Ratio]) -> Number:
@@ -140,7 +143,8 @@ class Result(Lasting):
         if (problem.n_rows, problem.n_columns) != (self._shape.n_rows, self._shape.n_columns):
             raise ValueError(CHANGED)
         now = costs_of_pairs(problem, *self._pairs)
-        if None in now or [Fraction(*problem.ratio(cost)) for cost in now] != [Fraction(*ratio) for ratio in self._ratios]:
+        if None in now or [Fraction(*problem.ratio(cost)) for cost in now] != [Fraction(*ratio)
+                                                                               for ratio in self._ratios]:
             raise ValueError(CHANGED)
         return problem
 
@@ -175,11 +179,11 @@ class Result(Lasting):
     def row_duals(self) -> List[Number]:
         """The exact dual of each row.
 
-        A row's and a column's dual together are at most the cost of their pair, for each allowed pair, and equal it in the plan; all
-        together sum up to the cost. A column's dual is at most 0, and 0 where it is unmatched; if there are more rows than columns and
-        all columns are matched, this holds of rows instead. Under maximize these signs are reversed. In a partial plan that leaves out
-        rows and columns, unmatched rows have one dual, none is greater, and the sum over matched rows and columns is the cost. Other
-        duals may prove the same plan.
+        A row's and a column's dual together are at most the cost of their pair, for each allowed pair, and equal it in
+        the plan; all together sum up to the cost. A column's dual is at most 0, and 0 where it is unmatched; if there
+        are more rows than columns and all columns are matched, this holds of rows instead. Under maximize these signs
+        are reversed. In a partial plan that leaves out rows and columns, unmatched rows have one dual, none is greater,
+        and the sum over matched rows and columns is the cost. Other duals may prove the same plan.
         """
         return self._shown(-dual if self.maximize else dual for dual in self._whole_duals[0].rows)
 
@@ -190,8 +194,8 @@ class Result(Lasting):
 
     @cached_property
     def prices(self) -> List[Number]:
-        """One price for each column, exactly, in the unit of the costs; the least is 0. With them `check` proves the plan, and `start`
-        begins at them."""
+        """One price for each column, exactly, in the unit of the costs; the least is 0. With them `check` proves the
+        plan, and `start` begins at them."""
         return self._shown(proved.rents(self._whole_duals[0]))
 
     @property
@@ -205,7 +209,8 @@ class Result(Lasting):
         return [Fraction(rent, unit.denominator) for rent in proved.rents(duals)]
 
     def _checked(self) -> Problem:
-        """The problem of the call; ValueError unless the duals prove that the plan is best for its costs as they are now."""
+        """The problem of the call; ValueError unless the duals prove that the plan is best for its costs as they are
+        now."""
         problem = self._read_again()
         if not check_wholly(problem, self._pairs[0], self._pairs[1], self._exact_rents):
             raise ValueError(CHANGED)
@@ -213,8 +218,8 @@ class Result(Lasting):
 
     @cached_property
     def is_unique(self) -> bool:
-        """Whether no other plan of as many pairs is as good. The library finds, among the plans along pairs without reduced cost, one with
-        as few of this plan's pairs as possible; which pairs these are follows from the duals."""
+        """Whether no other plan of as many pairs is as good. The library finds, among the plans along pairs without
+        reduced cost, one with as few of this plan's pairs as possible; which pairs these are follows from the duals."""
         return not self._ranking().has_other()
 
     def _ranking(self) -> Ranking:
@@ -232,13 +237,14 @@ class Result(Lasting):
         return Plan(self._numbers(rows), self._numbers(columns), shown.shown(cost))
 
     def next_best(self) -> Optional[Plan]:
-        """The best plan except for this one, with as many pairs. If this is one of several best plans, it is another of these.
+        """The best plan except for this one, with as many pairs. If this is one of several best plans, it is another of
+        these.
 
         Returns
         -------
         Plan or None
-            None if there is no other plan. Of several, the one that comes first in the order of `k_best`, whose notes say how it is
-            checked.
+            None if there is no other plan. Of several, the one that comes first in the order of `k_best`, whose notes
+            say how it is checked.
 
         >>> import nushbaret
         >>> nushbaret.solve([[4, 1], [2, 3]]).next_best().cost
@@ -255,8 +261,8 @@ class Result(Lasting):
         Returns
         -------
         pandas.DataFrame
-            With columns row, column and cost: by labels if the costs were a DataFrame, else by numbers. Costs are whole numbers or
-            floats where these print as the exact costs, and Decimals or Fractions otherwise.
+            With columns row, column and cost: by labels if the costs were a DataFrame, else by numbers. Costs are whole
+            numbers or floats where these print as the exact costs, and Decimals or Fractions otherwise.
 
         >>> import nushbaret
         >>> nushbaret.solve([[4, 1], [2, 3]]).to_frame()  # doctest: +SKIP
@@ -277,7 +283,8 @@ class Result(Lasting):
         Parameters
         ----------
         costs : matrix or sparse matrix, optional
-            The problem, of as many rows and columns; if it isn't given, the one that was solved, with its costs as they are now.
+            The problem, of as many rows and columns; if it isn't given, the one that was solved, with its costs as they
+            are now.
         rows, columns : lists of int, optional
             If they are given, `costs` is a list too, and these are its pairs, as in `solve_sparse`.
         missing : {"refuse", "forbid"}, optional

@@ -26,8 +26,8 @@ class RosterPlan(NamedTuple):
     Attributes
     ----------
     proved : str
-        'best': no plan that keeps the rules is better. 'within': none is more than `better` better. 'impossible': no plan keeps them.
-        'undecided': nothing was proved in the time.
+        'best': no plan that keeps the rules is better. 'within': none is more than `better` better. 'impossible': no
+        plan keeps them. 'undecided': nothing was proved in the time.
     pairs : list of tuple, or None
         The persons and objects of the plan, person by person; None where there is no plan.
     cost : int, decimal.Decimal, fractions.Fraction or None
@@ -68,21 +68,25 @@ class RosterPlan(NamedTuple):
         write_certificate(path, self.certificate)
 
 
-def plan_roster(costs: Mapping[Named, Any], days: Mapping[str, Union[str, date]], rules: Iterable[Sequence[str]] = (), *,
-                kinds: Optional[Mapping[str, str]] = None, tasks: Optional[Mapping[str, Count]] = None,
+def plan_roster(costs: Mapping[Named, Any], days: Mapping[str, Union[str, date]], rules: Iterable[Sequence[str]] = (),
+                *, kinds: Optional[Mapping[str, str]] = None, tasks: Optional[Mapping[str, Count]] = None,
                 places: Optional[Mapping[str, Count]] = None, fixed: Iterable[Named] = (),
-                before: Iterable[Tuple[str, Union[str, date], str]] = (), rows: Iterable[Sequence[Any]] = (), maximize: bool = False,
-                seconds: float = 60) -> RosterPlan:
-    """Finds a plan of least cost that keeps rules, and proves how good it is. SciPy finds; the proof is checked in whole numbers.
+                before: Iterable[Tuple[str, Union[str, date], str]] = (), rows: Iterable[Sequence[Any]] = (),
+                maximize: bool = False, seconds: float = 60) -> RosterPlan:
+    """Finds a plan of least cost that keeps rules, and proves how good it is. SciPy finds; the proof is checked in
+    whole numbers.
 
     Parameters
     ----------
     costs : mapping of (str, str) to number
-        The allowed pairs of a person and an object, and what each costs, exactly: ints, floats as they print, Decimals or Fractions.
+        The allowed pairs of a person and an object, and what each costs, exactly: ints, floats as they print, Decimals
+        or Fractions.
     days : mapping of str to str or datetime.date
-        The day of each object, in order. Nobody takes two objects of one day. Where all are dates, weeks begin on Monday.
+        The day of each object, in order. Nobody takes two objects of one day. Where all are dates, weeks begin on
+        Monday.
     rules : iterable of sequences of str
-        Each a rule, its value and maybe names, as in a file of rules: ('rest', 'Late > Early'), ('Night per month', '4', 'Ada, Ben').
+        Each a rule, its value and maybe names, as in a file of rules: ('rest', 'Late > Early'), ('Night per month',
+        '4', 'Ada, Ben').
     kinds : mapping of str to str, optional
         The kind of each object. Without it, its name without that of its day.
     tasks : mapping of str to int or (int, int), optional
@@ -94,8 +98,8 @@ def plan_roster(costs: Mapping[Named, Any], days: Mapping[str, Union[str, date]]
     before : iterable of (str, str or datetime.date, str), optional
         What was worked on earlier days, in order: a person, the day and the kind.
     rows : iterable of (least, terms, most, text), optional
-        Rules of your own. `terms` maps pairs to whole numbers: the sum of those of the plan's pairs is from `least` to `most`, each an int
-        or None. `text` says the rule.
+        Rules of your own. `terms` maps pairs to whole numbers: the sum of those of the plan's pairs is from `least` to
+        `most`, each an int or None. `text` says the rule.
     maximize : bool, optional
         Whether the sum is to be the greatest.
     seconds : float, optional
@@ -131,19 +135,22 @@ def plan_roster(costs: Mapping[Named, Any], days: Mapping[str, Union[str, date]]
     earlier = [(person, str(day), kind) for person, day, kind in before]
     roster = _with_counts(roster, tasks or {}, places or {})
     groups = _groups(roster, earlier)
-    month = month_of(roster, groups, "days", Before("before", [(person, _earlier_name(day, kind), number)
-                                                               for number, (person, day, kind) in enumerate(earlier, 1)]))
+    month = month_of(roster, groups, "days", Before("before",
+                                                    [(person, _earlier_name(day, kind), number)
+                                                     for number, (person, day, kind) in enumerate(earlier, 1)]))
     lines = [_line(rule, number) for number, rule in enumerate(rules, 1)]
     ruled = rules_of("rules", lines, roster, month)
     wish = Request(_fixed(roster, fixed), maximize)
     own = [_own_row(roster, row) for row in rows]
     answer, proved = answer_by_rules(Task(roster, month._replace(holidays=ruled.holidays), ruled, wish, seconds, own))
-    pairs = None if answer.plan is None else [(roster.persons[pair.person], roster.objects[pair.object]) for pair in answer.plan.pairs]
+    pairs = None if answer.plan is None else [(roster.persons[pair.person], roster.objects[pair.object])
+                                              for pair in answer.plan.pairs]
     return _result(proved, pairs, None if answer.plan is None else unit.shown(answer.plan.cost),
                    None if proved.better is None else unit.shown(proved.better))
 
 
-def _result(proved: Proved, pairs: Optional[List[Named]], cost: Optional[Number], better: Optional[Number]) -> RosterPlan:
+def _result(proved: Proved, pairs: Optional[List[Named]], cost: Optional[Number],
+            better: Optional[Number]) -> RosterPlan:
     return RosterPlan(proved.kind, pairs, cost, better, list(map(sentence_of, proved.reasons)), proved.is_minimal,
                       [(even.sentence, even.least, even.most) for even in proved.even], proved.certificate)
 
@@ -165,7 +172,8 @@ def _numbers(names: Iterable[str]) -> Dict[str, int]:
     return {name: number for number, name in enumerate(dict.fromkeys(names))}
 
 
-def _roster(pairs: List[Named], costs: List[int], days: Mapping[str, Union[str, date]], kinds: Optional[Mapping[str, str]]) -> Roster:
+def _roster(pairs: List[Named], costs: List[int], days: Mapping[str, Union[str, date]],
+            kinds: Optional[Mapping[str, str]]) -> Roster:
     """A roster of pairs, whose groups are days."""
     persons, objects = _numbers(person for person, _ in pairs), _numbers([*days, *(object_ for _, object_ in pairs)])
     for name in kinds or {}:
@@ -175,16 +183,19 @@ def _roster(pairs: List[Named], costs: List[int], days: Mapping[str, Union[str, 
     groups = Groups("day", list(names), {objects[name]: names[str(day)] for name, day in days.items()}, {},
                     {objects[name]: kind for name, kind in (kinds or {}).items()}, kinds is not None)
     order = sorted(range(len(pairs)), key=lambda place: (persons[pairs[place][0]], objects[pairs[place][1]]))
-    return Roster(list(persons), list(objects), persons, objects, array("I", (persons[pairs[place][0]] for place in order)),
-                  array("I", (objects[pairs[place][1]] for place in order)), array("q", (costs[place] for place in order)), 0,
-                  ("person", "object", "cost"), ",", False, by_persons=True, groups=groups)
+    return Roster(list(persons), list(objects), persons, objects,
+                  array("I", (persons[pairs[place][0]] for place in order)),
+                  array("I", (objects[pairs[place][1]] for place in order)),
+                  array("q", (costs[place] for place in order)), 0, ("person", "object", "cost"), ",", False,
+                  by_persons=True, groups=groups)
 
 
 def _with_counts(roster: Roster, tasks: Mapping[str, Count], places: Mapping[str, Count]) -> Roster:
     of_persons = _bounds("tasks", roster.person_numbers, tasks, Bounds(0, len(roster.objects)))
     of_objects = _bounds("places", roster.object_numbers, places, Bounds(1, 1))
     least = tuple({number: bounds.least for number, bounds in own.items()} for own in (of_persons, of_objects))
-    return roster._replace(least=(least[0], least[1]), tasks={number: bounds.most for number, bounds in of_persons.items()},
+    return roster._replace(least=(least[0], least[1]),
+                           tasks={number: bounds.most for number, bounds in of_persons.items()},
                            places={number: bounds.most for number, bounds in of_objects.items()})
 
 
@@ -207,7 +218,8 @@ def _groups(roster: Roster, earlier: Sequence[Tuple[str, str, str]]) -> Groups:
     """The days, with earlier ones."""
     if roster.groups is None or not roster.groups.names:
         raise ValueError("no object has a day")
-    named = {(day, kind): Earlier(_earlier_name(day, kind), day, kind, None, number) for number, (_, day, kind) in enumerate(earlier, 1)}
+    named = {(day, kind): Earlier(_earlier_name(day, kind), day, kind, None, number)
+             for number, (_, day, kind) in enumerate(earlier, 1)}
     return roster.groups._replace(earlier=tuple(named.values()))
 
 
@@ -226,14 +238,16 @@ def _fixed(roster: Roster, fixed: Iterable[Named]) -> List[PlanLine]:
     costs = roster.costs_of({pair for pair, _ in places})
     for pair, _ in places:
         if pair not in costs:
-            raise ValueError(f"fixed: {roster.persons[pair[0]]!r}, {roster.objects[pair[1]]!r} has no cost, so it isn't allowed")
+            raise ValueError(f"fixed: {roster.persons[pair[0]]!r}, {roster.objects[pair[1]]!r} has no cost, so it "
+                             "isn't allowed")
     return [PlanLine(*pair, number, costs[pair]) for pair, number in places]
 
 
 def _pair(roster: Roster, pair: Named) -> Tuple[int, int]:
     person, object_ = pair
     if person not in roster.person_numbers or object_ not in roster.object_numbers:
-        raise ValueError(f"there is no person {person!r}" if person not in roster.person_numbers else f"there is no object {object_!r}")
+        raise ValueError(f"there is no person {person!r}" if person not in roster.person_numbers
+                         else f"there is no object {object_!r}")
     return roster.person_numbers[person], roster.object_numbers[object_]
 
 
@@ -245,4 +259,5 @@ def _own_row(roster: Roster, row: Sequence[Any]) -> OwnRow:
         raise ValueError(f"rows: {text!r}: whole numbers are needed")
     if least is not None and most is not None and least > most:
         raise ValueError(f"rows: {text!r}: at least {least} and at most {most}")
-    return OwnRow(least, [(_pair(roster, pair), factor) for pair, factor in dict(terms).items() if factor], most, str(text))
+    return OwnRow(least, [(_pair(roster, pair), factor) for pair, factor in dict(terms).items() if factor], most,
+                  str(text))

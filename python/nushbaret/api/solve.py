@@ -26,8 +26,8 @@ def _answer(problem: Problem, start: Start, partial: bool) -> proved.Assignment:
 
 
 def began_at(problem: Problem, start: Start) -> Began:
-    """Where a search begins, from a result or from prices of the caller's. None where those of a result need costs that were changed
-    since."""
+    """Where a search begins, from a result or from prices of the caller's. None where those of a result need costs that
+    were changed since."""
     if not isinstance(start, Result):
         if not hasattr(start, "__iter__"):
             raise TypeError(f"start is {start!r}: it must be a result, or a list of prices")
@@ -45,47 +45,53 @@ def solve_served(problem: Problem, served: int, source: Optional[Source] = None)
     return None if isinstance(answer, proved.HallSet) else Result(source or FixedProblem(problem), problem, answer)
 
 
-def solve_problem(problem: Problem, start: Start = None, partial: bool = False, source: Optional[Source] = None) -> Result:
+def solve_problem(problem: Problem, start: Start = None, partial: bool = False,
+                  source: Optional[Source] = None) -> Result:
     """The result of a problem; Infeasible where it has no plan and none is to be partial."""
     return Result(source or FixedProblem(problem), problem, _answer(problem, start, partial))
 
 
-def solve_source(source: Source, start: Start = None, partial: bool = False, timeout: Optional[float] = None, progress: Progress = None) -> Result:
+def solve_source(source: Source, start: Start = None, partial: bool = False, timeout: Optional[float] = None,
+                 progress: Progress = None) -> Result:
     """The result of what a call was given."""
     with library.limited(timeout, progress):
         return solve_problem(source.read(), start, partial, source)
 
 
 def solve(costs: Any, maximize: bool = False, decimals: Optional[int] = None, start: Start = None,
-          partial: bool = False, missing: str = "refuse", timeout: Optional[float] = None, progress: Progress = None) -> Result:
+          partial: bool = False, missing: str = "refuse", timeout: Optional[float] = None,
+          progress: Progress = None) -> Result:
     """A best assignment of the rows and columns of a matrix, with exact duals that prove it.
 
-    Each row gets a column, no column twice. With unequal numbers as many pairs as possible are made, and some rows or columns
-    stay out. The plan is best for the costs as given, whatever their size.
+    Each row gets a column, no column twice. With unequal numbers as many pairs as possible are made, and some rows or
+    columns stay out. The plan is best for the costs as given, whatever their size.
 
     Parameters
     ----------
     costs : matrix
-        A list of rows, a NumPy array, a DataFrame of pandas, a sparse matrix of SciPy's, or a buffer of two dimensions. Whole numbers,
-        floats, Decimals or Fractions; a float of any size is the decimal that it prints as. None or infinity (under maximize -infinity) forbids
-        a pair. At most 4194304 rows and columns.
+        A list of rows, a NumPy array, a DataFrame of pandas, a sparse matrix of SciPy's, or a buffer of two dimensions.
+        Whole numbers, floats, Decimals or Fractions; a float of any size is the decimal that it prints as. None or
+        infinity (under maximize -infinity) forbids a pair. At most 4194304 rows and columns.
     maximize : bool, optional
         Whether to find the greatest sum, not the least.
     decimals : int, optional
-        Rounds each cost to so many decimal places first, 0 to 1000, halves to even. If it isn't given, nothing is rounded.
+        Rounds each cost to so many decimal places first, 0 to 1000, halves to even. If it isn't given, nothing is
+        rounded.
     start : Result or list of numbers, optional
-        The result of a similar problem, or prices to start from: one for each column, in the unit of the costs, as those of `check`.
-        The cost is the same whatever they are.
+        The result of a similar problem, or prices to start from: one for each column, in the unit of the costs, as
+        those of `check`. The cost is the same whatever they are.
     partial : bool, optional
-        If not all can be paired, makes as many pairs as possible, at the best sum among these plans, instead of raising.
+        If not all can be paired, makes as many pairs as possible, at the best sum among these plans, instead of
+        raising.
     missing : {"refuse", "forbid"}, optional
         Whether NaN, and what the mask of an array covers, is refused, or forbids its pair.
     timeout : float, optional
-        After so many seconds TimeoutError is raised, in reading too. Nothing of the caller's is changed, and nothing goes on.
+        After so many seconds TimeoutError is raised, in reading too. Nothing of the caller's is changed, and nothing
+        goes on.
     progress : callable, optional
-        Is called as progress(served, all) after each piece of a search, some tenth of a second: so many of all rows have a column
-        then, or of columns a row where these are fewer. Where levels or dummies take several searches, each counts from 0. What it
-        raises ends the call.
+        Is called as progress(served, all) after each piece of a search, some tenth of a second: so many of all rows
+        have a column then, or of columns a row where these are fewer. Where levels or dummies take several searches,
+        each counts from 0. What it raises ends the call.
 
     Returns
     -------
@@ -110,7 +116,8 @@ def solve(costs: Any, maximize: bool = False, decimals: Optional[int] = None, st
 
     Notes
     -----
-    The time grows as the cube of the size at worst. The interpreter's lock is free while the library works, and Ctrl-C ends the call.
+    The time grows as the cube of the size at worst. The interpreter's lock is free while the library works, and Ctrl-C
+    ends the call.
 
     >>> import nushbaret
     >>> nushbaret.solve([[0.1 + 0.2, 2.5], [3, 1e15]]).cost
@@ -133,11 +140,12 @@ def solve_sparse(n_rows: Any, n_columns: Optional[int] = None, rows: Any = None,
     Parameters
     ----------
     n_rows, n_columns : int
-        How many rows and columns there are, 0 to 4194304 each. Or one sparse matrix of SciPy's instead of these and of the three
-        lists; its stored entries are the pairs, also those that are 0. Entries of one place add up, as in SciPy.
+        How many rows and columns there are, 0 to 4194304 each. Or one sparse matrix of SciPy's instead of these and of
+        the three lists; its stored entries are the pairs, also those that are 0. Entries of one place add up, as in
+        SciPy.
     rows, columns, costs : lists or NumPy arrays of one length
-        Row rows[k] may have column columns[k] at costs[k]; numbers from 0. A pair that is given several times counts once, at its
-        least cost, also under maximize. Costs are as those of `solve`.
+        Row rows[k] may have column columns[k] at costs[k]; numbers from 0. A pair that is given several times counts
+        once, at its least cost, also under maximize. Costs are as those of `solve`.
     maximize, decimals, start, partial, missing, timeout, progress
         As in `solve`.
 
@@ -163,7 +171,8 @@ def solve_sparse(n_rows: Any, n_columns: Optional[int] = None, rows: Any = None,
     elif any(value is None for value in lists):
         raise TypeError("n_rows, n_columns, rows, columns and costs are needed, or one sparse matrix")
     else:
-        source = Source(sources.listed(costs), sources.listed(rows), sources.listed(columns), (n_rows, n_columns), manner)
+        source = Source(sources.listed(costs), sources.listed(rows), sources.listed(columns), (n_rows, n_columns),
+                        manner)
     return solve_source(source, start, partial, timeout, progress)
 
 
@@ -179,7 +188,8 @@ def linear_sum_assignment(cost_matrix: Any, maximize: bool = ..., *, missing: st
 
 def linear_sum_assignment(cost_matrix: Any, maximize: bool = False, *, missing: str = "refuse",
                           timeout: Optional[float] = None, progress: Progress = None) -> Tuple[Any, Any]:
-    """The call of scipy.optimize, with its results and errors. The plan is best for exactly these costs; a float is its double.
+    """The call of scipy.optimize, with its results and errors. The plan is best for exactly these costs; a float is its
+    double.
 
     Parameters
     ----------

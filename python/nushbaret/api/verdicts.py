@@ -14,7 +14,8 @@ class Verdict:
     proved : bool
         Whether the plan has as many pairs as can be made, and the prices prove that no plan of as many is better.
     why : str
-        What is wrong with the first row or column that speaks against it, by the labels of a DataFrame; empty if nothing is.
+        What is wrong with the first row or column that speaks against it, by the labels of a DataFrame; empty if
+        nothing is.
     row, column : int or None
         Which row and column these are, from 0, if any.
 

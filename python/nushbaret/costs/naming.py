@@ -22,9 +22,11 @@ def _is_of_pandas(value: Any, kind: str) -> bool:
 
 
 def listed(values: Any, what: str, kind: str, number: int, labels: Optional[Sequence[Any]]) -> List[Any]:
-    """The caller's values in the order of rows or columns, as `kind` says, of which there are so many; `what` is the argument's name.
+    """The caller's values in the order of rows or columns, as `kind` says, of which there are so many; `what` is the
+    argument's name.
 
-    Those with names are looked up by the labels of a frame, or else by numbers, and each row or column must have one."""
+    Those with names are looked up by the labels of a frame, or else by numbers, and each row or column must have
+    one."""
     if is_named(values):
         return _by_names(values, what, kind, range(number) if labels is None else labels)
     if isinstance(values, Set):
@@ -38,7 +40,8 @@ def listed(values: Any, what: str, kind: str, number: int, labels: Optional[Sequ
 
 def _by_names(values: Any, what: str, kind: str, names: Sequence[Any]) -> List[Any]:
     held: Dict[Any, Any] = {}
-    for name, value in values.items() if isinstance(values, Mapping) else zip(values.index, printing.of_buffer(values.to_numpy())):
+    for name, value in values.items() if isinstance(values, Mapping) else zip(values.index,
+                                                                              printing.of_buffer(values.to_numpy())):
         if name in held:
             raise ValueError(f"{what} has {name!r} twice")
         held[name] = value

@@ -1,4 +1,5 @@
-"""Exact numbers: costs of any kind as ratios of whole numbers, the unit that some have in common, and how results show them."""
+"""Exact numbers: costs of any kind as ratios of whole numbers, the unit that some have in common, and how results show
+them."""
 import decimal
 import math
 from fractions import Fraction
@@ -13,8 +14,8 @@ _EXACT = decimal.Context(prec=decimal.MAX_PREC, Emax=decimal.MAX_EMAX, Emin=deci
 
 
 class Unit(NamedTuple):
-    """A part of 1: numbers are whole multiples of 1 / denominator. With `places` it is 10**-places, and what is shown is an int or a
-    Decimal; without, it is a Fraction."""
+    """A part of 1: numbers are whole multiples of 1 / denominator. With `places` it is 10**-places, and what is shown
+    is an int or a Decimal; without, it is a Fraction."""
 
     denominator: int
     places: Optional[int]
@@ -73,7 +74,8 @@ def _places_of(denominator: int) -> Optional[int]:
 
 
 def unit_of(ratios: Iterable[Ratio], as_fraction: bool = False) -> Unit:
-    """The greatest unit of which some numbers are multiples; a power of ten, unless a Fraction is wanted or one has no last decimal."""
+    """The greatest unit of which some numbers are multiples; a power of ten, unless a Fraction is wanted or one has no
+    last decimal."""
     denominator = 1
     for _, own in ratios:
         if denominator % own:
@@ -104,6 +106,7 @@ def exactly_less(first: Number, second: Number) -> Number:
     if isinstance(first, Fraction) or isinstance(second, Fraction):
         return Fraction(first) - Fraction(second)
     ratios = [first.as_integer_ratio(), second.as_integer_ratio()]
-    places = max(-int(value.as_tuple().exponent) if isinstance(value, decimal.Decimal) else 0 for value in (first, second))
+    places = max(-int(value.as_tuple().exponent) if isinstance(value, decimal.Decimal) else 0
+                 for value in (first, second))
     unit = of_places(max(places, 0))
     return unit.shown(in_unit(ratios[0], unit) - in_unit(ratios[1], unit))

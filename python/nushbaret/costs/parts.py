@@ -1,4 +1,5 @@
-"""Steps over long arrays of NumPy's, a part at a time: a part stays in the processor's cache, and Ctrl-C is heeded in between."""
+"""Steps over long arrays of NumPy's, a part at a time: a part stays in the processor's cache, and Ctrl-C is heeded in
+between."""
 from typing import Any, Callable, Iterator, List
 
 PART = 2**16

@@ -1,7 +1,7 @@
 """Floats of 16 and of 32 bits as the decimals that they print as.
 
-Each stands for the shortest decimal that is read as this float, the nearest one of several. Here it is the double nearest to that decimal,
-which prints as the same one."""
+Each stands for the shortest decimal that is read as this float, the nearest one of several. Here it is the double
+nearest to that decimal, which prints as the same one."""
 import math
 import struct
 import sys
@@ -17,17 +17,19 @@ from .limits import FEW
 # The letters in `struct` of floats of so many bytes.
 _LETTER = {2: "e", 4: "f"}
 _LETTERS = frozenset(_LETTER.values())
-# With so many places a float times the power of ten is exact as a double, and so is the test of what the quotient rounds to.
+# With so many places a float times the power of ten is exact as a double, and so is the test of what the quotient
+# rounds to.
 _MOST_PLACES = 12
 _POWERS = [float(10**places) for places in range(_MOST_PLACES + 1)]
 # Smaller floats of 32 bits may have more places.
 _LEAST = 1e-4
-# Where a float of 24 bits is so great once it is multiplied, the nearest whole number is nearer to it than to any other float.
+# Where a float of 24 bits is so great once it is multiplied, the nearest whole number is nearer to it than to any other
+# float.
 _ENOUGH = 2.0**25
 # The places of the middle one of so many are tried first.
 _SOME = 7
-# Of all floats of 16 bits only this one prints as a decimal that isn't the nearest of its digits: a power of two has a nearer neighbour
-# below. Floats of 32 bits have none from _LEAST on.
+# Of all floats of 16 bits only this one prints as a decimal that isn't the nearest of its digits: a power of two has a
+# nearer neighbour below. Floats of 32 bits have none from _LEAST on.
 _UNEVEN = 2.0**-6
 
 
@@ -61,8 +63,10 @@ def of_scalar(value: Any) -> Any:
 
 
 def of_buffer(values: Any) -> Any:
-    """What the small floats of an `array`, or of a view or an array of one dimension, print as; any other values as they are."""
-    letter = getattr(values, "typecode", None) or getattr(values, "format", None) or getattr(getattr(values, "dtype", None), "char", None)
+    """What the small floats of an `array`, or of a view or an array of one dimension, print as; any other values as
+    they are."""
+    letter = getattr(values, "typecode", None) or getattr(values, "format",
+                                                          None) or getattr(getattr(values, "dtype", None), "char", None)
     if letter not in _LETTERS or getattr(values, "ndim", 1) != 1:
         return values
     return [shortest(value, letter) for value in values.tolist()]
@@ -101,7 +105,8 @@ def _of_part(numpy: Any, floats: Any) -> Tuple[Any, int]:
     with numpy.errstate(all="ignore"):
         found, _ = find(numpy, floats, wide, _LEAST)
         odd = (sizes >= great) | (wide != wide)
-        _read(numpy, floats, found, odd | (sizes == _UNEVEN if floats.itemsize == 2 else (sizes < _LEAST) & (sizes > 0)))
+        _read(numpy, floats, found, odd | (sizes == _UNEVEN if floats.itemsize == 2
+                                           else (sizes < _LEAST) & (sizes > 0)))
         return found, 0
 
 
@@ -121,8 +126,8 @@ def _tried(numpy: Any, floats: Any, wide: Any, power: Any) -> Tuple[Any, Any]:
 
 
 def _of_few(numpy: Any, floats: Any, wide: Any, least: float) -> Tuple[Any, int]:
-    """Tries all numbers of places at once that sizes from `least` on may have, and says how many are needed. Smaller ones may need more.
-    Whole numbers are the same with one place."""
+    """Tries all numbers of places at once that sizes from `least` on may have, and says how many are needed. Smaller
+    ones may need more. Whole numbers are the same with one place."""
     most = bisect_left(_POWERS, _ENOUGH / least)
     decimals, fit = _tried(numpy, floats, wide, _powers_of(numpy)[1:most + 1])
     # A float that fits does so with more places too, and each one with the most.

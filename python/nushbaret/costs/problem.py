@@ -20,13 +20,14 @@ class TooLarge(ValueError):
 
 
 class Problem(NamedTuple):
-    """Costs in a unit. Dense: all costs in order, and `persons` is None. Sparse: row persons[k] - 1 and column objects[k] - 1 are a
-    pair at costs[k].
+    """Costs in a unit. Dense: all costs in order, and `persons` is None. Sparse: row persons[k] - 1 and column
+    objects[k] - 1 are a pair at costs[k].
 
-    Where `raw` is false, costs are whole numbers. Else they are an array of doubles or a list of exact numbers; floats are then what they
-    are if `doubles` is true, and the decimals that they print as if not. `numpy` is the module if the lists are its arrays, and `arrays`
-    if answers are to be. `fractions` says that a cost was given as a Fraction; `labels` are those of the rows and columns of a frame of
-    pandas, and `most` is the greatest size of doubles, where it is known."""
+    Where `raw` is false, costs are whole numbers. Else they are an array of doubles or a list of exact numbers; floats
+    are then what they are if `doubles` is true, and the decimals that they print as if not. `numpy` is the module if
+    the lists are its arrays, and `arrays` if answers are to be. `fractions` says that a cost was given as a Fraction;
+    `labels` are those of the rows and columns of a frame of pandas, and `most` is the greatest size of doubles, where
+    it is known."""
 
     n_rows: int
     n_columns: int
@@ -84,7 +85,8 @@ def _judge_size(n_rows: int, n_columns: int) -> None:
 
 
 def _rows_of_any(costs: Any, manner: exact.Manner) -> List[Any]:
-    if manner.doubles and (not hasattr(costs, "__len__") or isinstance(costs, (dict, set, frozenset)) or hasattr(costs, "tocsr")):
+    if manner.doubles and (not hasattr(costs, "__len__") or isinstance(costs, (dict, set, frozenset))
+                           or hasattr(costs, "tocsr")):
         # SciPy takes a sparse matrix with items for a list.
         if costs is not None and not (hasattr(costs, "tocsr") and hasattr(costs, "__getitem__")):
             float(costs)
@@ -97,7 +99,8 @@ def _rows_of_any(costs: Any, manner: exact.Manner) -> List[Any]:
         raise ValueError("expected a matrix (2-D array)") from None
     for place, row in enumerate(rows):
         if isinstance(row, (str, bytes)):
-            raise (ValueError if manner.doubles else TypeError)(f"Cannot cast array data: row {place} is the text {row!r}")
+            raise (ValueError if manner.doubles
+                   else TypeError)(f"Cannot cast array data: row {place} is the text {row!r}")
         if isinstance(row, (dict, set, frozenset)):
             raise TypeError(f"Cannot cast array data: row {place} is a {type(row).__name__}, which has no order")
     return rows if manner.doubles else list(map(printing.of_buffer, rows))
@@ -114,7 +117,8 @@ def _rows_of(costs: Any, manner: exact.Manner) -> Tuple[List[Any], int]:
     lengths = set(map(len, rows))
     if len(lengths) > 1:
         row = next(row for row, held in enumerate(rows) if len(held) != len(rows[0]))
-        raise ValueError(f"expected a matrix (2-D array): row {row} has {len(rows[row])} costs, row 0 has {len(rows[0])}")
+        raise ValueError(f"expected a matrix (2-D array): row {row} has {len(rows[row])} costs, row 0 has "
+                         f"{len(rows[0])}")
     if manner.doubles and any(isinstance(value, (list, tuple)) for row in rows for value in row[:1]):
         raise ValueError("expected a matrix (2-D array), got a 3 array")
     return rows, lengths.pop() if rows else 0
@@ -158,8 +162,8 @@ def _of_array(numpy: Any, costs: Any, manner: exact.Manner, labels: Labels) -> P
 
 def _dense(n_rows: int, n_columns: int, manner: exact.Manner, read: exact.ReadCosts) -> Problem:
     """The problem of all pairs but the forbidden ones."""
-    whole = Problem(n_rows, n_columns, manner.maximize, read.numbers, None, None, read.unit, read.raw, manner.doubles, read.numpy,
-                    None, read.fractions, None, read.most)
+    whole = Problem(n_rows, n_columns, manner.maximize, read.numbers, None, None, read.unit, read.raw, manner.doubles,
+                    read.numpy, None, read.fractions, None, read.most)
     if not len(read.forbidden):
         return whole
     numbers, persons, objects = _without_forbidden(n_rows, n_columns, read)
@@ -189,7 +193,8 @@ def of_matrix(costs: Any, manner: exact.Manner) -> Problem:
     if not naming.is_frame(costs):
         return _read_matrix(costs, manner)
     numpy = sys.modules["numpy"]
-    return _of_array(numpy, exact.array_of_frame(numpy, costs, manner), manner, (list(costs.index), list(costs.columns)))
+    return _of_array(numpy, exact.array_of_frame(numpy, costs, manner), manner,
+                     (list(costs.index), list(costs.columns)))
 
 
 def plain(values: Any) -> Any:
@@ -200,7 +205,8 @@ def plain(values: Any) -> Any:
 
 
 def costs_of_pairs(problem: Problem, rows: Any, columns: Any) -> List[Any]:
-    """The costs of some pairs, no two of one row; None where one is forbidden. Of a pair that is given several times the least."""
+    """The costs of some pairs, no two of one row; None where one is forbidden. Of a pair that is given several times
+    the least."""
     if problem.persons is None:
         costs = plain(problem.costs)
         if problem.numpy:
@@ -217,7 +223,8 @@ def _listed_of_pairs(problem: Problem, rows: Any, columns: Any) -> Iterable[Tupl
     """The persons and costs of listed pairs that are among some pairs, no two of one row."""
     if problem.numpy:
         own = problem.numpy.zeros(problem.n_rows + 1, problem.numpy.uint32)
-        own[problem.numpy.asarray(rows, problem.numpy.intp) + 1] = problem.numpy.asarray(columns, problem.numpy.intp) + 1
+        own[problem.numpy.asarray(rows, problem.numpy.intp) + 1] = problem.numpy.asarray(columns,
+                                                                                         problem.numpy.intp) + 1
         persons, objects = problem.persons, problem.objects
         places = parts.places_where(problem.numpy, len(persons), lambda part: own[persons[part]] == objects[part])
         return zip(persons[places].tolist(), plain(problem.costs)[places].tolist())
@@ -287,7 +294,8 @@ def listed(problem: Problem) -> Problem:
     n_rows, n_columns, numpy = problem.n_rows, problem.n_columns, problem.numpy
     if numpy:
         persons = numpy.repeat(numpy.arange(1, n_rows + 1, dtype=numpy.uint32), n_columns)
-        return problem._replace(persons=persons, objects=numpy.tile(numpy.arange(1, n_columns + 1, dtype=numpy.uint32), n_rows))
+        return problem._replace(persons=persons, objects=numpy.tile(numpy.arange(1, n_columns + 1, dtype=numpy.uint32),
+                                                                    n_rows))
     persons, objects = array("I"), array("I", range(1, n_columns + 1)) * n_rows
     for row in range(1, n_rows + 1):
         persons.extend(array("I", [row]) * n_columns)
@@ -315,15 +323,18 @@ def within(problem: Problem, worst: Ratio) -> Problem:
         problem = in_whole_numbers(problem)
     problem = listed(problem)
     # The nearest double is the one that prints as this decimal.
-    most: Any = float(bound) if problem.raw else (math.ceil if problem.maximize else math.floor)(bound * problem.unit.denominator)
+    most: Any = float(bound) if problem.raw else (math.ceil if problem.maximize
+                                                  else math.floor)(bound * problem.unit.denominator)
     if problem.numpy and not problem.raw:
         # Of 64 bits, since NumPy would compare others as doubles.
         least, greatest = -2**63, 2**63 - 1
         if not least <= most <= greatest:
-            return problem if (most < least) == problem.maximize else kept(problem, problem.numpy.arange(0, dtype=problem.numpy.intp))
+            return (problem if (most < least) == problem.maximize
+                    else kept(problem, problem.numpy.arange(0, dtype=problem.numpy.intp)))
     if problem.numpy:
         return kept(problem, problem.costs >= most if problem.maximize else problem.costs <= most)
-    return kept(problem, [place for place, cost in enumerate(problem.costs) if (cost >= most if problem.maximize else cost <= most)])
+    return kept(problem, [place for place, cost in enumerate(problem.costs)
+                          if (cost >= most if problem.maximize else cost <= most)])
 
 
 def without_pair(problem: Problem, row: int, column: int) -> Problem:
@@ -407,20 +418,24 @@ def of_pairs(n_rows: Any, n_columns: Any, rows: Any, columns: Any, costs: Any, m
     persons, objects = _numbered(rows, n_rows, "rows"), _numbered(columns, n_columns, "columns")
 
     def where(place: int) -> str:
-        pair = f" (row {persons[place] - 1}, column {objects[place] - 1})" if place < min(len(persons), len(objects)) else ""
+        pair = f" (row {persons[place] - 1}, column {objects[place] - 1})" if place < min(len(persons),
+                                                                                          len(objects)) else ""
         return f"costs[{place}]{pair}"
 
     read = _pair_costs(costs, manner, where)
     if not len(persons) == len(objects) == len(read.numbers):
-        raise ValueError(f"rows, columns and costs must be of one length: they have {len(persons)}, {len(objects)} and {len(read.numbers)}")
+        raise ValueError(f"rows, columns and costs must be of one length: they have {len(persons)}, {len(objects)} and "
+                         f"{len(read.numbers)}")
     numpy = read.numpy or (arrays if not read.raw else None)
     lists = [persons, objects, read.numbers]
     if numpy:
-        lists = [numpy.asarray(values, kind) for values, kind in zip(lists, ("uint32", "uint32", "float64" if read.raw else "int64"))]
+        lists = [numpy.asarray(values, kind) for values, kind in zip(lists,
+                                                                     ("uint32", "uint32",
+                                                                      "float64" if read.raw else "int64"))]
     elif exact.numpy_of(persons) or exact.numpy_of(objects):
         lists[:2] = array("I", map(int, persons)), array("I", map(int, objects))
-    problem = Problem(n_rows, n_columns, manner.maximize, lists[2], lists[0], lists[1], read.unit, read.raw, manner.doubles, numpy,
-                      arrays, read.fractions)
+    problem = Problem(n_rows, n_columns, manner.maximize, lists[2], lists[0], lists[1], read.unit, read.raw,
+                      manner.doubles, numpy, arrays, read.fractions)
     if len(read.forbidden):
         forbidden = set(map(int, read.forbidden))
         problem = kept(problem, [place for place in range(len(persons)) if place not in forbidden])
@@ -445,8 +460,8 @@ def once(problem: Problem) -> Problem:
 
 
 def _places_once(problem: Problem) -> Any:
-    """The places of the first of the least costs of each pair, rising; None where no pair is given twice. Doubles are in the order of the
-    decimals that they print as."""
+    """The places of the first of the least costs of each pair, rising; None where no pair is given twice. Doubles are
+    in the order of the decimals that they print as."""
     numpy = problem.numpy
     keys = (problem.persons.astype(numpy.int64) - 1) * problem.n_columns + problem.objects - 1
     if (keys[1:] > keys[:-1]).all() or _are_different(numpy, keys, problem.n_rows * problem.n_columns):
@@ -466,7 +481,8 @@ def _are_different(numpy: Any, keys: Any, most: int) -> bool:
 
 
 def _is_less(problem: Problem, place: int, other: int) -> bool:
-    (number, denominator), (others, other_denominator) = problem.ratio(plain(problem.costs)[place]), problem.ratio(plain(problem.costs)[other])
+    (number, denominator), (others, other_denominator) = (problem.ratio(plain(problem.costs)[place]),
+                                                          problem.ratio(plain(problem.costs)[other]))
     return number * other_denominator < others * denominator
 
 
@@ -480,7 +496,8 @@ def of_sparse_matrix(matrix: Any, manner: exact.Manner) -> Problem:
     return of_pairs(n_rows, n_columns, entries.row, entries.col, entries.data, manner)
 
 
-def of_whole_numbers(n_rows: int, n_columns: int, rows: Sequence[int], columns: Sequence[int], costs: Sequence[int]) -> Problem:
+def of_whole_numbers(n_rows: int, n_columns: int, rows: Sequence[int], columns: Sequence[int],
+                     costs: Sequence[int]) -> Problem:
     """The problem of listed pairs, none twice, numbered from 0, at whole costs of any size; the sum is to be least."""
     persons, objects = (array("I", [number + 1 for number in numbers]) for numbers in (rows, columns))
     try:

@@ -1,5 +1,5 @@
-"""How costs are read. Costs with few decimal places become whole numbers, all multiplied by one power of ten. Any others stay as they
-are: doubles of an array, or a list of exact numbers."""
+"""How costs are read. Costs with few decimal places become whole numbers, all multiplied by one power of ten. Any
+others stay as they are: doubles of an array, or a list of exact numbers."""
 import decimal
 import math
 import numbers
@@ -32,8 +32,9 @@ Where = Callable[[int], str]
 
 
 class Manner(NamedTuple):
-    """How costs are read: rounded to `decimals` places, or exactly where that is None. `forbid_nan` takes NaN as forbidden, and `doubles`
-    floats as what they are, not as the decimals that they print as, and texts as SciPy's call does."""
+    """How costs are read: rounded to `decimals` places, or exactly where that is None. `forbid_nan` takes NaN as
+    forbidden, and `doubles` floats as what they are, not as the decimals that they print as, and texts as SciPy's call
+    does."""
 
     maximize: bool
     decimals: Optional[int] = None
@@ -47,9 +48,10 @@ class Manner(NamedTuple):
 
 
 class ReadCosts(NamedTuple):
-    """Costs in their order, in a unit; `forbidden` has the places of those that forbid their pair, where a 0 stands. Where `raw` is false
-    they are whole numbers of 64 bits, else an array of doubles or a list of exact numbers. `numpy` is the module where they are an array
-    of it, `fractions` says that one was a Fraction, and `most` is the greatest size of doubles, where it is known."""
+    """Costs in their order, in a unit; `forbidden` has the places of those that forbid their pair, where a 0 stands.
+    Where `raw` is false they are whole numbers of 64 bits, else an array of doubles or a list of exact numbers. `numpy`
+    is the module where they are an array of it, `fractions` says that one was a Fraction, and `most` is the greatest
+    size of doubles, where it is known."""
 
     numbers: Any
     forbidden: Any = ()
@@ -71,7 +73,8 @@ def numpy_of(value: Any) -> Any:
     numpy = loaded_numpy()
     if numpy is None:
         return None
-    return numpy if isinstance(value, numpy.ndarray) or hasattr(value, "__array__") and not isinstance(value, type) else None
+    return numpy if isinstance(value, numpy.ndarray) or hasattr(value, "__array__") and not isinstance(value,
+                                                                                                       type) else None
 
 
 def manner(maximize: Any, decimals: Any = None, missing: Any = "refuse", doubles: bool = False) -> Manner:
@@ -80,7 +83,8 @@ def manner(maximize: Any, decimals: Any = None, missing: Any = "refuse", doubles
         raise ValueError(f"missing is {missing!r}: it must be 'refuse' or 'forbid'")
     if decimals is not None:
         if isinstance(decimals, str):
-            raise ValueError(f"decimals is {decimals!r}: it must be a whole number from 0, or None for the costs as they are")
+            raise ValueError(f"decimals is {decimals!r}: it must be a whole number from 0, or None for the costs as "
+                             "they are")
         decimals = whole_number(decimals, "decimals")
         if decimals < 0:
             raise ValueError(f"decimals is {decimals}: it must be 0 or more")
@@ -99,7 +103,8 @@ def whole_number(value: Any, name: str) -> int:
 
 def refuse_invalid(where: str, value: Any) -> NoReturn:
     shown = str(value).lower()
-    hint = ": None or an infinite cost forbids a pair, and missing=\"forbid\" takes nan so" if "nan" in shown or shown == "--" else ""
+    hint = (": None or an infinite cost forbids a pair, and missing=\"forbid\" takes nan so" if "nan" in shown
+            or shown == "--" else "")
     raise ValueError(f"matrix contains invalid numeric entries: {value} at {where}{hint}")
 
 
@@ -157,12 +162,14 @@ class _NumberReader:
         """What a call of SciPy's makes a double of; elsewhere only what stands for a whole number."""
         if not self.manner.doubles:
             if isinstance(value, (str, bytes, complex)) or not hasattr(value, "__index__"):
-                return refuse_invalid(self.where(place), "nan") if is_nan(value) else refuse_kind(self.where(place), value)
+                return refuse_invalid(self.where(place), "nan") if is_nan(value) else refuse_kind(self.where(place),
+                                                                                                  value)
             return operator.index(value)
         try:
             return self.number(place, float(value))
         except TypeError as fault:
-            raise TypeError(f"Cannot cast array data: {self.where(place)} is {value!r}, which is no number: {fault}") from None
+            raise TypeError(f"Cannot cast array data: {self.where(place)} is {value!r}, which is no number: "
+                            f"{fault}") from None
 
 
 def _simple(value: decimal.Decimal) -> Any:
@@ -200,8 +207,8 @@ def of_list(values: List[Any], manner: Manner, where: Where) -> ReadCosts:
 
 
 def _by_array(numpy: Any, rows: Any, length: int, manner: Manner, where: Where) -> Optional[ReadCosts]:
-    """The costs of many ints, floats and None, through an array; None where others are among them, or one is an int that is no double. An
-    array of each row is made in turn, so that Ctrl-C is heeded."""
+    """The costs of many ints, floats and None, through an array; None where others are among them, or one is an int
+    that is no double. An array of each row is made in turn, so that Ctrl-C is heeded."""
     doubles = numpy.empty((len(rows), length))
     for place, row in enumerate(rows):
         kinds = frozenset(map(type, row))
@@ -266,8 +273,8 @@ def _packed(rows: Any, length: int) -> Optional[Numbers]:
 
 
 def _pack(pack: Callable[..., None], numbers_: Numbers, place: int, row: Any) -> None:
-    """Writes a row of whole numbers, or one of floats that hold whole numbers. An `array` would take floats as well, and in Python 3.9
-    cut off what stands after the point."""
+    """Writes a row of whole numbers, or one of floats that hold whole numbers. An `array` would take floats as well,
+    and in Python 3.9 cut off what stands after the point."""
     try:
         pack(numbers_, place, *row)
     except struct.error:
@@ -277,7 +284,8 @@ def _pack(pack: Callable[..., None], numbers_: Numbers, place: int, row: Any) ->
 
 
 def _of_plain(values: List[Any], manner: Manner) -> Optional[ReadCosts]:
-    """The costs of a list of ints, floats and None; None where they have too many places, or one is out of range or NaN."""
+    """The costs of a list of ints, floats and None; None where they have too many places, or one is out of range or
+    NaN."""
     forbids = manner.forbids
     forbidden = [place for place, value in enumerate(values)
                  if value is None or value == forbids or manner.forbid_nan and value != value]
@@ -334,9 +342,11 @@ def of_array(numpy: Any, values: Any, manner: Manner, where: Where) -> ReadCosts
 
 
 def array_of_frame(numpy: Any, frame: Any, manner: Manner) -> Any:
-    """The costs of a frame of pandas. Columns of several kinds are read one by one: an array of one kind may not hold all of them."""
+    """The costs of a frame of pandas. Columns of several kinds are read one by one: an array of one kind may not hold
+    all of them."""
     costs = frame.to_numpy()
-    # Mostly one array holds all columns, and two calls show the same memory: that is faster to see than the kinds of columns.
+    # Mostly one array holds all columns, and two calls show the same memory: that is faster to see than the kinds of
+    # columns.
     if costs.dtype.kind != "O" and numpy.may_share_memory(costs, frame.to_numpy()):
         return costs
     kinds = set(frame.dtypes)
@@ -385,8 +395,10 @@ def _of_values(numpy: Any, flat: Any, manner: Manner, where: Where) -> ReadCosts
         return _of_float_array(numpy, flat, manner, where)
     if kind in "Of":
         read = of_list([*flat], manner, where)
-        return read if read.raw or read.numpy else read._replace(numbers=numpy.array(read.numbers, numpy.int64), numpy=numpy)
-    raise TypeError(f"Cannot cast array data from {flat.dtype!r} to dtype('float64') according to the rule 'safe': costs must be numbers")
+        return read if read.raw or read.numpy else read._replace(numbers=numpy.array(read.numbers, numpy.int64),
+                                                                 numpy=numpy)
+    raise TypeError(f"Cannot cast array data from {flat.dtype!r} to dtype('float64') according to the rule 'safe': "
+                    "costs must be numbers")
 
 
 def _of_whole_array(numpy: Any, flat: Any, manner: Manner, where: Where) -> ReadCosts:
@@ -410,7 +422,8 @@ def _of_float_array(numpy: Any, flat: Any, manner: Manner, where: Where) -> Read
     wide, forbidden, most = _finite(numpy, wide, manner, where)
     if manner.decimals is not None:
         return _rounded_array(numpy, wide, forbidden, manner)
-    places = None if manner.doubles and not len(forbidden) else _least_places(numpy, wide, 0 if manner.doubles else MOST_PLACES)
+    places = None if manner.doubles and not len(forbidden) else _least_places(numpy, wide,
+                                                                              0 if manner.doubles else MOST_PLACES)
     if places is not None and size_of(wide) * 10.0**places <= GREATEST_COST:
         return ReadCosts(_scaled_array(numpy, wide, places), forbidden, of_places(places), False, numpy)
     return ReadCosts(wide, forbidden, ONE, True, numpy, False, most)
@@ -455,7 +468,8 @@ def whole_numbers(numpy: Any, flat: Any) -> Any:
         return None
     if flat.size <= FEW:
         numbers_ = flat.astype(numpy.int64)
-        return numbers_ if numbers_.astype(numpy.float64).tobytes() == flat.tobytes() or (numbers_ == flat).all() else None
+        return numbers_ if numbers_.astype(numpy.float64).tobytes() == flat.tobytes() or (numbers_
+                                                                                          == flat).all() else None
     numbers_ = numpy.empty(flat.size, numpy.int64)
     for part in parts.parts(flat.size):
         numbers_[part] = flat[part]
@@ -470,8 +484,9 @@ def _scaled_array(numpy: Any, flat: Any, places: int) -> Any:
 
 
 def _least_places(numpy: Any, flat: Any, most: int) -> Optional[int]:
-    """The least power of ten that makes all whole; None where that is beyond 10**most, or some are too great. Two decimals of at most 15
-    digits are never one float, so that equality after the division shows the decimal that a float prints as."""
+    """The least power of ten that makes all whole; None where that is beyond 10**most, or some are too great. Two
+    decimals of at most 15 digits are never one float, so that equality after the division shows the decimal that a
+    float prints as."""
     if size_of(flat) > GREATEST_COST:
         return None
     # Mostly a few of them show that this is beyond it.

@@ -9,7 +9,8 @@ from .problem import Problem
 
 def lasting(costs: Any) -> Any:
     """Costs that can be read twice: what an iterator yields is kept."""
-    if type(costs) is list and {list}.issuperset(map(type, costs)) or isinstance(costs, (str, bytes, dict, set, frozenset)):
+    if type(costs) is list and {list}.issuperset(map(type, costs)) or isinstance(costs,
+                                                                                 (str, bytes, dict, set, frozenset)):
         return costs
     if isinstance(costs, (list, tuple)) or not hasattr(costs, "__len__") and hasattr(costs, "__next__"):
         return [list(row) if hasattr(row, "__next__") else row for row in costs]
@@ -22,8 +23,8 @@ def listed(values: Any) -> Any:
 
 
 class Source(NamedTuple):
-    """What a call was given: costs, for listed pairs also their rows, columns and the sizes, how they are read, the pairs that are left
-    out, and the worst cost that a pair may have."""
+    """What a call was given: costs, for listed pairs also their rows, columns and the sizes, how they are read, the
+    pairs that are left out, and the worst cost that a pair may have."""
 
     costs: Any
     rows: Any
@@ -73,5 +74,6 @@ def problem_of(costs: Any, rows: Any, columns: Any, sizes: Optional[Tuple[Any, A
         return reading.of_pairs(*sizes, rows, columns, costs, manner)
     found = reading.of_matrix(costs, manner)
     if sizes is not None and sizes != (found.n_rows, found.n_columns):
-        raise ValueError(f"the costs have {found.n_rows} rows and {found.n_columns} columns, the plan was made for {sizes[0]} and {sizes[1]}")
+        raise ValueError(f"the costs have {found.n_rows} rows and {found.n_columns} columns, the plan was made for "
+                         f"{sizes[0]} and {sizes[1]}")
     return found

@@ -1,8 +1,9 @@
 """How plans by counts differ: who could change places at no cost, and what the best other plan costs.
 
-Two plans differ by rounds of changes. In a graph of rows, row groups of groups and columns, an arrow leads from a row to a column that it could
-take, and back where it has it. One more vertex is where rows and columns that may take more, or less, begin and end; two others do the same
-for least counts that are missed, of which as many are met in each plan."""
+Two plans differ by rounds of changes. In a graph of rows, row groups of groups and columns, an arrow leads from a row
+to a column that it could take, and back where it has it. One more vertex is where rows and columns that may take more,
+or less, begin and end; two others do the same for least counts that are missed, of which as many are met in each
+plan."""
 from collections import Counter
 from heapq import heappop, heappush
 from typing import Collection, Dict, List, NamedTuple, Optional, Sequence, Set, Tuple
@@ -14,8 +15,8 @@ Arrows = List[Dict[int, int]]
 
 
 class Exchanges(NamedTuple):
-    """The graph of changes of a plan: what each arrow costs. Rows are the first vertices, and columns come after them; `row_groups`
-    has the vertices of row groups, and `ends` the two vertices of each pair."""
+    """The graph of changes of a plan: what each arrow costs. Rows are the first vertices, and columns come after them;
+    `row_groups` has the vertices of row groups, and `ends` the two vertices of each pair."""
 
     arrows: Arrows
     first_column: int
@@ -25,8 +26,10 @@ class Exchanges(NamedTuple):
     potentials: List[int]
 
 
-def exchanges_of(counted: Counted, chosen: Sequence[Pair], is_partial: bool, settled: Collection[Pair] = ()) -> Exchanges:
-    """The changes of a plan whose cost is the least of all those that agree with it in the settled pairs, which it may have or not."""
+def exchanges_of(counted: Counted, chosen: Sequence[Pair], is_partial: bool,
+                 settled: Collection[Pair] = ()) -> Exchanges:
+    """The changes of a plan whose cost is the least of all those that agree with it in the settled pairs, which it may
+    have or not."""
     n_rows, n_columns = len(counted.row_bounds), len(counted.column_bounds)
     row_groups = _row_groups(counted, n_rows + n_columns + 3)
     arrows: Arrows = [{} for _ in range(n_rows + n_columns + 3 + len(row_groups))]
@@ -92,7 +95,8 @@ def _ends(vertex: int, free: int, must: Optional[int], count: int, bounds: Bound
 
 
 def free_pairs(exchanges: Exchanges) -> List[List[Pair]]:
-    """The pairs that are in some best plan and not in all, in groups that depend on each other, by their first pairs."""
+    """The pairs that are in some best plan and not in all, in groups that depend on each other, by their first
+    pairs."""
     potentials = exchanges.potentials
     tight = [[end for end, cost in ends.items() if potentials[begin] + cost == potentials[end]]
              for begin, ends in enumerate(exchanges.arrows)]
@@ -113,7 +117,8 @@ class Other(NamedTuple):
 
 
 def next_plan(exchanges: Exchanges) -> Optional[Other]:
-    """The best other plan of those that agree in the settled pairs; None where there is none. Each changes some column's pairs."""
+    """The best other plan of those that agree in the settled pairs; None where there is none. Each changes some
+    column's pairs."""
     best = Round(float("inf"), [])
     tails: Dict[int, Set[int]] = {}
     for begin, end in exchanges.ends.values():
@@ -139,8 +144,8 @@ State = Tuple[int, bool]
 
 
 def _round(exchanges: Exchanges, column: int, tails: Set[int], best: Round) -> Round:
-    """The cheapest round through a column that changes one of its pairs, whose other ends are given; `best` where none costs less
-    (Dijkstra 1959). A state is a vertex, and whether the round began with a pair of the column."""
+    """The cheapest round through a column that changes one of its pairs, whose other ends are given; `best` where none
+    costs less (Dijkstra 1959). A state is a vertex, and whether the round began with a pair of the column."""
     arrows, potentials, most = exchanges.arrows, exchanges.potentials, best.length
     far: Dict[State, float] = {}
     back: Dict[State, Optional[State]] = {}

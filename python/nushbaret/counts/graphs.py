@@ -4,7 +4,8 @@ from typing import Any, Dict, List, Sequence, Tuple
 
 
 def strong_parts(leads: Sequence[Sequence[int]]) -> List[int]:
-    """A number for each vertex of a graph: the same for two exactly where arrows lead from each to the other (Sharir 1981)."""
+    """A number for each vertex of a graph: the same for two exactly where arrows lead from each to the other (Sharir
+    1981)."""
     back: List[List[int]] = [[] for _ in leads]
     for begin, ends in enumerate(leads):
         for end in ends:
@@ -39,9 +40,11 @@ def _finished(leads: Sequence[Sequence[int]]) -> List[int]:
 
 
 def potentials_of(arrows: List[Dict[int, int]]) -> List[int]:
-    """Numbers under which no arrow costs less than 0: Bellman (1958) and Ford. RuntimeError where a round of arrows costs less than 0."""
+    """Numbers under which no arrow costs less than 0: Bellman (1958) and Ford. RuntimeError where a round of arrows
+    costs less than 0."""
     potentials, waiting, waits = [0] * len(arrows), deque(range(len(arrows))), [True] * len(arrows)
-    # Of the way that a potential is the cost of: how many arrows. More than there are vertices go along a round below 0.
+    # Of the way that a potential is the cost of: how many arrows. More than there are vertices go along a round below
+    # 0.
     steps = [0] * len(arrows)
     while waiting:
         vertex = waiting.popleft()
@@ -51,7 +54,8 @@ def potentials_of(arrows: List[Dict[int, int]]) -> List[int]:
                 potentials[end] = potentials[vertex] + cost
                 steps[end] = steps[vertex] + 1
                 if steps[end] > len(arrows):
-                    raise RuntimeError("a plan was found to be the best, and a change of it costs less: please report this problem")
+                    raise RuntimeError("a plan was found to be the best, and a change of it costs less: please report "
+                                       "this problem")
                 if not waits[end]:
                     waiting.append(end)
                     waits[end] = True

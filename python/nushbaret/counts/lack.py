@@ -1,8 +1,9 @@
 """Why counts can't be met: who is short, and by how much.
 
-Each side is looked at alone: whether its least counts can be met within the greatest counts of the other side, where a row takes at most
-one column of a group. If each side's can alone, both can at once (Mendelsohn and Dulmage 1958). Pairs are added one by one along
-augmenting paths (Ford and Fulkerson 1956). What the searches that fail have reached is short, in connected parts."""
+Each side is looked at alone: whether its least counts can be met within the greatest counts of the other side, where a
+row takes at most one column of a group. If each side's can alone, both can at once (Mendelsohn and Dulmage 1958). Pairs
+are added one by one along augmenting paths (Ford and Fulkerson 1956). What the searches that fail have reached is
+short, in connected parts."""
 from array import array
 from bisect import bisect_left
 from collections import deque
@@ -12,9 +13,10 @@ from .nodes import Bounds, Counted, Pair, RowGroup, Served
 
 
 class Lack(NamedTuple):
-    """Least counts that can't be met. If `of_columns` is false, these rows must have `wanted` columns and can have no more than `had`: as
-    many as the columns take at most, and one for each row group in `once`. If it is true, these columns must have `wanted` rows and can have
-    no more than `had`: as many as the rows take at most, and one for each row group in `once`."""
+    """Least counts that can't be met. If `of_columns` is false, these rows must have `wanted` columns and can have no
+    more than `had`: as many as the columns take at most, and one for each row group in `once`. If it is true, these
+    columns must have `wanted` rows and can have no more than `had`: as many as the rows take at most, and one for each
+    row group in `once`."""
 
     of_columns: bool
     rows: List[int]
@@ -25,7 +27,8 @@ class Lack(NamedTuple):
 
 
 class _Step(NamedTuple):
-    """A step of a path to a row or a column (by its vertex) or to a row group, with the pair that it gives up and the one that it makes."""
+    """A step of a path to a row or a column (by its vertex) or to a row group, with the pair that it gives up and the
+    one that it makes."""
 
     end: Any
     leave: Optional[Pair]
@@ -33,8 +36,8 @@ class _Step(NamedTuple):
 
 
 class _Flow:
-    """Pairs that meet least counts of one side, as many as can be. A row is the vertex of its number, and the columns come after the
-    rows. A row group that has a column is a vertex too."""
+    """Pairs that meet least counts of one side, as many as can be. A row is the vertex of its number, and the columns
+    come after the rows. A row group that has a column is a vertex too."""
 
     def __init__(self, counted: Counted):
         self.counted, self.first_column = counted, len(counted.row_bounds)
@@ -108,11 +111,13 @@ class _Flow:
                 self.take(*step.take)
 
     def fill(self, begin: int, bounds: List[Bounds]) -> int:
-        """Serves each vertex from one on as often as its least count says, as far as that can be: how often, summed up."""
+        """Serves each vertex from one on as often as its least count says, as far as that can be: how often, summed
+        up."""
         self.begin()
         count = 0
         for start, bound in enumerate(bounds, begin):
-            served = len(self.of_rows[start] if start < self.first_column else self.of_columns[start - self.first_column])
+            served = len(self.of_rows[start] if start < self.first_column
+                         else self.of_columns[start - self.first_column])
             while served < bound.least and self.serve(start):
                 served += 1
             count += served
@@ -120,8 +125,8 @@ class _Flow:
 
 
 class _RowsFlow(_Flow):
-    """Rows need columns: a row takes one of a row group that has none. Where a column is full, a row group that has it takes another of its group, or
-    its row takes one of another group."""
+    """Rows need columns: a row takes one of a row group that has none. Where a column is full, a row group that has it
+    takes another of its group, or its row takes one of another group."""
 
     def __init__(self, counted: Counted):
         super().__init__(counted)
@@ -164,7 +169,8 @@ class _RowsFlow(_Flow):
         rows = sorted(vertex for vertex in self.closed if not isinstance(vertex, tuple) and vertex < self.first_column)
         once = {row: [row_group for row_group in (self.row_group(row, column) for column in sorted(self.of_rows[row]))
                       if self.first_column + self.taken[row_group] not in self.closed] for row in rows}
-        links = {row: [self.first_column + column for column in self.lists[row] if self.row_group(row, column) not in once[row]] for row in rows}
+        links = {row: [self.first_column + column for column in self.lists[row]
+                       if self.row_group(row, column) not in once[row]] for row in rows}
         return [self._lack(part, once) for part in _parts(rows, links)]
 
     def _lack(self, part: Set[Any], once: Dict[int, List[RowGroup]]) -> Lack:
@@ -177,8 +183,8 @@ class _RowsFlow(_Flow):
 
 
 class _ColumnsFlow(_Flow):
-    """Columns need rows: a column takes a row that has none of its group, or whose column of the group takes another row instead. Where a
-    row is full, any column that has it may take another."""
+    """Columns need rows: a column takes a row that has none of its group, or whose column of the group takes another
+    row instead. Where a row is full, any column that has it may take another."""
 
     def __init__(self, counted: Counted):
         super().__init__(counted)

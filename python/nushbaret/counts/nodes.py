@@ -1,10 +1,11 @@
 """Plans in which rows and columns count from so many to so many, by assignment.
 
-A row of at most k columns has k copies, and a column of at most k rows k places. The first ones, as many as the least count, must be
-matched; the others may stay out, and fillers are matched with those that do. A transshipment (Orden 1956) lets a row take at most one of a group of columns:
-two nodes that must be matched, one that each copy of the row lists, and one that lists the places of the group at their costs. Both
-list each other, for a row that takes none. A pair counts once by a transshipment for its column alone. Where a transshipment lists fewer pairs than
-the copies would, it is made at once; any other one when a plan without it breaks the rule."""
+A row of at most k columns has k copies, and a column of at most k rows k places. The first ones, as many as the least
+count, must be matched; the others may stay out, and fillers are matched with those that do. A transshipment (Orden
+1956) lets a row take at most one of a group of columns: two nodes that must be matched, one that each copy of the row
+lists, and one that lists the places of the group at their costs. Both list each other, for a row that takes none. A
+pair counts once by a transshipment for its column alone. Where a transshipment lists fewer pairs than the copies would,
+it is made at once; any other one when a plan without it breaks the rule."""
 from array import array
 from collections import Counter
 from typing import Any, Collection, Dict, Iterable, Iterator, List, NamedTuple, Optional, Sequence, Tuple
@@ -18,8 +19,8 @@ Pair = Tuple[int, int]
 # A row and a group of which it takes at most one column.
 RowGroup = Tuple[int, int]
 NO_PAIR = -1
-# All transshipments that spare pairs are made at once where the nodes are at most so many; else those that a plan is likely to need, up to
-# fewer nodes.
+# All transshipments that spare pairs are made at once where the nodes are at most so many; else those that a plan is
+# likely to need, up to fewer nodes.
 AT_ONCE = 8192
 LIKELY = 7168
 
@@ -32,9 +33,9 @@ class Bounds(NamedTuple):
 
 
 class Counted(NamedTuple):
-    """The pairs that may be made, none twice, and their costs; how many columns each row takes, and how many rows each column; and the
-    group of each column, of which a row takes at most one. Groups that were given have the numbers below `n_groups`; a column k in none
-    of them is alone in the group `n_groups` + k."""
+    """The pairs that may be made, none twice, and their costs; how many columns each row takes, and how many rows each
+    column; and the group of each column, of which a row takes at most one. Groups that were given have the numbers
+    below `n_groups`; a column k in none of them is alone in the group `n_groups` + k."""
 
     row_bounds: List[Bounds]
     column_bounds: List[Bounds]
@@ -50,15 +51,16 @@ class Counted(NamedTuple):
 
 
 class Served(NamedTuple):
-    """How much of the least counts can be met: of those of rows, and of those of columns. Both can be reached at once."""
+    """How much of the least counts can be met: of those of rows, and of those of columns. Both can be reached at
+    once."""
 
     of_rows: int
     of_columns: int
 
 
 class Trimmed(NamedTuple):
-    """The copies of each row and the places of each column, which are no more than pairs allow; and the places of each row group of a group
-    of several columns."""
+    """The copies of each row and the places of each column, which are no more than pairs allow; and the places of each
+    row group of a group of several columns."""
 
     rows: List[Bounds]
     columns: List[Bounds]
@@ -66,8 +68,8 @@ class Trimmed(NamedTuple):
 
 
 class TooManyNodes(TooLarge):
-    """Counts need more nodes than the library takes: how many columns rows may take, how many rows columns may take, how many rules of at
-    most one there are, and the nodes of all that."""
+    """Counts need more nodes than the library takes: how many columns rows may take, how many rows columns may take,
+    how many rules of at most one there are, and the nodes of all that."""
 
     def __init__(self, copies: int, places: int, rules: int, nodes: int):
         self.copies, self.places, self.rules, self.nodes = copies, places, rules, nodes
@@ -75,8 +77,9 @@ class TooManyNodes(TooLarge):
 
     def said(self, copies: str, places: str) -> str:
         """The fault and what helps, in the words of the caller."""
-        return (f"{self.copies} {copies}, {self.places} {places} and {self.rules} rules of at most one need {self.nodes} nodes, and "
-                f"{MOST_PERSONS} can be had: lower the greatest counts, forbid more pairs, or split the problem, as by weeks")
+        return (f"{self.copies} {copies}, {self.places} {places} and {self.rules} rules of at most one need "
+                f"{self.nodes} nodes, and {MOST_PERSONS} can be had: lower the greatest counts, forbid more pairs, or "
+                "split the problem, as by weeks")
 
     def __reduce__(self) -> Tuple[Any, ...]:
         return type(self), (self.copies, self.places, self.rules, self.nodes)
@@ -107,12 +110,13 @@ def _places_of_row_groups(counted: Counted, columns: List[Bounds]) -> Dict[RowGr
 
 
 def _cut(bounds: List[Bounds], most: Dict[int, int]) -> List[Bounds]:
-    return [Bounds(min(bound.least, most[number]), min(bound.most, most[number])) for number, bound in enumerate(bounds)]
+    return [Bounds(min(bound.least, most[number]), min(bound.most, most[number]))
+            for number, bound in enumerate(bounds)]
 
 
 class _NodeSide(NamedTuple):
-    """The nodes of one side: those of each row or column, and the owner of each; those that may stay out, and those that must be matched,
-    of which so many are and the rest is missed."""
+    """The nodes of one side: those of each row or column, and the owner of each; those that may stay out, and those
+    that must be matched, of which so many are and the rest is missed."""
 
     nodes: List[range]
     owners: List[int]
@@ -137,8 +141,8 @@ def _side(bounds: List[Bounds], served: Optional[int]) -> _NodeSide:
 
 
 class _Shape(NamedTuple):
-    """How many fillers each side has, and whether its first ones each stand for one node of the other side, so that only this lists it.
-    Otherwise all nodes that may stay out list all fillers."""
+    """How many fillers each side has, and whether its first ones each stand for one node of the other side, so that
+    only this lists it. Otherwise all nodes that may stay out list all fillers."""
 
     row_fillers: int
     column_fillers: int
@@ -153,8 +157,9 @@ class _Shape(NamedTuple):
 
 
 def _shapes(rows: _NodeSide, columns: _NodeSide, square: bool) -> Iterator[_Shape]:
-    """The ways to have fillers. What one side must match more than the other is made up for by fillers more, or by fewer of which none
-    stands for one node. Where nothing must be matched on one side, it needs none of the other's: the library leaves out what is over."""
+    """The ways to have fillers. What one side must match more than the other is made up for by fillers more, or by
+    fewer of which none stands for one node. Where nothing must be matched on one side, it needs none of the other's:
+    the library leaves out what is over."""
     of_rows, of_columns = len(columns.free) + columns.missed, len(rows.free) + rows.missed
     more = rows.served - columns.served
     yield _Shape(of_rows + max(0, -more), of_columns + max(0, more))
@@ -193,8 +198,8 @@ class _Lists:
 
 
 class NodeProblem(NamedTuple):
-    """A problem of nodes. `of_rows` has the rows of copies, and then of transshipments; `of_columns` the columns of places. What comes after
-    these are transshipments and fillers."""
+    """A problem of nodes. `of_rows` has the rows of copies, and then of transshipments; `of_columns` the columns of
+    places. What comes after these are transshipments and fillers."""
 
     of_rows: List[int]
     of_columns: List[int]
@@ -226,7 +231,8 @@ class _Builder:
 
     def sizes(self, shape: _Shape, transshipments: int) -> Tuple[int, int]:
         """How many nodes each side has with so many transshipments."""
-        return len(self.rows.owners) + transshipments + shape.row_fillers, len(self.columns.owners) + transshipments + shape.column_fillers
+        return (len(self.rows.owners) + transshipments + shape.row_fillers,
+                len(self.columns.owners) + transshipments + shape.column_fillers)
 
     def most(self, transshipments: int) -> int:
         """How many nodes the longer side has with so many transshipments."""
@@ -235,7 +241,8 @@ class _Builder:
     def places(self, row_group: RowGroup) -> int:
         """How many nodes a row could take of a group, if nothing kept it from that."""
         row, group = row_group
-        return self.cut.places[row_group] if group < self.counted.n_groups else self.cut.columns[group - self.counted.n_groups].most
+        return (self.cut.places[row_group] if group < self.counted.n_groups
+                else self.cut.columns[group - self.counted.n_groups].most)
 
     def spare(self) -> Iterator[RowGroup]:
         """The row groups whose transshipments list fewer pairs than copies and places do."""
@@ -267,15 +274,19 @@ class _Builder:
             entry = range(places + number, places + number + 1)
             lists.add(self.rows.nodes[row], entry)
             lists.add(range(copies + number, copies + number + 1), entry)
-        self._fill(lists, shape, range(copies + len(self.transshipments), n_rows), range(places + len(self.transshipments), n_columns))
-        return NodeProblem(self.rows.owners + [row for row, _ in self.transshipments], self.columns.owners, n_rows, n_columns, lists)
+        self._fill(lists, shape, range(copies + len(self.transshipments), n_rows),
+                   range(places + len(self.transshipments), n_columns))
+        return NodeProblem(self.rows.owners + [row for row, _ in self.transshipments], self.columns.owners, n_rows,
+                           n_columns, lists)
 
     def _list_pairs(self, lists: _Lists) -> None:
         """Lists the copies of each row, or its transshipment, with the places of columns."""
-        copies, rows, columns, transshipments = len(self.rows.owners), self.rows.nodes, self.columns.nodes, self.transshipments
+        copies, rows, columns, transshipments = (len(self.rows.owners), self.rows.nodes, self.columns.nodes,
+                                                 self.transshipments)
         for place, (row_group, column) in enumerate(zip(self.counted.row_groups(), self.counted.columns)):
             number = transshipments.get(row_group) if transshipments else None
-            own, ends = rows[row_group[0]] if number is None else range(copies + number, copies + number + 1), columns[column]
+            own, ends = rows[row_group[0]] if number is None else range(copies + number,
+                                                                        copies + number + 1), columns[column]
             if len(own) == len(ends) == 1:
                 lists.rows.append(own[0])
                 lists.columns.append(ends[0])
@@ -284,7 +295,8 @@ class _Builder:
                 lists.add(own, ends, place)
 
     def _fill(self, lists: _Lists, shape: _Shape, row_fillers: range, column_fillers: range) -> None:
-        """Lists what may stay out with fillers. The last ones of each side may be matched with nodes that must be, but are missed."""
+        """Lists what may stay out with fillers. The last ones of each side may be matched with nodes that must be, but
+        are missed."""
         lists.fill(row_fillers, self.columns.free, shape.own_rows)
         lists.fill(self.rows.free, column_fillers, shape.own_columns)
         lists.add(row_fillers, column_fillers)
@@ -293,8 +305,8 @@ class _Builder:
 
 
 def _at_once(builder: _Builder, counted: Counted) -> List[RowGroup]:
-    """The row groups whose transshipments are made before a plan shows that they are needed. Where there are too many, those come first that a plan
-    is likely to use: which cost less than their row and their column do on average."""
+    """The row groups whose transshipments are made before a plan shows that they are needed. Where there are too many,
+    those come first that a plan is likely to use: which cost less than their row and their column do on average."""
     row_groups = list(builder.spare())
     if builder.most(len(row_groups)) <= AT_ONCE:
         return row_groups
@@ -330,7 +342,8 @@ def _solved(nodes: NodeProblem, costs: List[int]) -> BestPlan:
     return found
 
 
-def best_pairs(counted: Counted, served: Optional[Served] = None, kept: Optional[Collection[Pair]] = None) -> List[Pair]:
+def best_pairs(counted: Counted, served: Optional[Served] = None,
+               kept: Optional[Collection[Pair]] = None) -> List[Pair]:
     """The pairs of a plan of the least sum, in order.
 
     Parameters
@@ -373,8 +386,8 @@ def sum_of(counted: Counted, pairs: Collection[Pair]) -> int:
 
 
 def _fewest_changes(counted: Counted, nodes: NodeProblem, best: BestPlan, kept: Collection[Pair]) -> List[Pair]:
-    """The pairs of a plan with the fewest changes among those as good as a best plan: these have all nodes matched along pairs whose reduced
-    cost is 0."""
+    """The pairs of a plan with the fewest changes among those as good as a best plan: these have all nodes matched
+    along pairs whose reduced cost is 0."""
     lists, duals = nodes.lists, duals_of_whole(best)
     costs = [*counted.costs, 0]
     changes = [*(-1 if pair in kept else 1 for pair in zip(counted.rows, counted.columns)), 0]

@@ -9,7 +9,8 @@ from .nodes import Bounds, Counted, Pair, best_pairs, trimmed
 
 
 class Planned(NamedTuple):
-    """What is short, and the pairs of a best plan with its changes: None where something is short and the plan may not be partial."""
+    """What is short, and the pairs of a best plan with its changes: None where something is short and the plan may not
+    be partial."""
 
     lacks: List[Lack]
     pairs: Optional[List[Pair]]
@@ -41,4 +42,5 @@ def _judge(counted: Counted, pairs: List[Pair]) -> None:
 
 def missing(bounds: List[Bounds], had: Dict[int, int]) -> Dict[int, int]:
     """By how many the least counts are missed."""
-    return {number: bound.least - had.get(number, 0) for number, bound in enumerate(bounds) if had.get(number, 0) < bound.least}
+    return {number: bound.least - had.get(number, 0) for number, bound in enumerate(bounds)
+            if had.get(number, 0) < bound.least}

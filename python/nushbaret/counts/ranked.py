@@ -1,7 +1,8 @@
 """The plans by counts in the order of their costs.
 
-Hamacher and Queyranne (1985): all plans are split into parts, each with its best plan and its second best one. The next plan is the best
-of the second ones. A pair that only one of its part's two plans has splits the part: those that have it, and those that haven't."""
+Hamacher and Queyranne (1985): all plans are split into parts, each with its best plan and its second best one. The next
+plan is the best of the second ones. A pair that only one of its part's two plans has splits the part: those that have
+it, and those that haven't."""
 import heapq
 from typing import FrozenSet, Iterator, List, Optional, Sequence, Set, Tuple
 

@@ -48,7 +48,8 @@ def is_extreme(problem: Problem) -> bool:
 def as_list(problem: Problem) -> Problem:
     """The problem with lists of Python's."""
     if problem.persons is not None:
-        problem = problem._replace(persons=array("I", problem.persons.tolist()), objects=array("I", problem.objects.tolist()))
+        problem = problem._replace(persons=array("I", problem.persons.tolist()),
+                                   objects=array("I", problem.objects.tolist()))
     return problem._replace(costs=problem.costs.tolist(), numpy=None, most=None)
 
 
@@ -73,7 +74,9 @@ def duals_of(asked: proved.Instance, answer: proved.Assignment, sign: int) -> Tu
     of_objects[1:] = -whole_prices(numpy, answer)
     of_persons = numpy.zeros(asked.n + 1, numpy.int64)
     if len(asked.persons):
-        places = parts.places_where(numpy, len(asked.persons), lambda part: objects[asked.persons[part].astype(numpy.intp) - 1] == asked.objects[part])
+        places = parts.places_where(numpy, len(asked.persons),
+                                    lambda part: objects[asked.persons[part].astype(numpy.intp) - 1]
+                                    == asked.objects[part])
         of_persons[asked.persons[places]] = sign * asked.costs[places]
     else:
         of_persons[1:] = sign * asked.costs[numpy.arange(0, asked.n * asked.m, asked.m) + objects - 1]
@@ -101,7 +104,8 @@ def kept(level: Level, most: int) -> Tuple[Any, Any, Any]:
             return sign * asked.costs[part] - duals <= most
         places = parts.places_where(numpy, len(asked.persons), are_near)
         return asked.persons[places], asked.objects[places], places
-    costs, bounds, duals = asked.costs.reshape(asked.n, asked.m), level.of_persons[1:, None] + most, level.of_objects[1:]
+    costs, bounds, duals = asked.costs.reshape(asked.n, asked.m), level.of_persons[1:,
+                                                                                   None] + most, level.of_objects[1:]
     height, found = max(1, BLOCK // asked.m), []
     if sign < 0:
         duals, bounds = -duals, -bounds

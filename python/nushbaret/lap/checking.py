@@ -1,4 +1,5 @@
-"""Plans with their prices, checked against a problem: by the library, and exactly where costs or prices are beyond its range."""
+"""Plans with their prices, checked against a problem: by the library, and exactly where costs or prices are beyond its
+range."""
 import math
 from array import array
 from fractions import Fraction
@@ -13,7 +14,8 @@ from .solving import prove_most
 
 
 class CheckOutcome(NamedTuple):
-    """What is wrong with the first row or column that speaks against a plan, and which these are; nothing where the prices prove it."""
+    """What is wrong with the first row or column that speaks against a plan, and which these are; nothing where the
+    prices prove it."""
 
     why: str = ""
     row: Optional[int] = None
@@ -36,7 +38,8 @@ def check_wholly(problem: Problem, rows: Sequence[int], columns: Sequence[int], 
     return found
 
 
-def check_problem(problem: Problem, rows: Sequence[int], columns: Sequence[int], prices: List[Fraction]) -> CheckOutcome:
+def check_problem(problem: Problem, rows: Sequence[int], columns: Sequence[int],
+                  prices: List[Fraction]) -> CheckOutcome:
     """As `check_wholly`, among plans of as many pairs."""
     pairs = list(zip(rows, columns))
     if not pairs:
@@ -45,13 +48,15 @@ def check_problem(problem: Problem, rows: Sequence[int], columns: Sequence[int],
     given_columns = set()
     for (row, column), cost in zip(pairs, costs):
         if cost is None:
-            return CheckOutcome(f"row {problem.row_name(row)} may not have column {problem.column_name(column)}", row, column)
+            return CheckOutcome(f"row {problem.row_name(row)} may not have column {problem.column_name(column)}", row,
+                                column)
         if column in given_columns:
             return CheckOutcome(f"column {problem.column_name(column)} is given twice", row, column)
         given_columns.add(column)
     most = min(problem.n_rows, problem.n_columns)
     if problem.persons is None and len(pairs) < most:
-        return CheckOutcome(f"{counted(len(pairs), 'row')} of {problem.n_rows} {_has(len(pairs))} a column, and {most} can")
+        return CheckOutcome(f"{counted(len(pairs), 'row')} of {problem.n_rows} {_has(len(pairs))} a column, and {most} "
+                            "can")
     found = None
     if not problem.raw and not isinstance(problem.costs, list):
         found = _judged(problem, pairs, costs, prices)
@@ -72,11 +77,12 @@ def _of_none(problem: Problem) -> CheckOutcome:
     return CheckOutcome("no row has a column")
 
 
-def _judged(problem: Problem, pairs: List[Tuple[int, int]], costs: List[int], given: List[Fraction]) -> Optional[CheckOutcome]:
+def _judged(problem: Problem, pairs: List[Tuple[int, int]], costs: List[int],
+            given: List[Fraction]) -> Optional[CheckOutcome]:
     """The library's verdict, in the caller's numbers; None where costs or prices are beyond its range.
 
-    A dummy's price is what the dearest pair pays, so nobody who is matched gains by staying out. If that is below 0, the cost of
-    staying out is lowered instead, so that no price is below 0."""
+    A dummy's price is what the dearest pair pays, so nobody who is matched gains by staying out. If that is below 0,
+    the cost of staying out is lowered instead, so that no price is below 0."""
     n, m, dummies = proved.sizes_of(problem, len(pairs))
     sign = -1 if problem.maximize else 1
     prices = proved.whole_of(problem, given, m + 1)
@@ -94,7 +100,8 @@ def _judged(problem: Problem, pairs: List[Tuple[int, int]], costs: List[int], gi
     if max(of_objects + of_dummies) > GREATEST_PRICE or less > GREATEST_COST:
         return None
     asked = proved.given(problem, len(pairs), -sign * less)
-    code, info = library.call("check", problem.maximize, *asked, _objects(problem, pairs, n, m - dummies), array("q", of_objects + of_dummies))
+    code, info = library.call("check", problem.maximize, *asked, _objects(problem, pairs, n, m - dummies),
+                              array("q", of_objects + of_dummies))
     return _in_words(problem, pairs, prices, code, info)
 
 
@@ -113,7 +120,8 @@ def _objects(problem: Problem, pairs: List[Tuple[int, int]], n: int, most: int) 
     return objects
 
 
-def _in_words(problem: Problem, pairs: List[Tuple[int, int]], prices: List[int], code: str, info: library.Info) -> Optional[CheckOutcome]:
+def _in_words(problem: Problem, pairs: List[Tuple[int, int]], prices: List[int], code: str,
+              info: library.Info) -> Optional[CheckOutcome]:
     if code == "SLACK":
         row, column = info.person - 1, info.object - 1
         if proved.is_turned(problem):
@@ -132,12 +140,14 @@ def _in_words(problem: Problem, pairs: List[Tuple[int, int]], prices: List[int],
 
 
 def _better_off(problem: Problem, row: int, column: int) -> CheckOutcome:
-    return CheckOutcome(f"row {problem.row_name(row)} would be better off with column {problem.column_name(column)}, at these prices", row, column)
+    return CheckOutcome(f"row {problem.row_name(row)} would be better off with column {problem.column_name(column)}, "
+                        "at these prices", row, column)
 
 
 def _overpriced(problem: Problem, prices: List[int], unused: int) -> CheckOutcome:
     cheaper = next(column for column, price in enumerate(prices) if price < prices[unused])
-    return CheckOutcome(f"column {problem.column_name(unused)} stays unused, and column {problem.column_name(cheaper)} is cheaper", None, cheaper)
+    return CheckOutcome(f"column {problem.column_name(unused)} stays unused, and column {problem.column_name(cheaper)} "
+                        "is cheaper", None, cheaper)
 
 
 # Exactly, for costs and prices of any size.
@@ -150,10 +160,11 @@ class _Best(NamedTuple):
     column: int
 
 
-def _judged_exactly(problem: Problem, pairs: List[Tuple[int, int]], costs: List[Any], given: List[Fraction]) -> CheckOutcome:
-    """The verdict by exact numbers. No plan of as many pairs is better by more than all slack together: what each matched row pays above
-    its best, and each unmatched one below the dearest, and what unused columns cost above the cheapest. Differences of plans are
-    multiples of the unit of all costs, so less slack than that is none."""
+def _judged_exactly(problem: Problem, pairs: List[Tuple[int, int]], costs: List[Any],
+                    given: List[Fraction]) -> CheckOutcome:
+    """The verdict by exact numbers. No plan of as many pairs is better by more than all slack together: what each
+    matched row pays above its best, and each unmatched one below the dearest, and what unused columns cost above the
+    cheapest. Differences of plans are multiples of the unit of all costs, so less slack than that is none."""
     seen = problem
     ratios = [problem.ratio(cost) for cost in costs]
     if not (problem.raw and problem.numpy and problem.persons is None):
@@ -202,14 +213,16 @@ def _bests(problem: Problem, pairs: List[Tuple[int, int]], ratios: List[Any], pr
 def _bests_of_doubles(problem: Problem, ratios: List[Any], prices: List[Fraction], of_prices: Any) -> Bests:
     """As `_bests`, for a whole matrix of doubles: only those near the least are looked at exactly."""
     numpy, sign = problem.numpy, -1 if problem.maximize else 1
-    near = arrays.near_least(numpy, problem.costs.reshape(problem.n_rows, problem.n_columns), sign, list(map(_as_float, prices)))
+    near = arrays.near_least(numpy, problem.costs.reshape(problem.n_rows, problem.n_columns), sign,
+                             list(map(_as_float, prices)))
     costs = {place: problem.ratio(problem.costs[place].item()) for places in near for place in places}
     unit = unit_of(of_prices | set((1, denominator) for _, denominator in [*ratios, *costs.values()]), True)
     scaled = [int(price * unit.denominator) for price in prices]
     bests: List[Optional[_Best]] = []
     for places in near:
         columns = [place % problem.n_columns for place in places]
-        bests.append(_Best(*min((sign * in_unit(costs[place], unit) + scaled[column], column) for place, column in zip(places, columns))))
+        bests.append(_Best(*min((sign * in_unit(costs[place], unit) + scaled[column], column)
+                                for place, column in zip(places, columns))))
     return unit, bests
 
 

@@ -1,8 +1,9 @@
 """Exact duals of a best plan that levels found.
 
-The duals of the first level are off by less than a unit for each pair. From there Bellman (1958) and Ford find exact ones: each pair
-bounds how much the price of its row's own column may be above that of its column. The plan, rounding and the unit of the costs together
-take less than 5 n units along any path, so pairs whose reduced cost is above 6 n + 16 units need no look."""
+The duals of the first level are off by less than a unit for each pair. From there Bellman (1958) and Ford find exact
+ones: each pair bounds how much the price of its row's own column may be above that of its column. The plan, rounding
+and the unit of the costs together take less than 5 n units along any path, so pairs whose reduced cost is above 6 n +
+16 units need no look."""
 from collections import deque
 from typing import Dict, List, NamedTuple, Optional, Sequence
 
@@ -20,7 +21,8 @@ class ExactPrices(NamedTuple):
 
 
 def exact_prices(problem: Problem, served: Optional[int], objects: Sequence[int]) -> Optional[ExactPrices]:
-    """The exact prices of the objects in a best plan, which gives each person one of `objects`, from 1 on; None if there is no plan."""
+    """The exact prices of the objects in a best plan, which gives each person one of `objects`, from 1 on; None if
+    there is no plan."""
     problem = levels.prepared(problem)
     with levels.quiet(problem):
         level = levels.first_level(problem, served)
@@ -64,7 +66,8 @@ def _of_costs(unit: Unit, problem: Problem) -> Unit:
     return of_places(unit.places + problem.unit.places)
 
 
-def _bounds(persons: Sequence[int], objects: Sequence[int], costs: Sequence[int], own: Sequence[int], m: int) -> List[Dict[int, int]]:
+def _bounds(persons: Sequence[int], objects: Sequence[int], costs: Sequence[int], own: Sequence[int],
+            m: int) -> List[Dict[int, int]]:
     """For each object, by how much others' prices may be above its own."""
     held: Dict[int, int] = {}
     for person, item, cost in zip(persons, objects, costs):
@@ -107,7 +110,8 @@ def duals_of_whole(best: BestPlan) -> proved.Duals:
     problem, answer, rows, columns, _ = best
     prices: List[int] = []
     if rows and answer.prices is None:
-        found = exact_prices(problem, None if len(rows) == min(problem.n_rows, problem.n_columns) else len(rows), answer.objects)
+        found = exact_prices(problem, None if len(rows) == min(problem.n_rows, problem.n_columns) else len(rows),
+                             answer.objects)
         prices = found.prices if found else prices
     elif rows:
         prices = proved.whole_prices(answer)

@@ -8,8 +8,8 @@ BITS = 39
 
 
 class Level(NamedTuple):
-    """A level that was solved: what was passed to the library, its answer, and the duals of persons and objects, in its unit, which is
-    2**-shift. Before the first dual stands a 0."""
+    """A level that was solved: what was passed to the library, its answer, and the duals of persons and objects, in its
+    unit, which is 2**-shift. Before the first dual stands a 0."""
 
     asked: Instance
     objects: Any
@@ -28,6 +28,6 @@ class Pairs(NamedTuple):
 
 
 def more(pairs: int) -> int:
-    """How many units the costs of so many pairs may be off together, where floats are taken for the decimals that they print as: each is
-    less than 2**-13 of a unit off, in two plans."""
+    """How many units the costs of so many pairs may be off together, where floats are taken for the decimals that they
+    print as: each is less than 2**-13 of a unit off, in two plans."""
     return 2 + pairs // 4096

@@ -1,15 +1,16 @@
 """The best plan for any numbers, by levels.
 
-The library takes whole costs up to 10**12. So a level rounds costs to whole multiples of a unit, and lets the library solve them. Its
-duals leave each pair a reduced cost, which is whole and at least 0, and 0 in the plan. Rounding changed each cost by at most half a
-unit, so any plan with a pair whose reduced cost is above n units costs more than this plan: the pair goes out. The next level takes
-the others at their exact reduced costs, which are at most some n units, and has a smaller unit. It ends where nothing was rounded, or
-where only the pairs of one plan are left.
+The library takes whole costs up to 10**12. So a level rounds costs to whole multiples of a unit, and lets the library
+solve them. Its duals leave each pair a reduced cost, which is whole and at least 0, and 0 in the plan. Rounding changed
+each cost by at most half a unit, so any plan with a pair whose reduced cost is above n units costs more than this plan:
+the pair goes out. The next level takes the others at their exact reduced costs, which are at most some n units, and has
+a smaller unit. It ends where nothing was rounded, or where only the pairs of one plan are left.
 
-Where columns may stay unused, what a plan pays for its columns' duals v isn't the same for all plans. A best plan uses each column
-whose dual is below -n units. So the next level's costs keep max(v, -(2 n + 2)) of it.
+Where columns may stay unused, what a plan pays for its columns' duals v isn't the same for all plans. A best plan uses
+each column whose dual is below -n units. So the next level's costs keep max(v, -(2 n + 2)) of it.
 
-The lists here are as the library takes them: persons and objects from 1 on, dummies among them. Costs count in their own unit."""
+The lists here are as the library takes them: persons and objects from 1 on, dummies among them. Costs count in their
+own unit."""
 import contextlib
 import math
 from array import array
@@ -24,7 +25,8 @@ from .level import BITS, Level, Pairs, more
 from .reduced import is_only_plan, kept, level_of
 
 
-def solved_by_levels(problem: Problem, served: Optional[int], start: Optional[proved.WarmStart]) -> Union[proved.Assignment, proved.HallSet]:
+def solved_by_levels(problem: Problem, served: Optional[int],
+                     start: Optional[proved.WarmStart]) -> Union[proved.Assignment, proved.HallSet]:
     """The best plan of so many pairs, for costs of any size; its answer has no prices."""
     with quiet(problem):
         return _solved(prepared(problem), served, start)
@@ -35,13 +37,15 @@ def quiet(problem: Problem) -> Any:
     return problem.numpy.errstate(all="ignore") if problem.numpy else contextlib.nullcontext()
 
 
-def _solved(problem: Problem, served: Optional[int], start: Optional[proved.WarmStart]) -> Union[proved.Assignment, proved.HallSet]:
+def _solved(problem: Problem, served: Optional[int], start: Optional[proved.WarmStart]) -> Union[proved.Assignment,
+                                                                                                 proved.HallSet]:
     tied = ties.of_problem(problem) if served is None else None
     objects = None if tied is None else ties.best(tied)
     if objects is not None:
         n, m = sorted((problem.n_rows, problem.n_columns))
         return proved.Assignment(n, m, None, objects, None)
-    priced = None if served is not None or tied or start is not None else pricing.first_level(problem, BITS, _most_left(problem))
+    priced = None if served is not None or tied or start is not None else pricing.first_level(problem, BITS,
+                                                                                              _most_left(problem))
     found = priced.level if priced else first_level(problem, served, start)
     if isinstance(found, proved.HallSet):
         return found
@@ -72,13 +76,15 @@ def _most_left(problem: Problem) -> int:
 
 
 def prepared(problem: Problem) -> Problem:
-    """The problem in which no pair is given twice, as a list where its doubles are too small or too great for sums of them."""
+    """The problem in which no pair is given twice, as a list where its doubles are too small or too great for sums of
+    them."""
     if not problem.raw:
         return problem if problem.persons is None else reading.once(problem)
     return arrays.as_list(problem) if problem.numpy and len(problem.costs) and arrays.is_extreme(problem) else problem
 
 
-def first_level(problem: Problem, served: Optional[int], start: Optional[proved.WarmStart] = None) -> Union[Level, proved.HallSet]:
+def first_level(problem: Problem, served: Optional[int],
+                start: Optional[proved.WarmStart] = None) -> Union[Level, proved.HallSet]:
     """The level of the first unit."""
     coarse, shift = _rounded(problem)
     asked = proved.given(coarse, served)
@@ -114,7 +120,8 @@ def _rounded_list(problem: Problem) -> Tuple[Any, int]:
         return array("q", [(value + half) >> -shift for value in values]), shift
     if set(map(type, values)) == {float}:
         shift = BITS - math.frexp(max(max(values), -min(values)))[1]
-        # A greater shift would be needed for the smallest doubles alone, which print as decimals that are further from them.
+        # A greater shift would be needed for the smallest doubles alone, which print as decimals that are further from
+        # them.
         if shift <= 1000:
             return array("q", [round(math.ldexp(value, shift)) for value in values]), shift
     ratios = [problem.ratio(value) for value in values]

@@ -23,7 +23,8 @@ CODES = (
 )
 
 # What the library is called, where a checkout has it, and what makes it there.
-NAME, _FOLDER, _MADE_BY = ("nushbaret.dll", "windows", "c/build_windows.sh") if sys.platform == "win32" else ("libnushbaret.so", "", "c/build.sh")
+NAME, _FOLDER, _MADE_BY = ("nushbaret.dll", "windows",
+                           "c/build_windows.sh") if sys.platform == "win32" else ("libnushbaret.so", "", "c/build.sh")
 _PACKAGE = pathlib.Path(__file__).resolve().parent.parent
 PLACES = (_PACKAGE / NAME, _PACKAGE.parent.parent / "c" / "out" / _FOLDER / NAME)
 
@@ -48,14 +49,16 @@ class Unfound(RuntimeError):
     """The library's search found no best plan, and no proof that there is none. Nobody has seen it."""
 
     def __init__(self) -> None:
-        super().__init__("the library found no plan that its checker accepts, and no proof that there is none: please report this problem")
+        super().__init__("the library found no plan that its checker accepts, and no proof that there is none: please "
+                         "report this problem")
 
 
 class Record(ctypes.Structure):
     """Where a search stands that is done in pieces; all 0: it begins."""
 
-    _fields_ = [("stage", ctypes.c_uint32), ("shift", ctypes.c_uint32), ("slackness", ctypes.c_int64), ("bids", ctypes.c_uint64),
-                ("passes", ctypes.c_uint64), ("dummy_bids", ctypes.c_uint32), ("flags", ctypes.c_uint32), ("looks", ctypes.c_uint64)]
+    _fields_ = [("stage", ctypes.c_uint32), ("shift", ctypes.c_uint32), ("slackness", ctypes.c_int64),
+                ("bids", ctypes.c_uint64), ("passes", ctypes.c_uint64), ("dummy_bids", ctypes.c_uint32),
+                ("flags", ctypes.c_uint32), ("looks", ctypes.c_uint64)]
 
 
 _INFO = ctypes.sizeof(Info)
@@ -88,7 +91,8 @@ def _load() -> None:
         call = getattr(library, f"nushbaret_{name}")
         sense = [] if name == "check_hall" else [ctypes.c_uint32]
         piece = [ctypes.c_uint64, ctypes.c_void_p] if name.endswith("_from") else []
-        call.argtypes = sense + [ctypes.c_size_t] * 2 + [ctypes.c_void_p, ctypes.c_size_t] * lists + piece + [ctypes.c_void_p]
+        call.argtypes = sense + [ctypes.c_size_t] * 2 + [ctypes.c_void_p,
+                                                         ctypes.c_size_t] * lists + piece + [ctypes.c_void_p]
         call.restype = ctypes.c_int32
         _calls[name] = call
     with contextlib.suppress(MemoryError):
@@ -98,8 +102,9 @@ def _load() -> None:
 
 
 _SPARE = array("Q", [0])
-# A block of this size, which nobody writes to, makes the C library of GNU keep up to twice as much for later calls once it is freed.
-# Otherwise each call on a large problem takes all its pages from the system again, which takes about as long as to solve it.
+# A block of this size, which nobody writes to, makes the C library of GNU keep up to twice as much for later calls once
+# it is freed. Otherwise each call on a large problem takes all its pages from the system again, which takes about as
+# long as to solve it.
 _KEPT = 2**25 - 2**16
 _FEW_BYTES = 8 * FEW
 
@@ -127,8 +132,9 @@ def _loaded() -> Dict[str, Any]:
 
 
 def call(name: str, sense: Optional[bool], n: int, m: int, *lists: Any, piece: Sequence[int] = ()) -> Tuple[str, Info]:
-    """The name of the code, and its record. `sense` is None for `check_hall`; `piece` is a budget, and the address of the record that says
-    where a search stands. MemoryError where memory is refused, and `Unfound` where a search finds nothing."""
+    """The name of the code, and its record. `sense` is None for `check_hall`; `piece` is a budget, and the address of
+    the record that says where a search stands. MemoryError where memory is refused, and `Unfound` where a search finds
+    nothing."""
     info = Info()
     words: List[Any] = [n, m] if sense is None else [1 if sense else 0, n, m]
     for values in lists:
@@ -141,12 +147,14 @@ def call(name: str, sense: Optional[bool], n: int, m: int, *lists: Any, piece: S
     return code, info
 
 
-def searched(sense: bool, n: int, m: int, lists: Sequence[Any], first: Optional[Numbers], written: Sequence[Numbers]) -> Tuple[str, Info]:
-    """What a solving call says to `lists`: the costs of a dense problem, or the persons, objects and costs of listed pairs. It begins at the
-    `first` prices, if there are any, and at what objects `written` holds, which are objects, persons and prices.
+def searched(sense: bool, n: int, m: int, lists: Sequence[Any], first: Optional[Numbers],
+             written: Sequence[Numbers]) -> Tuple[str, Info]:
+    """What a solving call says to `lists`: the costs of a dense problem, or the persons, objects and costs of listed
+    pairs. It begins at the `first` prices, if there are any, and at what objects `written` holds, which are objects,
+    persons and prices.
 
-    A search that may take long is done in pieces, so that Ctrl-C ends it, and TimeoutError is raised where the time of `limited` is over.
-    After each piece its `progress` is called with how many persons are served."""
+    A search that may take long is done in pieces, so that Ctrl-C ends it, and TimeoutError is raised where the time of
+    `limited` is over. After each piece its `progress` is called with how many persons are served."""
     name, pairs = "dense" if len(lists) == 1 else "sparse", len(lists[-1])
     progress: Optional[Callable[[int, int], Any]] = getattr(_limits, "progress", None)
     if first is None and _end() is None and progress is None and n * pairs < LONG:
@@ -155,22 +163,24 @@ def searched(sense: bool, n: int, m: int, lists: Sequence[Any], first: Optional[
     while code == "STOPPED":
         look_at_time()
         start = _SPARE[:0] if first is None else first
-        code, info = call(name + "_from", sense, n, m, *lists, start, *written, piece=(pace.budget(), ctypes.addressof(record)))
+        code, info = call(name + "_from", sense, n, m, *lists, start, *written,
+                          piece=(pace.budget(), ctypes.addressof(record)))
         if progress is not None and code in ("BEST", "STOPPED"):
             progress(n - written[0].count(0), n)
     return code, info
 
 
 class PieceSize(NamedTuple):
-    """How many looks at pairs a piece of a search has at least: so many, and so many for each pair, since each piece reads all of them."""
+    """How many looks at pairs a piece of a search has at least: so many, and so many for each pair, since each piece
+    reads all of them."""
 
     looks: int
     passes: int
 
 
 class _Pace:
-    """How long the pieces of a search are. Each has up to a quarter of the looks that all before it had, since a search may lose by many
-    short ones; but no more than the time that is left."""
+    """How long the pieces of a search are. Each has up to a quarter of the looks that all before it had, since a search
+    may lose by many short ones; but no more than the time that is left."""
 
     def __init__(self, piece: PieceSize, pairs: int):
         self.least, self.looks, self.began = piece.looks + piece.passes * pairs, 0, time.monotonic()
@@ -209,8 +219,8 @@ def _raise_in(thread: int, fault: Optional[type]) -> None:
 
 
 class _Alarm:
-    """Ends the steps of the thread that makes it, as Ctrl-C would, once it is armed and its time is over, unless it is stopped before. An
-    alarm that has rung limits nothing any more."""
+    """Ends the steps of the thread that makes it, as Ctrl-C would, once it is armed and its time is over, unless it is
+    stopped before. An alarm that has rung limits nothing any more."""
 
     def __init__(self, end: float):
         self.end, self.thread, self.rang = end, threading.get_ident(), False
@@ -254,8 +264,8 @@ def started(thread: threading.Thread) -> None:
 
 
 class limited:
-    """Within, calls and the steps of Python raise TimeoutError after so many seconds; never where that is None. After each piece of a
-    search `progress` is called with the persons served so far, and their number."""
+    """Within, calls and the steps of Python raise TimeoutError after so many seconds; never where that is None. After
+    each piece of a search `progress` is called with the persons served so far, and their number."""
 
     def __init__(self, timeout: Optional[float], progress: Optional[Callable[[int, int], Any]] = None):
         if timeout is not None and not hasattr(timeout, "__float__"):
@@ -263,7 +273,8 @@ class limited:
         if timeout is not None and not timeout >= 0:
             raise ValueError(f"timeout is {timeout!r}: it must be a number of seconds, 0 or more")
         if progress is not None and not callable(progress):
-            raise TypeError(f"progress is {progress!r}: it must be a call of two numbers, how many are served and how many there are")
+            raise TypeError(f"progress is {progress!r}: it must be a call of two numbers, how many are served and how "
+                            "many there are")
         self.timeout, self.progress = timeout, progress
 
     def __enter__(self) -> None:
@@ -316,8 +327,8 @@ def look_at_time() -> None:
 
 
 class CostMemory:
-    """Memory for costs that are to become whole numbers: `doubles`, `numbers` and `flat` are one memory, and `calls` has the arguments for
-    these under minimize and maximize."""
+    """Memory for costs that are to become whole numbers: `doubles`, `numbers` and `flat` are one memory, and `calls`
+    has the arguments for these under minimize and maximize."""
 
     doubles: Any = None
     numbers: Any = None
@@ -337,15 +348,16 @@ class CostMemory:
 
 
 class Workspace(CostMemory):
-    """What a dense call on an array of NumPy's fills, with its arguments made ready, since to convert them takes as long as a small
-    problem: a sense, sizes, costs, and the rest. The call answers 0 where it found a best assignment, whose objects stand here
-    then. `home` is the list that the room goes back to after a call, if it is kept. `is_rounded` says whether costs were rounded, `places`
-    of how many decimal places they are whole numbers otherwise, `is_turned` whether columns are the persons, and `listed` has the pairs
-    where some are forbidden."""
+    """What a dense call on an array of NumPy's fills, with its arguments made ready, since to convert them takes as
+    long as a small problem: a sense, sizes, costs, and the rest. The call answers 0 where it found a best assignment,
+    whose objects stand here then. `home` is the list that the room goes back to after a call, if it is kept.
+    `is_rounded` says whether costs were rounded, `places` of how many decimal places they are whole numbers otherwise,
+    `is_turned` whether columns are the persons, and `listed` has the pairs where some are forbidden."""
 
     def __init__(self, numpy: Any, n: int, m: int, home: Optional[List["Workspace"]]):
         self.memory, self.shape, self.home = array("Q", bytes(_INFO + 8 * m + 8 * n)), (n, m), home
-        self.rows, self.objects = numpy.arange(n, dtype=numpy.intp), numpy.frombuffer(self.memory, numpy.uint32, n, _INFO + 8 * m)
+        self.rows, self.objects = numpy.arange(n, dtype=numpy.intp), numpy.frombuffer(self.memory, numpy.uint32, n,
+                                                                                      _INFO + 8 * m)
         info = self.memory.buffer_info()[0]
         prices, objects, persons = info + _INFO, info + _INFO + 8 * m, info + _INFO + 8 * m + 4 * n
         sense, count, address = ctypes.c_uint32.from_param, ctypes.c_size_t.from_param, ctypes.c_void_p.from_param
@@ -380,14 +392,15 @@ class Workspace(CostMemory):
         if self.every is None:
             n, m = self.shape
             kind = numpy.uint32
-            self.every = numpy.repeat(numpy.arange(1, n + 1, dtype=kind), m), numpy.tile(numpy.arange(1, m + 1, dtype=kind), n)
+            self.every = numpy.repeat(numpy.arange(1, n + 1, dtype=kind),
+                                      m), numpy.tile(numpy.arange(1, m + 1, dtype=kind), n)
         persons, objects = self.every
         return persons, objects
 
 
 class SparseWorkspace(CostMemory):
-    """The pairs of a room's problem, where some are forbidden, and the arguments of a sparse call that fills the room. `places` are those
-    of the pairs among all."""
+    """The pairs of a room's problem, where some are forbidden, and the arguments of a sparse call that fills the room.
+    `places` are those of the pairs among all."""
 
     def __init__(self, numpy: Any, room: Workspace, places: Any):
         self.senses = room.minimized, room.maximized
@@ -434,7 +447,8 @@ def workspace_for(numpy: Any, n: int, m: int) -> Workspace:
 
 
 def _workspaces_for(n: int, m: int) -> Optional[List[Workspace]]:
-    """A new list of rooms. Larger ones aren't kept: making one takes little time compared with the problem, and it holds much memory."""
+    """A new list of rooms. Larger ones aren't kept: making one takes little time compared with the problem, and it
+    holds much memory."""
     _loaded()
     if n * m > _MOST_KEPT:
         return None

@@ -1,5 +1,5 @@
-"""Maximum matchings, by augmenting paths, and every group that is short. From one maximum matching these are all nodes that an unmatched one
-reaches, in connected parts."""
+"""Maximum matchings, by augmenting paths, and every group that is short. From one maximum matching these are all nodes
+that an unmatched one reaches, in connected parts."""
 from array import array
 from collections import deque
 from typing import Any, Dict, List, NamedTuple, Optional, Sequence, Set, Tuple, Union
@@ -24,12 +24,14 @@ def lists_of_nodes(count: int, nodes: Any, others: Any) -> Lists:
 
 
 class _Matching:
-    """A matching of rows with columns: the row of each column, None if it is free, and the column of each matched row."""
+    """A matching of rows with columns: the row of each column, None if it is free, and the column of each matched
+    row."""
 
     def __init__(self, n_columns: int):
         self.owner: List[Optional[int]] = [None] * n_columns
         self.held: Dict[int, int] = {}
-        # Columns from which no free one can be reached: those of a search that fails, since no later one would find more.
+        # Columns from which no free one can be reached: those of a search that fails, since no later one would find
+        # more.
         self.seen: Set[int] = set()
 
     def add(self, columns: Lists, start: int) -> None:
@@ -80,8 +82,8 @@ class Group(NamedTuple):
 
 
 def short_groups(problem: Problem) -> List[Tuple[List[int], List[int]]]:
-    """Rows and columns of each group that is short in a problem that lists its pairs: of its rows, or of its columns where these are
-    fewer."""
+    """Rows and columns of each group that is short in a problem that lists its pairs: of its rows, or of its columns
+    where these are fewer."""
     of_columns = problem.n_rows > problem.n_columns
     count, other = sorted((problem.n_rows, problem.n_columns))
     nodes, others = (problem.objects, problem.persons) if of_columns else (problem.persons, problem.objects)

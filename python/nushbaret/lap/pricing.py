@@ -1,8 +1,8 @@
 """The first level of a large matrix of doubles, without a copy of it.
 
-The library solves the cheapest pairs of each row and of each column. Then all pairs are priced: those that are cheaper than the duals
-allow join the others, and the library solves again from its prices. Where none is, the plan and its duals are those of the whole
-rounded matrix. Matrices that take many rounds are left to the library as a whole."""
+The library solves the cheapest pairs of each row and of each column. Then all pairs are priced: those that are cheaper
+than the duals allow join the others, and the library solves again from its prices. Where none is, the plan and its
+duals are those of the whole rounded matrix. Matrices that take many rounds are left to the library as a whole."""
 from typing import Any, List, NamedTuple, Optional, Tuple
 
 from ..costs import parts
@@ -12,7 +12,8 @@ from .level import Level, Pairs
 
 # A smaller matrix is solved as a whole: its copy takes little memory.
 LARGE = 2**22
-# How many pairs of each row and of each column come first, how often others may join them, and how many of all pairs may.
+# How many pairs of each row and of each column come first, how often others may join them, and how many of all pairs
+# may.
 CHEAPEST = 24
 MOST_ROUNDS = 12
 MOST_SHARE = 1 / 16
@@ -26,7 +27,8 @@ class Priced(NamedTuple):
 
 
 def first_level(problem: Problem, bits: int, most: int) -> Optional[Priced]:
-    """The first level and the pairs of at most so many units that it leaves; None where the matrix is better solved as a whole."""
+    """The first level and the pairs of at most so many units that it leaves; None where the matrix is better solved as
+    a whole."""
     numpy = problem.numpy
     if not problem.raw or numpy is None or problem.persons is not None or problem.costs.size < LARGE:
         return None
@@ -80,7 +82,8 @@ class _Matrix:
         numpy = self.numpy
         persons, objects = numpy.divmod(places, self.m)
         costs = self._whole(self.costs[persons, objects])
-        asked = proved.Instance(self.n, self.m, (persons + 1).astype(numpy.uint32), (objects + 1).astype(numpy.uint32), costs)
+        asked = proved.Instance(self.n, self.m, (persons + 1).astype(numpy.uint32), (objects + 1).astype(numpy.uint32),
+                                costs)
         found = proved.found(asked, self.sign < 0, prices)
         return found if isinstance(found, proved.Assignment) else None
 
@@ -109,4 +112,5 @@ class _Matrix:
             found.places.append(near + begin * self.m)
             cheaper.append(below + begin * self.m)
         kinds = numpy.uint32, numpy.uint32, numpy.intp
-        return numpy.concatenate(cheaper), Pairs(*(parts.joined(numpy, kind, arrays) for kind, arrays in zip(kinds, found)))
+        return numpy.concatenate(cheaper), Pairs(*(parts.joined(numpy, kind, arrays)
+                                                   for kind, arrays in zip(kinds, found)))

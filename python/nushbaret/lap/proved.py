@@ -1,8 +1,9 @@
 """Problems as the library takes them, and what its answers say of the caller's problem.
 
-The library gives each of n persons one of m objects, proved for n <= m. The fewer of rows and columns are the persons: with more rows
-than columns the problem is turned. If persons may stay out, each also lists dummy objects, as many as persons are to stay out. Then
-at least the requested number of pairs is made, and exactly this number if no plan has more."""
+The library gives each of n persons one of m objects, proved for n <= m. The fewer of rows and columns are the persons:
+with more rows than columns the problem is turned. If persons may stay out, each also lists dummy objects, as many as
+persons are to stay out. Then at least the requested number of pairs is made, and exactly this number if no plan has
+more."""
 import operator
 from array import array
 from fractions import Fraction
@@ -16,8 +17,8 @@ from . import library
 
 
 class Instance(NamedTuple):
-    """What is passed to the library: how many persons and objects there are, and three lists; in a dense problem those of persons and
-    objects are empty."""
+    """What is passed to the library: how many persons and objects there are, and three lists; in a dense problem those
+    of persons and objects are empty."""
 
     n: int
     m: int
@@ -27,8 +28,8 @@ class Instance(NamedTuple):
 
 
 class Assignment(NamedTuple):
-    """A best assignment: an object for each person, from 1 on, and prices in the unit of the costs. Where levels found it, there are no
-    prices and no total."""
+    """A best assignment: an object for each person, from 1 on, and prices in the unit of the costs. Where levels found
+    it, there are no prices and no total."""
 
     n: int
     m: int
@@ -38,9 +39,9 @@ class Assignment(NamedTuple):
 
 
 class Halves:
-    """The prices of an answer in pickles of 3.0 and 3.1, as multiples of a cost divided by one more than there are prices: of each two
-    words, the lower one first. They have slackness 1 in that unit. There are fewer prices than remainders, so one remainder belongs to
-    none; rounded down from there, prices have none."""
+    """The prices of an answer in pickles of 3.0 and 3.1, as multiples of a cost divided by one more than there are
+    prices: of each two words, the lower one first. They have slackness 1 in that unit. There are fewer prices than
+    remainders, so one remainder belongs to none; rounded down from there, prices have none."""
 
     words: Numbers
 
@@ -87,8 +88,8 @@ def sizes_of(problem: Problem, served: Optional[int]) -> Tuple[int, int, int]:
     n, most = sorted((problem.n_rows, problem.n_columns))
     dummies = 0 if served is None else n - served
     if most + dummies > MOST_PERSONS:
-        raise TooLarge(f"{problem.n_rows} rows and {problem.n_columns} columns, of which {served} can be paired, make {most + dummies} "
-                         f"with dummies: at most {MOST_PERSONS} are possible")
+        raise TooLarge(f"{problem.n_rows} rows and {problem.n_columns} columns, of which {served} can be paired, make "
+                       f"{most + dummies} with dummies: at most {MOST_PERSONS} are possible")
     return n, most + dummies, dummies
 
 
@@ -104,7 +105,8 @@ def _turned_costs(problem: Problem) -> Any:
 
 
 def _turned_array(numpy: Any, costs: Any) -> Any:
-    """The costs of a matrix, column by column. Some columns at a time are taken, so that Ctrl-C is heeded in between."""
+    """The costs of a matrix, column by column. Some columns at a time are taken, so that Ctrl-C is heeded in
+    between."""
     turned = numpy.empty(costs.size, costs.dtype)
     by_columns = turned.reshape(costs.shape[::-1])
     for begin in range(0, len(by_columns), 64):
@@ -113,13 +115,15 @@ def _turned_array(numpy: Any, costs: Any) -> Any:
 
 
 def given(problem: Problem, served: Optional[int] = None, out: int = 0) -> Instance:
-    """The problem whose assignments have `served` pairs, or as many as the shorter side has nodes. `out` is the cost of staying
-    out."""
+    """The problem whose assignments have `served` pairs, or as many as the shorter side has nodes. `out` is the cost of
+    staying out."""
     n, m, dummies = sizes_of(problem, served)
     if problem.persons is None and not dummies:
         return Instance(n, m, NONE, NONE, _turned_costs(problem) if is_turned(problem) else problem.costs)
     problem = listed(problem)
-    lists = [problem.objects, problem.persons, problem.costs] if is_turned(problem) else [problem.persons, problem.objects, problem.costs]
+    lists = [problem.objects, problem.persons, problem.costs] if is_turned(problem) else [problem.persons,
+                                                                                          problem.objects,
+                                                                                          problem.costs]
     if dummies:
         lists = [_joined(problem.numpy, own, more) for own, more in zip(lists, _dummies(n, m, dummies, out))]
     return Instance(n, m, *lists)
@@ -156,10 +160,12 @@ def found(asked: Instance, maximize: bool, first: Optional[FirstPrices] = None) 
     return answer_ or refuse(code, info)
 
 
-def _searched(asked: Instance, maximize: bool, lists: Sequence[Any], first: Optional[FirstPrices]) -> Tuple[str, library.Info, Union[Assignment, HallSet, None]]:
+def _searched(asked: Instance, maximize: bool, lists: Sequence[Any],
+              first: Optional[FirstPrices]) -> Tuple[str, library.Info, Union[Assignment, HallSet, None]]:
     """What the library says to lists, and its answer if it has one."""
     n, m = asked.n, asked.m
-    objects, persons, prices = first.objects[:] if first else array("I", bytes(4 * n)), array("I", bytes(4 * n)), array("q", bytes(8 * m))
+    objects, persons, prices = (first.objects[:] if first else array("I", bytes(4 * n)), array("I", bytes(4 * n)),
+                                array("q", bytes(8 * m)))
     code, info = library.searched(maximize, n, m, lists, first and first.prices, (objects, persons, prices))
     if code == "BEST":
         return code, info, Assignment(n, m, info.total, objects, prices)
@@ -211,7 +217,8 @@ def _arrays_of(numpy: Any, problem: Problem, answer: Assignment) -> Tuple[Any, A
 
 
 class ResultParts(NamedTuple):
-    """What a result is made of: its problem without lists, the answer, the pairs with their costs, and whether they are arrays."""
+    """What a result is made of: its problem without lists, the answer, the pairs with their costs, and whether they are
+    arrays."""
 
     shape: Problem
     answer: Assignment
@@ -225,18 +232,19 @@ class ResultParts(NamedTuple):
 
 
 class Duals(NamedTuple):
-    """Whole duals of a problem whose costs are minimised (under maximize, of the negated costs): of each row, of each column, and that
-    of unmatched rows."""
+    """Whole duals of a problem whose costs are minimised (under maximize, of the negated costs): of each row, of each
+    column, and that of unmatched rows."""
 
     rows: List[int]
     columns: List[int]
     unmatched: int
 
 
-def duals_of(problem: Problem, found: Assignment, prices: List[int], pairs: Sequence[Tuple[int, int]], costs: Sequence[int]) -> Duals:
-    """The duals that follow from whole prices of the objects, the least 0, and from the pairs of a plan with their costs. A row's and a
-    column's sum is at most their pair's cost, and equals it in the plan. Columns have no dual above 0, and 0 if they are unmatched; if all
-    are matched and rows are left over, this holds of rows instead."""
+def duals_of(problem: Problem, found: Assignment, prices: List[int], pairs: Sequence[Tuple[int, int]],
+             costs: Sequence[int]) -> Duals:
+    """The duals that follow from whole prices of the objects, the least 0, and from the pairs of a plan with their
+    costs. A row's and a column's sum is at most their pair's cost, and equals it in the plan. Columns have no dual
+    above 0, and 0 if they are unmatched; if all are matched and rows are left over, this holds of rows instead."""
     n_rows, n_columns = problem.n_rows, problem.n_columns
     if not len(pairs):
         return Duals([0] * n_rows, [0] * n_columns, 0)
@@ -278,7 +286,8 @@ def exact_price(price: Any, name: Any) -> Fraction:
             price = printing.of_scalar(price)
         if hasattr(price, "as_integer_ratio") and not hasattr(price, "dtype"):
             return Fraction(*ratio_of(price, False))
-        return Fraction(operator.index(price)) if hasattr(price, "__index__") else Fraction(*ratio_of(float(price), False))
+        return Fraction(operator.index(price)) if hasattr(price,
+                                                          "__index__") else Fraction(*ratio_of(float(price), False))
     except (ValueError, OverflowError):
         raise ValueError(f"the price of column {name} is {price}: it must be finite") from None
     except TypeError:
@@ -294,9 +303,10 @@ def exact_prices(problem: Problem, prices: Any, what: str = "prices") -> List[Fr
 
 
 def whole_of(problem: Problem, prices: List[Fraction], parts: int = 1) -> Optional[List[int]]:
-    """Prices as whole numbers of the unit of the costs, the least 0; None where they are too far apart for the library. They are rounded
-    to so many `parts` of the unit first, and then down, from a point that none of them is at: with more parts than prices there is one. So
-    an order of sums of costs and prices that holds to within a part holds of the rounded ones exactly."""
+    """Prices as whole numbers of the unit of the costs, the least 0; None where they are too far apart for the library.
+    They are rounded to so many `parts` of the unit first, and then down, from a point that none of them is at: with
+    more parts than prices there is one. So an order of sums of costs and prices that holds to within a part holds of
+    the rounded ones exactly."""
     scale = parts * problem.unit.denominator
     fine = [round(price * scale) for price in prices]
     rests = {price % parts for price in fine}
@@ -321,6 +331,7 @@ def first_of(problem: Problem, start: WarmStart, served: Optional[int]) -> Optio
 
 def _of_rows(problem: Problem, prices: List[int]) -> List[int]:
     """Prices to start from in the turned problem, the least 0: what rows gain at prices of the columns."""
-    paid = [min((int(cost) + prices[column] for column, cost in zip(*held)), default=None) for held in lists_of(problem)]
+    paid = [min((int(cost) + prices[column] for column, cost in zip(*held)), default=None)
+            for held in lists_of(problem)]
     most = max((price for price in paid if price is not None), default=0)
     return [0 if price is None else min(most - price, GREATEST_PRICE) for price in paid]

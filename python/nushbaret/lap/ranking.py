@@ -1,11 +1,12 @@
 """Plans in the order of their costs.
 
-Murty (1968): all plans but a best one are split by the first row whose column differs from that plan's. The best plan of each part is
-one shortest alternating path away, in reduced costs, which are never below 0; the duals that the path leaves belong to that
-part. Rows and columns that stay out are held by one dummy column and one dummy row, which cost nothing.
+Murty (1968): all plans but a best one are split by the first row whose column differs from that plan's. The best plan
+of each part is one shortest alternating path away, in reduced costs, which are never below 0; the duals that the path
+leaves belong to that part. Rows and columns that stay out are held by one dummy column and one dummy row, which cost
+nothing.
 
-The library checks each plan before it is handed out: the duals of its part prove that it is a best plan of the part. That the parts
-hold all plans, and that no part that waits has a better one, is computed here."""
+The library checks each plan before it is handed out: the duals of its part prove that it is a best plan of the part.
+That the parts hold all plans, and that no part that waits has a better one, is computed here."""
 import heapq
 from array import array
 from bisect import insort
@@ -29,8 +30,9 @@ Choice = Tuple[int, int]
 
 
 class Subproblem(NamedTuple):
-    """All plans that keep the columns of the rows below `first`, and in which row `first` has none of `banned`: the columns of the best
-    one and its cost, with duals that prove it. A row whose column is the number of columns stays out."""
+    """All plans that keep the columns of the rows below `first`, and in which row `first` has none of `banned`: the
+    columns of the best one and its cost, with duals that prove it. A row whose column is the number of columns stays
+    out."""
 
     columns: List[int]
     cost: int
@@ -41,8 +43,8 @@ class Subproblem(NamedTuple):
 
 
 class _PathSearch(NamedTuple):
-    """A search for a shortest alternating path: its length, None where none was found; the row that takes each column, by which column
-    each row was reached, and how far columns are (below 0: closed)."""
+    """A search for a shortest alternating path: its length, None where none was found; the row that takes each column,
+    by which column each row was reached, and how far columns are (below 0: closed)."""
 
     length: Optional[int]
     taker: Dict[int, int]
@@ -51,9 +53,11 @@ class _PathSearch(NamedTuple):
 
 
 class Ranking:
-    """The plans of a problem with as many pairs as a best one: its rows and columns, their costs, and whole duals of a unit that prove it."""
+    """The plans of a problem with as many pairs as a best one: its rows and columns, their costs, and whole duals of a
+    unit that prove it."""
 
-    def __init__(self, problem: Problem, pairs: Tuple[List[int], List[int]], ratios: Sequence[Ratio], duals: Duals, unit: Unit):
+    def __init__(self, problem: Problem, pairs: Tuple[List[int], List[int]], ratios: Sequence[Ratio], duals: Duals,
+                 unit: Unit):
         rows, columns = pairs
         problem = in_whole_numbers(owned(problem))
         # Duals may be in a part of the costs' unit.
@@ -70,8 +74,8 @@ class Ranking:
         for row, column in zip(rows, columns):
             own[row] = column
         row_duals, column_duals = duals.rows + [0], duals.columns + [-duals.unmatched]
-        self.whole = Subproblem(own, self.sign * cost, [of_duals * dual for dual in row_duals], [of_duals * dual for dual in column_duals],
-                           0, NOBODY)
+        self.whole = Subproblem(own, self.sign * cost, [of_duals * dual for dual in row_duals],
+                                [of_duals * dual for dual in column_duals], 0, NOBODY)
 
     def wait(self, part: Subproblem) -> None:
         """Puts a part in line: at first by the least columns that its best plans can begin with."""
@@ -112,8 +116,9 @@ class Ranking:
         return rows, [part.columns[row] for row in rows]
 
     def split(self, part: Subproblem, wanted: int) -> None:
-        """Puts in line the parts of all plans of a part but its best one, as far as they can be among so many that are wanted. Where
-        the row that differs stays out in the best plan, there is a part for each column that it may have."""
+        """Puts in line the parts of all plans of a part but its best one, as far as they can be among so many that are
+        wanted. Where the row that differs stays out in the best plan, there is a part for each column that it may
+        have."""
         holder, closed = self._holder(part), self._closed(part)
         for row in range(part.first, self.n_rows):
             own, most = part.columns[row], self._most(part, wanted)
@@ -154,8 +159,10 @@ class Ranking:
             return (holder[column],)
         return [other for other in range(row + 1, self.n_rows) if part.columns[other] == column]
 
-    def _search(self, part: Subproblem, holder: List[int], closed: List[int], row: int, choices: Iterable[Choice], most: float) -> _PathSearch:
-        """The shortest path of at most a length by which a row leaves its column for one of some choices (Dijkstra 1959)."""
+    def _search(self, part: Subproblem, holder: List[int], closed: List[int], row: int, choices: Iterable[Choice],
+                most: float) -> _PathSearch:
+        """The shortest path of at most a length by which a row leaves its column for one of some choices (Dijkstra
+        1959)."""
         target, rows, columns = part.columns[row], part.row_duals, part.column_duals
         far: List[Any] = [INFINITE] * (self.n_columns + 1)
         for column in closed:
@@ -200,8 +207,8 @@ class Ranking:
             column = found.reached[taking]
 
     def _after(self, part: Subproblem, found: _PathSearch, row: int, first: int, banned: FrozenSet[int]) -> Subproblem:
-        """The part whose best plan is the one after a row's path. Columns that are nearer than the path is long get cheaper by the rest of
-        it, and the row that holds them gains as much."""
+        """The part whose best plan is the one after a row's path. Columns that are nearer than the path is long get
+        cheaper by the rest of it, and the row that holds them gains as much."""
         rows, columns, whole = part.row_duals, part.column_duals, found.length or 0
         if whole:
             rows, columns = rows.copy(), columns.copy()
@@ -232,8 +239,8 @@ class Ranking:
         return part
 
     def _prove(self, part: Subproblem) -> None:
-        """Lets the library check that a part's plan is a best one of the part, by the part's duals: of the problem that is left to the
-        rows and columns that the part leaves free."""
+        """Lets the library check that a part's plan is a best one of the part, by the part's duals: of the problem that
+        is left to the rows and columns that the part leaves free."""
         taken, first = set(self._closed(part)), part.first
         free = [column for column in range(self.n_columns) if column not in taken]
         left = self._left(part, free)
@@ -242,7 +249,8 @@ class Ranking:
         found = check_problem(left, [row - first for row in rows], [numbers[part.columns[row]] for row in rows],
                               [Fraction(-part.column_duals[column]) for column in free])
         if not found:
-            raise RuntimeError(f"a plan was found to be the best of its part, and the library says otherwise: {found.why}")
+            raise RuntimeError("a plan was found to be the best of its part, and the library says otherwise: "
+                               f"{found.why}")
         cost = sum(self._cost(row, column) for row, column in enumerate(part.columns) if column < self.n_columns)
         if cost != part.cost:
             raise RuntimeError(f"a plan was found to cost {part.cost}, and its pairs cost {cost}")
@@ -271,8 +279,9 @@ class Ranking:
         return Problem(self.n_rows - part.first, len(free), False, _packed(costs), persons, objects)
 
     def _prove_empty(self, part: Subproblem, row: int, choices: Iterable[Choice], found: _PathSearch) -> None:
-        """Lets the library say that no plan of a part keeps the columns of the rows below a row, which gets one of some choices: the
-        rows that the search reached have fewer columns than they are. Each row that stays out brings a dummy column."""
+        """Lets the library say that no plan of a part keeps the columns of the rows below a row, which gets one of some
+        choices: the rows that the search reached have fewer columns than they are. Each row that stays out brings a
+        dummy column."""
         out = range(self.n_columns, self.n_columns + part.columns[row + 1:].count(self.n_columns))
         lists = {}
         for other, its_choices in [(row, choices), *((other, self._choices(other)) for other in found.reached)]:
@@ -283,8 +292,8 @@ class Ranking:
     def has_other(self) -> bool:
         """Whether there is another plan of the least cost.
 
-        All best plans, and no others, have pairs of reduced cost 0 alone and use each row and column that is worth more than to stay
-        out. Of these the library finds one with as few of this plan's pairs as possible."""
+        All best plans, and no others, have pairs of reduced cost 0 alone and use each row and column that is worth more
+        than to stay out. Of these the library finds one with as few of this plan's pairs as possible."""
         rows, columns, out = self.whole.row_duals[:-1], self.whole.column_duals[:-1], -self.whole.column_duals[-1]
         pairs = self.n_rows - self.whole.columns.count(self.n_columns)
         worth_rows = [self.rows_out and dual < out for dual in rows]

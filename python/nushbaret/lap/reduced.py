@@ -1,4 +1,5 @@
-"""What a level leaves: the pairs of small reduced cost, whether they hold one plan alone, and what goes off their costs."""
+"""What a level leaves: the pairs of small reduced cost, whether they hold one plan alone, and what goes off their
+costs."""
 from array import array
 from itertools import repeat
 from typing import Dict, List, Tuple
@@ -13,7 +14,8 @@ MOST_CHANGES = 3
 
 
 def level_of(asked: proved.Instance, answer: proved.Assignment, shift: int, sign: int) -> Level:
-    """The duals of a level's answer. A sum of a person's and an object's is at most their cost, and equals it in the plan."""
+    """The duals of a level's answer. A sum of a person's and an object's is at most their cost, and equals it in the
+    plan."""
     if not isinstance(asked.costs, (array, BorrowedNumbers)):
         return Level(asked, answer.objects, *arrays.duals_of(asked, answer, sign), shift, sign)
     of_objects = [0] + [-price for price in proved.whole_prices(answer)]
@@ -37,10 +39,12 @@ def kept(level: Level, most: int) -> Pairs:
     if len(asked.persons):
         places.extend(place for place, (person, item, cost) in enumerate(zip(asked.persons, asked.objects, costs))
                       if sign * cost - level.of_persons[person] - level.of_objects[item] <= most)
-        return Pairs(array("I", [asked.persons[place] for place in places]), array("I", [asked.objects[place] for place in places]), places)
+        return Pairs(array("I", [asked.persons[place] for place in places]),
+                     array("I", [asked.objects[place] for place in places]), places)
     for person in range(asked.n):
         begin, bound = person * asked.m, level.of_persons[person + 1] + most
-        own = [item for item, cost in enumerate(costs[begin:begin + asked.m], 1) if sign * cost - level.of_objects[item] <= bound]
+        own = [item for item, cost in enumerate(costs[begin:begin + asked.m], 1)
+               if sign * cost - level.of_objects[item] <= bound]
         objects.extend(own)
         persons.extend(repeat(person + 1, len(own)))
         places.extend([begin + item - 1 for item in own])
@@ -50,8 +54,9 @@ def kept(level: Level, most: int) -> Pairs:
 def is_only_plan(level: Level, pairs: Pairs) -> bool:
     """Whether no other plan is along these pairs, among which the level's plan is; false where that takes long to see.
 
-    Another plan is a round of changes: a person takes an object, whose owner takes another one, and so on. One vertex stands for all
-    unused objects: the object that the first person leaves may be unused then, unless its dual says that each best plan uses it."""
+    Another plan is a round of changes: a person takes an object, whose owner takes another one, and so on. One vertex
+    stands for all unused objects: the object that the first person leaves may be unused then, unless its dual says that
+    each best plan uses it."""
     n, m = level.asked.n, level.asked.m
     if len(pairs.persons) == n:
         return True
@@ -70,7 +75,8 @@ def _changes(level: Level, pairs: Pairs) -> Tuple[List[int], List[int]]:
     own, owner = level.objects, [0] * (level.asked.m + 1)
     for person, item in enumerate(own, 1):
         owner[item] = person
-    places = [place for place, (person, item) in enumerate(zip(pairs.persons, pairs.objects)) if own[person - 1] != item]
+    places = [place for place, (person, item) in enumerate(zip(pairs.persons, pairs.objects))
+              if own[person - 1] != item]
     return [pairs.persons[place] for place in places], [owner[pairs.objects[place]] for place in places]
 
 

@@ -1,7 +1,8 @@
 """What a level leaves of the costs of its pairs, and the loop that solves it to the end, level by level.
 
-A residue is of one of three kinds: whole numbers of any size in a list, whole numbers of 64 bits in an array, or sums of doubles. Each says
-what the next level is to solve, and what that level leaves of it; the loop is the same for all."""
+A residue is of one of three kinds: whole numbers of any size in a list, whole numbers of 64 bits in an array, or sums
+of doubles. Each says what the next level is to solve, and what that level leaves of it; the loop is the same for
+all."""
 import functools
 import math
 import operator
@@ -32,7 +33,8 @@ class Residue(Protocol):
     pairs: Pairs
 
     def rounded(self) -> Tuple[Any, int, bool]:
-        """What is left, rounded to whole multiples of 2**-shift of at most 39 bits, the shift, and whether nothing was rounded."""
+        """What is left, rounded to whole multiples of 2**-shift of at most 39 bits, the shift, and whether nothing was
+        rounded."""
 
     def most(self, n: int) -> int:
         """Up to how many units of reduced cost the pairs of a plan of n pairs are kept."""
@@ -59,7 +61,8 @@ def finish(first: Level, residue: Optional[Residue]) -> Any:
 
 
 def residue_of(problem: Problem, level: Level, pairs: Pairs) -> Optional[Residue]:
-    """What a first level leaves of the costs of pairs, in the kind that they are held in; None where it rounded nothing."""
+    """What a first level leaves of the costs of pairs, in the kind that they are held in; None where it rounded
+    nothing."""
     if problem.numpy and problem.raw:
         return Doubles(problem, level, pairs).held(True)
     return _left_of_whole(problem, level, pairs) if problem.numpy else _exactly(problem, level, pairs)
@@ -115,7 +118,8 @@ def _left_of_whole(problem: Problem, level: Level, pairs: Pairs) -> Residue:
     """What a level leaves of whole costs. Sums may wrap around, and what is left is small."""
     numpy = problem.numpy
     left, taken = arrays.costs_at(numpy, problem, level, pairs), taken_off(numpy, level, pairs)
-    return WholeArray(numpy, pairs, parts.filled(numpy, numpy.int64, len(left), lambda part: left[part] - (taken[part] << -level.shift)))
+    return WholeArray(numpy, pairs, parts.filled(numpy, numpy.int64, len(left),
+                                                 lambda part: left[part] - (taken[part] << -level.shift)))
 
 
 def _exactly(problem: Problem, level: Level, pairs: Pairs) -> Optional[Residue]:
@@ -127,21 +131,25 @@ def _exactly(problem: Problem, level: Level, pairs: Pairs) -> Optional[Residue]:
     if left is None:
         return None
     if numpy and len(left) >= FEW_PAIRS and max(max(left), -min(left)) < 2**MOST_BITS:
-        return WholeArray(numpy, Pairs(numpy.array(persons, numpy.uint32), numpy.array(objects, numpy.uint32), None), numpy.array(left, numpy.int64))
+        return WholeArray(numpy, Pairs(numpy.array(persons, numpy.uint32), numpy.array(objects, numpy.uint32), None),
+                          numpy.array(left, numpy.int64))
     return WholeNumbers(Pairs(array("I", persons), array("I", objects), None), left)
 
 
-def _exact_left(level: Level, ratios: Sequence[Ratio], persons: Sequence[int], objects: Sequence[int]) -> Optional[List[int]]:
+def _exact_left(level: Level, ratios: Sequence[Ratio], persons: Sequence[int],
+                objects: Sequence[int]) -> Optional[List[int]]:
     """What a level leaves of the costs of pairs, as whole numbers of some unit; None where it rounded nothing."""
     unit = unit_of(set((1, denominator) for _, denominator in ratios) | {(1, 1 << max(level.shift, 0))}, True)
     step = unit.denominator >> level.shift if level.shift >= 0 else unit.denominator << -level.shift
     values = [level.sign * in_unit(ratio, unit) for ratio in ratios]
     of_persons, of_objects = reduced.duals_as_lists(level)
-    slack = [value - step * (of_persons[person] + of_objects[item]) for value, person, item in zip(values, persons, objects)]
+    slack = [value - step * (of_persons[person] + of_objects[item])
+             for value, person, item in zip(values, persons, objects)]
     if not any(value % step for value in slack) and min(slack) >= 0:
         return None
     of_persons, of_objects = reduced.taken_off(level)
-    return [value - step * (of_persons[person] + of_objects[item]) for value, person, item in zip(values, persons, objects)]
+    return [value - step * (of_persons[person] + of_objects[item])
+            for value, person, item in zip(values, persons, objects)]
 
 
 def _zeros(whole: int) -> int:
@@ -198,8 +206,8 @@ def ratios_at(problem: Problem, asked: proved.Instance, places: Sequence[int]) -
 
 
 class Doubles:
-    """Pairs with costs that are doubles, or decimals that print as these. What is left of a cost is held as the sum of two doubles,
-    `high` and `low`, and is at most `loose` off."""
+    """Pairs with costs that are doubles, or decimals that print as these. What is left of a cost is held as the sum of
+    two doubles, `high` and `low`, and is at most `loose` off."""
 
     def __init__(self, problem: Problem, level: Level, pairs: Pairs):
         self.first = problem, level, pairs
@@ -227,7 +235,8 @@ class Doubles:
         return self.held(False)
 
     def held(self, is_first: bool) -> Optional[Residue]:
-        """What is left after the last level, as whole numbers where these hold it exactly, and by exact numbers where doubles don't."""
+        """What is left after the last level, as whole numbers where these hold it exactly, and by exact numbers where
+        doubles don't."""
         whole = self._plainly() if is_first and self.doubles else None
         if whole is None:
             if size_of(self.taken) >= _MOST_EXACT:
@@ -258,7 +267,8 @@ class Doubles:
         self.loose += most
 
     def _plainly(self) -> Any:
-        """What the first level left as whole numbers of one unit, exactly, where costs and what was taken off are whole too; else None."""
+        """What the first level left as whole numbers of one unit, exactly, where costs and what was taken off are whole
+        too; else None."""
         numpy = self.numpy
         grid = MOST_BITS - math.frexp(max(self.most_size, math.ldexp(size_of(self.taken), -self.shift)))[1]
         if grid < self.shift:

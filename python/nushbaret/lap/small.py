@@ -26,10 +26,11 @@ SMALL = 2**14
 class SmallArrays:
     """What is needed of NumPy is kept here, so that it isn't looked up each time.
 
-    Doubles are rounded to 39 bits of the greatest, and solved. Each pair of the plan is then made one unit dearer. Where the plan is still
-    best, any other plan that has q other pairs is at least q units dearer than it for the rounded costs; and rounding changed the two
-    plans' difference by at most q units. So it is best for the doubles themselves. Decimals are less than 2**-13 of a unit off for each of
-    the q pairs: for them two units are taken. Where that shows nothing, levels go on from the rounded costs."""
+    Doubles are rounded to 39 bits of the greatest, and solved. Each pair of the plan is then made one unit dearer.
+    Where the plan is still best, any other plan that has q other pairs is at least q units dearer than it for the
+    rounded costs; and rounding changed the two plans' difference by at most q units. So it is best for the doubles
+    themselves. Decimals are less than 2**-13 of a unit off for each of the q pairs: for them two units are taken. Where
+    that shows nothing, levels go on from the rounded costs."""
 
     def __init__(self, numpy: Any):
         self.numpy, self.array = numpy, numpy.ndarray
@@ -44,8 +45,8 @@ class SmallArrays:
         self.adders: Dict[int, Tuple[Any, Any]] = {}
 
     def assignment(self, costs: Any, maximize: bool) -> Optional[Tuple[Any, Any]]:
-        """Rows and columns of a best assignment. None if the costs aren't a small array, or a frame of one, or if this way finds no answer
-        to them: then the longer way finds one, or says what is wrong."""
+        """Rows and columns of a best assignment. None if the costs aren't a small array, or a frame of one, or if this
+        way finds no answer to them: then the longer way finds one, or says what is wrong."""
         matrix = self._plain(costs, False)
         room = None if matrix is None else self._solved(matrix, maximize, False)
         if room is None:
@@ -65,8 +66,8 @@ class SmallArrays:
         return found
 
     def found(self, costs: Any, maximize: bool) -> Optional[ResultParts]:
-        """What a result is made of, for a small array, a frame or a list of lists, where floats are the decimals that they print as. None as
-        in `assignment`."""
+        """What a result is made of, for a small array, a frame or a list of lists, where floats are the decimals that
+        they print as. None as in `assignment`."""
         matrix, flat = self._read(costs) if type(costs) is list else (self._plain(costs, True), None)
         matrix, least_places = (matrix, 0) if matrix is None or matrix.dtype.itemsize == 8 else self._printed(matrix)
         room = None if matrix is None else self._solved(matrix, maximize, True, flat is not None, least_places)
@@ -74,7 +75,8 @@ class SmallArrays:
             return None
         n_rows, n_columns = matrix.shape
         labels = None if flat is not None or type(costs) is self.array else (list(costs.index), list(costs.columns))
-        shape = Problem(n_rows, n_columns, maximize, None, unit=of_places(room.places), raw=room.is_rounded, labels=labels)
+        shape = Problem(n_rows, n_columns, maximize, None, unit=of_places(room.places), raw=room.is_rounded,
+                        labels=labels)
         answer = _answer_of(room)
         if flat is None:
             rows, columns = self._pairs_of(room)
@@ -88,8 +90,8 @@ class SmallArrays:
         return ResultParts(shape, answer, rows, columns, own, flat is None)
 
     def _plain(self, costs: Any, printed: bool) -> Any:
-        """An array of 64-bit integers or floats with all numbers of a small array or frame; None where there is none, or it isn't small.
-        Short floats stay what they are where they are to be `printed`."""
+        """An array of 64-bit integers or floats with all numbers of a small array or frame; None where there is none,
+        or it isn't small. Short floats stay what they are where they are to be `printed`."""
         if type(costs) is not self.array:
             costs = self._of_frame(costs)
         if costs is None or costs.ndim != 2 or not _is_small(*costs.shape):
@@ -108,7 +110,8 @@ class SmallArrays:
         return found.reshape(costs.shape), least_places
 
     def _of_frame(self, costs: Any) -> Any:
-        """The array that holds all costs of a frame of pandas; None where these stand in several, maybe of several kinds."""
+        """The array that holds all costs of a frame of pandas; None where these stand in several, maybe of several
+        kinds."""
         if not is_frame(costs):
             return None
         values = costs.values
@@ -141,10 +144,11 @@ class SmallArrays:
         except struct.error:
             return None
 
-    def _solved(self, costs: Any, maximize: bool, printed: bool, of_list: bool = False, least_places: int = 0) -> Optional[library.Workspace]:
-        """A room with a best plan, whose persons are the fewer of rows and columns; floats are the decimals that they print as where
-        `printed`, and these have so many places or more. Of a list those with at most 12 digits are left to the longer way, which may find
-        a unit for them."""
+    def _solved(self, costs: Any, maximize: bool, printed: bool, of_list: bool = False,
+                least_places: int = 0) -> Optional[library.Workspace]:
+        """A room with a best plan, whose persons are the fewer of rows and columns; floats are the decimals that they
+        print as where `printed`, and these have so many places or more. Of a list those with at most 12 digits are left
+        to the longer way, which may find a unit for them."""
         n, m = costs.shape
         is_turned = n > m
         if is_turned:
@@ -165,7 +169,8 @@ class SmallArrays:
             return not room.listed.call(*room.listed.words(sense, lent))
         return not room.call(sense, *room.sizes, lent, *room.rest)
 
-    def _of_doubles(self, costs: Any, room: library.Workspace, maximize: bool, printed: bool, least_places: int) -> bool:
+    def _of_doubles(self, costs: Any, room: library.Workspace, maximize: bool, printed: bool,
+                    least_places: int) -> bool:
         """Whether the room has a plan that is best for doubles."""
         allowed, values = None, costs
         whole, most = self._whole(costs), 0.0
@@ -194,8 +199,8 @@ class SmallArrays:
         return True
 
     def _is_alone(self, allowed: Any, room: library.Workspace, maximize: bool, dearer: int) -> bool:
-        """Whether the plan of a room's whole numbers stays the best where its pairs are dearer. What isn't allowed is dear: if a best plan
-        has none of it, it is best among those that have none."""
+        """Whether the plan of a room's whole numbers stays the best where its pairs are dearer. What isn't allowed is
+        dear: if a best plan has none of it, it is best among those that have none."""
         dear = -GREATEST_COST if maximize else GREATEST_COST
         if allowed is not None:
             self.copy_to(room.numbers, dear, where=~allowed.reshape(room.shape))
@@ -210,7 +215,8 @@ class SmallArrays:
         return not _call(room, maximize) and room.objects.tolist() == objects
 
     def _whole(self, costs: Any) -> Any:
-        """Doubles as whole numbers; None where they aren't. Where the first isn't whole, no look at the others is needed."""
+        """Doubles as whole numbers; None where they aren't. Where the first isn't whole, no look at the others is
+        needed."""
         return exact.whole_numbers(self.numpy, costs.ravel()) if costs.item(0).is_integer() else None
 
     def _list(self, allowed: Any, room: library.Workspace) -> None:
@@ -219,8 +225,8 @@ class SmallArrays:
             room.listed = library.SparseWorkspace(self.numpy, room, allowed.nonzero()[0])
 
     def _with_places(self, flat: Any, room: library.Workspace, most: float, least_places: int) -> Any:
-        """Doubles of so many places or more as whole numbers of a decimal unit, whose places the room gets; None where they have too many
-        places, or are too great. What `_least_places` says holds here too."""
+        """Doubles of so many places or more as whole numbers of a decimal unit, whose places the room gets; None where
+        they have too many places, or are too great. What `_least_places` says holds here too."""
         rint, first = self.numpy.rint, flat.item(0)
         if not most <= GREATEST_COST:
             return None
@@ -244,12 +250,14 @@ class SmallArrays:
         duals = arrays.duals_of(asked, proved.Assignment(n, m, None, room.objects, room.prices), sign)
         level = Level(asked, room.objects, *duals, shift, sign)
         persons, objects = lists if held else (None, None)
-        problem = Problem(n, m, maximize, costs.ravel(), persons, objects, raw=True, doubles=not printed, numpy=self.numpy)
+        problem = Problem(n, m, maximize, costs.ravel(), persons, objects, raw=True, doubles=not printed,
+                          numpy=self.numpy)
         with levels.quiet(problem):
             room.objects[:] = levels.after_first(problem, level)
 
     def _scaled(self, costs: Any, room: library.Workspace, shift: int) -> bool:
-        """Gives the room the costs times 2**shift, rounded to the nearest whole numbers; false where doubles don't suffice for it."""
+        """Gives the room the costs times 2**shift, rounded to the nearest whole numbers; false where doubles don't
+        suffice for it."""
         adder = self.adders.get(shift) or self._adder(shift)
         if adder is None:
             return False
@@ -262,8 +270,8 @@ class SmallArrays:
         return True
 
     def _adder(self, shift: int) -> Optional[Tuple[Any, Any]]:
-        """A double whose last place is 2**-shift, so that what is added to it is rounded there, and its bits, to be subtracted from those
-        of the sum; None if there is none."""
+        """A double whose last place is 2**-shift, so that what is added to it is rounded there, and its bits, to be
+        subtracted from those of the sum; None if there is none."""
         if not -MOST_SHIFT < shift < MOST_SHIFT:
             return None
         adder = self.numpy.array(1.5 * 2.0**(52 - shift))
@@ -284,7 +292,8 @@ def _greatest(costs: Any) -> float:
 
 
 def _may_be_shorter(rows: Any) -> bool:
-    """Whether the first row of a list says that this way may serve, and is the faster one: many ints are read faster row by row."""
+    """Whether the first row of a list says that this way may serve, and is the faster one: many ints are read faster
+    row by row."""
     if type(rows) is not list or not rows or type(rows[0]) is not list or not rows[0]:
         return False
     n, m = len(rows), len(rows[0])
@@ -319,7 +328,8 @@ def _answer_of(room: library.Workspace) -> proved.Assignment:
 
 
 def _is_long(cost: float) -> bool:
-    """Whether a cost has decimal places and more than 12 digits, so that no unit makes it whole within the library's range."""
+    """Whether a cost has decimal places and more than 12 digits, so that no unit makes it whole within the library's
+    range."""
     return float("%.12g" % cost) != cost and not cost.is_integer()
 
 

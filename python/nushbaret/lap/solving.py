@@ -10,7 +10,8 @@ Began = Optional[proved.WarmStart]
 
 
 def solved(problem: Problem, start: Began = None, served: Optional[int] = None) -> Outcome:
-    """The answer to the problem of so many pairs, an Answer or a Short: the library's, or by levels where costs are beyond its range."""
+    """The answer to the problem of so many pairs, an Answer or a Short: the library's, or by levels where costs are
+    beyond its range."""
     if served == 0 or not min(problem.n_rows, problem.n_columns):
         return proved.no_pairs(problem)
     if not problem.raw and not isinstance(problem.costs, list):
@@ -40,7 +41,8 @@ def prove_most(problem: Problem, served: int) -> None:
 def least_sum(problem: Problem, served: int) -> Optional[int]:
     """The least sum of so many pairs, whose costs are whole; None if the library proves that there are none."""
     answer = solved(problem, None, served)
-    return None if isinstance(answer, proved.HallSet) else sum(costs_of_pairs(problem, *proved.pairs_of(problem, answer)))
+    return None if isinstance(answer, proved.HallSet) else sum(costs_of_pairs(problem,
+                                                                              *proved.pairs_of(problem, answer)))
 
 
 class BestPlan(NamedTuple):
@@ -54,7 +56,8 @@ class BestPlan(NamedTuple):
 
 
 def best_plan(problem: Problem, fullest: bool = False) -> Optional[BestPlan]:
-    """A best plan of a problem whose costs are whole; if the library proves that there is none, the best of the fullest ones, or None."""
+    """A best plan of a problem whose costs are whole; if the library proves that there is none, the best of the fullest
+    ones, or None."""
     answer = solved(problem)
     if isinstance(answer, proved.HallSet):
         if not fullest:

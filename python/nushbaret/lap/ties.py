@@ -1,11 +1,13 @@
 """Matrices of doubles with many ties, where a level would leave most pairs.
 
-There costs are made whole numbers of one unit, exactly, and potentials are taken off them, so that the library can take what is left.
-Where the costs of each row are near to each other, the potentials are the rows' least costs, and one call solves the problem. Elsewhere
-they are near the duals of a first level, and what is left of the pairs that a best plan may have is small. All other pairs are made dear
-then: if a best plan has none of the dear ones, it is best among the plans that have none, and so among all.
+There costs are made whole numbers of one unit, exactly, and potentials are taken off them, so that the library can take
+what is left. Where the costs of each row are near to each other, the potentials are the rows' least costs, and one call
+solves the problem. Elsewhere they are near the duals of a first level, and what is left of the pairs that a best plan
+may have is small. All other pairs are made dear then: if a best plan has none of the dear ones, it is best among the
+plans that have none, and so among all.
 
-Whole numbers are added and subtracted here as those of 64 bits, which may wrap around: what is left in the end is small."""
+Whole numbers are added and subtracted here as those of 64 bits, which may wrap around: what is left in the end is
+small."""
 import math
 import operator
 import sys
@@ -26,7 +28,8 @@ _SHARE = 1 / 8
 _MOST_VALUES = 2**14
 # So few are counted by comparing each with all costs.
 _FEW_VALUES = 8
-# Into so many slots the way from the least to the greatest value is divided, so that most costs are found without a search.
+# Into so many slots the way from the least to the greatest value is divided, so that most costs are found without a
+# search.
 _SLOTS = 2**16
 _BITS = 64
 
@@ -44,8 +47,8 @@ class Matrix(NamedTuple):
 
 
 class Values(NamedTuple):
-    """Costs that are decimals, rising, and what each is in a unit, which is 1 / denominator, in 64 bits. A cost is mostly at the place
-    that `slots` has for its distance from the least one, times `scale`."""
+    """Costs that are decimals, rising, and what each is in a unit, which is 1 / denominator, in 64 bits. A cost is
+    mostly at the place that `slots` has for its distance from the least one, times `scale`."""
 
     costs: Any
     wholes: List[int]
@@ -58,7 +61,8 @@ class Values(NamedTuple):
 def of_problem(problem: Problem) -> Optional[Matrix]:
     """The matrix of a problem of doubles that has many ties; None elsewhere."""
     numpy = problem.numpy
-    if numpy is None or not problem.raw or problem.persons is not None or not len(problem.costs) or arrays.is_extreme(problem):
+    if (numpy is None or not problem.raw or problem.persons is not None or not len(problem.costs)
+        or arrays.is_extreme(problem)):
         return None
     costs = problem.costs.reshape(problem.n_rows, problem.n_columns)
     costs = costs.T if proved.is_turned(problem) else costs
@@ -84,7 +88,8 @@ def _solved(matrix: Matrix, left: Any) -> Optional[Any]:
 
 
 def _left_of_doubles(matrix: Matrix) -> Optional[Any]:
-    """By how much each cost is above the least of its row, as whole numbers of a power of two; None where that isn't exact."""
+    """By how much each cost is above the least of its row, as whole numbers of a power of two; None where that isn't
+    exact."""
     costs = matrix.costs
     least = costs.min(axis=1)
     most = float((costs.max(axis=1) - least).max())
@@ -109,7 +114,8 @@ def _put_whole(doubles: Any, power: int, whole: Any) -> bool:
 
 
 def _left_of_decimals(matrix: Matrix) -> Optional[Any]:
-    """By how much each cost is above the least of its row, as whole numbers of a decimal unit; None where that is too much."""
+    """By how much each cost is above the least of its row, as whole numbers of a decimal unit; None where that is too
+    much."""
     numpy, costs = matrix.numpy, matrix.costs
     least, most = costs.min(axis=1), costs.max(axis=1)
     values: Optional[Values] = _values_of(matrix, numpy.concatenate([_sample(matrix), least, most]))
@@ -123,7 +129,8 @@ def _left_of_decimals(matrix: Matrix) -> Optional[Any]:
 
 def _widest(numpy: Any, values: Values, least: Any, most: Any) -> int:
     """By how many units the greatest cost of a row is above its least one, at most."""
-    lowest, highest = ([values.wholes[place] for place in numpy.searchsorted(values.costs, costs).tolist()] for costs in (least, most))
+    lowest, highest = ([values.wholes[place] for place in numpy.searchsorted(values.costs, costs).tolist()]
+                       for costs in (least, most))
     most_apart: int = max(map(operator.sub, highest, lowest))
     return most_apart
 
@@ -164,8 +171,8 @@ def _values_of(matrix: Matrix, costs: Any) -> Values:
 
 
 def _slots_of(numpy: Any, costs: Any) -> Tuple[float, Any]:
-    """What distances from the least of some rising costs are multiplied by, and the place of a cost for each product, rounded down; None
-    for these where a search is to find all."""
+    """What distances from the least of some rising costs are multiplied by, and the place of a cost for each product,
+    rounded down; None for these where a search is to find all."""
     width = costs.item(-1) - costs.item(0)
     scale = (_SLOTS - 1) / width if len(costs) > _FEW_VALUES and width > _SLOTS * sys.float_info.min else math.inf
     if not 0 < scale < math.inf:
@@ -234,7 +241,8 @@ def after_level(matrix: Matrix, level: Level) -> Optional[Any]:
     asked, numpy = level.asked, matrix.numpy
     whole, denominator = _decimals(matrix) if matrix.printed else _doubles(matrix)
     n, m = matrix.costs.shape
-    if whole is None or len(asked.persons) or (2 * n + 8) * denominator > Fraction(2)**level.shift * (GREATEST_COST // 4):
+    if whole is None or len(asked.persons) or (2 * n
+                                               + 8) * denominator > Fraction(2)**level.shift * (GREATEST_COST // 4):
         return None
     unit = denominator / Fraction(2)**level.shift
     of_persons, of_objects = level.of_persons[1:], level.of_objects[1:]

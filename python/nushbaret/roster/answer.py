@@ -28,8 +28,9 @@ class Pair(NamedTuple):
 
 
 class ShortGroup(NamedTuple):
-    """Why there is no plan. Where `of_objects` is false these persons need `wanted` and can have no more than `had`, of these objects
-    alone; where it is true it is the other way round. `text` is the sentence that says so, where it isn't `sentence` that does."""
+    """Why there is no plan. Where `of_objects` is false these persons need `wanted` and can have no more than `had`, of
+    these objects alone; where it is true it is the other way round. `text` is the sentence that says so, where it isn't
+    `sentence` that does."""
 
     persons: List[int]
     objects: List[int]
@@ -40,11 +41,11 @@ class ShortGroup(NamedTuple):
 
 
 class NamedPlan(NamedTuple):
-    """Pairs in the order of the persons, their cost, who and what gets less than it should, and the rent of each object that isn't
-    fixed, where nobody counts several times. Costs and rents are in the roster's units. `is_only_one` says that no other plan is
-    as good; where others were asked for, `swaps` are the groups that could change places at no cost, and `next_cost` is that of the best
-    other plan, if it costs more. `following` are the next plans in order, as many as were asked for. Where changes are weighed nothing is
-    said of others."""
+    """Pairs in the order of the persons, their cost, who and what gets less than it should, and the rent of each object
+    that isn't fixed, where nobody counts several times. Costs and rents are in the roster's units. `is_only_one` says
+    that no other plan is as good; where others were asked for, `swaps` are the groups that could change places at no
+    cost, and `next_cost` is that of the best other plan, if it costs more. `following` are the next plans in order, as
+    many as were asked for. Where changes are weighed nothing is said of others."""
 
     pairs: List[Pair]
     cost: int
@@ -65,7 +66,8 @@ class Answer(NamedTuple):
 
 
 class Fair(NamedTuple):
-    """What --fair says: the dearest pair that isn't fixed, if any pair is needed, and the plan of the least cost, with its dearest pair."""
+    """What --fair says: the dearest pair that isn't fixed, if any pair is needed, and the plan of the least cost, with
+    its dearest pair."""
 
     pair: Optional[Pair]
     best: NamedPlan
@@ -73,9 +75,10 @@ class Fair(NamedTuple):
 
 
 class Request(NamedTuple):
-    """What is asked of a roster: pairs that stand, whatever they cost; the greatest cost, not the least; where there is no plan for all
-    the fullest one; the pairs of an earlier plan, from which as little is to change as can be at no cost, or where each pair that comes
-    and each that goes costs half of `change`; the best other plan, if it isn't as good; and so many plans in all, in order."""
+    """What is asked of a roster: pairs that stand, whatever they cost; the greatest cost, not the least; where there is
+    no plan for all the fullest one; the pairs of an earlier plan, from which as little is to change as can be at no
+    cost, or where each pair that comes and each that goes costs half of `change`; the best other plan, if it isn't as
+    good; and so many plans in all, in order."""
 
     fixed: Sequence[PlanLine] = ()
     maximize: bool = False
@@ -88,8 +91,9 @@ class Request(NamedTuple):
 
 def nodes_around(roster: Roster, fixed: Sequence[PlanLine]) -> RosterNodes:
     """What is left to solve around the fixed pairs."""
-    nodes = RosterNodes(list(range(len(roster.persons))), list(range(len(roster.objects))), roster.of_persons, roster.of_objects, roster.costs,
-                  Edges(roster.of_persons, roster.of_objects), roster.by_persons, roster.is_full)
+    nodes = RosterNodes(list(range(len(roster.persons))), list(range(len(roster.objects))), roster.of_persons,
+                        roster.of_objects, roster.costs, Edges(roster.of_persons, roster.of_objects), roster.by_persons,
+                        roster.is_full)
     return nodes_without(nodes, [(pair.person, pair.object) for pair in fixed]) if fixed else nodes
 
 
@@ -149,7 +153,8 @@ def shortages(nodes: RosterNodes, groups: Sequence[Tuple[List[int], List[int]]])
     return shorts
 
 
-def plan_of(roster: Roster, fixed: Sequence[PlanLine], chosen: List[Tuple[int, int]], rents: Dict[int, int]) -> NamedPlan:
+def plan_of(roster: Roster, fixed: Sequence[PlanLine], chosen: List[Tuple[int, int]],
+            rents: Dict[int, int]) -> NamedPlan:
     """A plan of the fixed pairs and of those chosen for the others."""
     costs = roster.costs_of(set(chosen))
     pairs = [Pair(pair.person, pair.object, pair.cost, True) for pair in fixed]
@@ -172,14 +177,17 @@ class Out(NamedTuple):
 
 
 def left_out(roster: Roster, plan: NamedPlan) -> List[Out]:
-    """Who gets less than it should, and what has places left, as far as there are any; with bounds what misses its least count, and who
-    and what is in no pair."""
+    """Who gets less than it should, and what has places left, as far as there are any; with bounds what misses its
+    least count, and who and what is in no pair."""
     had, used = Counter(pair.person for pair in plan.pairs), Counter(pair.object for pair in plan.pairs)
     by_bounds = roster.least is not None
-    without = [_part_of(roster.persons[number], had[number], 1 if by_bounds else roster.tasks_of(number)) for number in plan.without]
-    unused = [_part_of(roster.objects[number], used[number], 1 if by_bounds else roster.places_of(number)) for number in plan.unused]
-    outs = [Out("missing", side, [f"{missing.name}: {missing.had} of {missing.least}" for missing in missing_of(roster, plan.pairs)
-                                  if missing.side == side]) for side in (1, 0)]
+    without = [_part_of(roster.persons[number], had[number], 1 if by_bounds else roster.tasks_of(number))
+               for number in plan.without]
+    unused = [_part_of(roster.objects[number], used[number], 1 if by_bounds else roster.places_of(number))
+              for number in plan.unused]
+    outs = [Out("missing", side, [f"{missing.name}: {missing.had} of {missing.least}"
+                                  for missing in missing_of(roster, plan.pairs) if missing.side == side])
+            for side in (1, 0)]
     return [out for out in (*outs, Out("without", 0, without), Out("unused", 1, unused)) if out.names]
 
 
@@ -188,9 +196,10 @@ def _part_of(name: str, had: int, wanted: int) -> str:
 
 
 # Titles are in any language, so plurals are of these words alone.
-PLURALS = {"person": "people", **{word: word + "s" for word in (
-    "object", "pair", "nurse", "doctor", "worker", "driver", "teacher", "student", "volunteer", "vehicle", "shift", "job", "task", "place",
-    "day", "room", "course", "project", "seat")}}
+PLURALS = {"person": "people", **{word: word + "s" for word in ("object", "pair", "nurse", "doctor", "worker", "driver",
+                                                                "teacher", "student", "volunteer", "vehicle", "shift",
+                                                                "job", "task", "place", "day", "room", "course",
+                                                                "project", "seat")}}
 
 
 def counted(count: int, word: str) -> str:

@@ -15,8 +15,9 @@ BETWEEN = " -_/,.:"
 
 
 class Day(NamedTuple):
-    """A column: a group, or the objects in none, or a day of the week that no group has (then `has_objects` is false). `weekday` is
-    its day of the week, where the name doesn't say it. `when` is there where groups are dates. Nothing is planned in the past."""
+    """A column: a group, or the objects in none, or a day of the week that no group has (then `has_objects` is false).
+    `weekday` is its day of the week, where the name doesn't say it. `when` is there where groups are dates. Nothing is
+    planned in the past."""
 
     name: str
     group: Optional[int]
@@ -28,8 +29,8 @@ class Day(NamedTuple):
 
 
 class Entry(NamedTuple):
-    """An object that a person has on a day, by a name that leaves the day out; whether it was given, except by the past, and whether a kept
-    plan lacks it."""
+    """An object that a person has on a day, by a name that leaves the day out; whether it was given, except by the
+    past, and whether a kept plan lacks it."""
 
     label: str
     object: int
@@ -38,8 +39,8 @@ class Entry(NamedTuple):
 
 
 class Cell(NamedTuple):
-    """What a person has on a day; what it had there in a kept plan and has no more; and whether none of the day's objects is allowed to
-    it."""
+    """What a person has on a day; what it had there in a kept plan and has no more; and whether none of the day's
+    objects is allowed to it."""
 
     entries: List[Entry]
     gone: List[str]
@@ -76,8 +77,8 @@ class ObjectRow(NamedTuple):
 
 
 class Block(NamedTuple):
-    """Some days side by side: what they are called, if others stand elsewhere; the persons with their days; how many pairs each day
-    has; and the objects."""
+    """Some days side by side: what they are called, if others stand elsewhere; the persons with their days; how many
+    pairs each day has; and the objects."""
 
     caption: str
     days: List[Day]
@@ -91,8 +92,8 @@ Spot = Tuple[int, Optional[int]]
 
 
 class _Held(NamedTuple):
-    """What all blocks of a plan are made from: entries and what is gone by person and group, the persons and groups with an allowed pair,
-    who is at which object, what is missing there, and how many each person has."""
+    """What all blocks of a plan are made from: entries and what is gone by person and group, the persons and groups
+    with an allowed pair, who is at which object, what is missing there, and how many each person has."""
 
     entries: Dict[Spot, List[Entry]]
     gone: Dict[Spot, List[str]]
@@ -103,13 +104,15 @@ class _Held(NamedTuple):
 
 
 def blocks_of(roster: Roster, plan: NamedPlan, kept: Optional[OldPlan] = None) -> List[Block]:
-    """The blocks of a plan of a roster with groups: weeks from Monday where these are dates, else seven groups at a time."""
+    """The blocks of a plan of a roster with groups: weeks from Monday where these are dates, else seven groups at a
+    time."""
     if roster.groups is None:
         return []
     labels = labels_of(roster)
     held = _held(roster, plan, labels, kept)
     weeks = _weeks(roster, roster.groups)
-    return [_block(roster, labels, held, week, _caption(roster.groups, week) if len(weeks) > 1 else "") for week in weeks]
+    return [_block(roster, labels, held, week, _caption(roster.groups, week) if len(weeks) > 1 else "")
+            for week in weeks]
 
 
 def group_of(roster: Roster, object_: int) -> Optional[int]:
@@ -120,10 +123,12 @@ def group_of(roster: Roster, object_: int) -> Optional[int]:
 def _weeks(roster: Roster, groups: Groups) -> List[List[Day]]:
     """The columns of each block. Objects in no group come last."""
     dates, past = dates_of(groups.names).all, {groups.of_objects[object_] for object_ in roster.past}
-    rest = [Day("", None, "", False)] if any(object_ not in groups.of_objects for object_ in range(len(roster.objects))) else []
+    rest = [Day("", None, "", False)] if any(object_ not in groups.of_objects
+                                             for object_ in range(len(roster.objects))) else []
     if dates is not None:
         return _dated_weeks(groups, dates, past) + ([rest] if rest else [])
-    days = [Day(name, number, "", is_weekend_name(name), is_past=number in past) for number, name in enumerate(groups.names)] + rest
+    days = [Day(name, number, "", is_weekend_name(name), is_past=number in past)
+            for number, name in enumerate(groups.names)] + rest
     return [days[begin:begin + MOST_DAYS] for begin in range(0, len(days), MOST_DAYS)]
 
 
@@ -137,7 +142,8 @@ def _dated_weeks(groups: Groups, dates: Sequence[date], past: Set[int]) -> List[
     for monday in sorted(set(map(monday_of, dates))):
         week: List[Day] = []
         for day in (monday + timedelta(days=weekday) for weekday in weekdays):
-            week += [_day(day, groups.names[number], number, number in past) for number in of_dates.get(day, [])] or [_day(day, "", None, False)]
+            week += [_day(day, groups.names[number], number, number in past)
+                     for number in of_dates.get(day, [])] or [_day(day, "", None, False)]
         weeks.append(week)
     return weeks
 
@@ -186,7 +192,8 @@ def _held(roster: Roster, plan: NamedPlan, labels: List[str], kept: Optional[Old
         person, object_ = roster.persons[pair.person], roster.objects[pair.object]
         is_new = before is not None and (person, object_) not in before
         is_fixed = pair.fixed and pair.object not in roster.past
-        entries.setdefault((pair.person, group_of(roster, pair.object)), []).append(Entry(labels[pair.object], pair.object, is_fixed, is_new))
+        entries.setdefault((pair.person, group_of(roster, pair.object)),
+                           []).append(Entry(labels[pair.object], pair.object, is_fixed, is_new))
         who.setdefault(pair.object, []).append(person)
     missing = {one.number: (one.had, one.least) for one in missing_of(roster, plan.pairs) if one.side == 1}
     gone = {} if kept is None else _gone(roster, plan, labels, kept)

@@ -33,13 +33,14 @@ def answer_by_counts(roster: Roster, wish: Request) -> Answer:
     swaps = [Swap(those) for those in free_pairs(exchanges)]
     plan = plan._replace(swaps=swaps, is_only_one=not swaps)
     count = max(wish.plans - 1, int(wish.others and not swaps))
-    following = [plan_around(roster, wish.fixed, sorted(other.pairs)) for other in islice(plans_after(counted, pairs, bool(lacks)), count)]
+    following = [plan_around(roster, wish.fixed, sorted(other.pairs))
+                 for other in islice(plans_after(counted, pairs, bool(lacks)), count)]
     return Answer(with_following(plan, following, wish.others and not swaps), groups)
 
 
 def counted_of(roster: Roster, wish: Request) -> Counted:
-    """What is left to plan around the fixed pairs, with costs that are to be least. Where changes cost, these are doubled: half of what a
-    change costs is that of a pair that comes, and of one that goes."""
+    """What is left to plan around the fixed pairs, with costs that are to be least. Where changes cost, these are
+    doubled: half of what a change costs is that of a pair that comes, and of one that goes."""
     group_of, n_groups = _groups(roster)
     taken = {(pair.person, group_of[pair.object]) for pair in wish.fixed}
     sign = -1 if wish.maximize else 1
@@ -52,7 +53,8 @@ def counted_of(roster: Roster, wish: Request) -> Counted:
             columns.append(object_)
             costs.append(sign * cost)
     if wish.kept is not None and wish.change:
-        costs = [2 * cost + (-wish.change if pair in wish.kept else wish.change) for cost, pair in zip(costs, zip(rows, columns))]
+        costs = [2 * cost + (-wish.change if pair in wish.kept else wish.change)
+                 for cost, pair in zip(costs, zip(rows, columns))]
     return Counted(*bounds_around(roster, wish.fixed), group_of, n_groups, rows, columns, costs)
 
 
@@ -66,14 +68,16 @@ def _groups(roster: Roster) -> Tuple[List[int], int]:
 
 
 def bounds_around(roster: Roster, fixed: Sequence[PlanLine]) -> Tuple[List[Bounds], List[Bounds]]:
-    """How many each person and each object takes in addition to fixed pairs, in the past none. With single numbers the smaller side takes
-    all."""
+    """How many each person and each object takes in addition to fixed pairs, in the past none. With single numbers the
+    smaller side takes all."""
     had, used = Counter(pair.person for pair in fixed), Counter(pair.object for pair in fixed)
     tasks = [roster.tasks_of(person) - had[person] for person in range(len(roster.persons))]
-    places = [0 if object_ in roster.past else roster.places_of(object_) - used[object_] for object_ in range(len(roster.objects))]
+    places = [0 if object_ in roster.past else roster.places_of(object_) - used[object_]
+              for object_ in range(len(roster.objects))]
     if roster.least is None:
         all_served = sum(tasks) <= sum(places)
-        return ([Bounds(most if all_served else 0, most) for most in tasks], [Bounds(0 if all_served else most, most) for most in places])
+        return ([Bounds(most if all_served else 0, most) for most in tasks],
+                [Bounds(0 if all_served else most, most) for most in places])
     of_persons, of_objects = roster.least
     return ([Bounds(max(0, of_persons.get(person, 0) - had[person]), most) for person, most in enumerate(tasks)],
             [Bounds(max(0, of_objects.get(object_, 0) - used[object_]), most) for object_, most in enumerate(places)])
@@ -93,7 +97,8 @@ def _short(roster: Roster, counted: Counted, lack: Lack, around: str) -> ShortGr
     objects = set(lack.columns)
     if not lack.of_columns:
         objects.update(column for row_group, column in zip(counted.row_groups(), counted.columns) if row_group in once)
-    return ShortGroup(persons, sorted(objects), lack.of_columns, lack.wanted, lack.had, around + sentence_of(roster, counted, lack))
+    return ShortGroup(persons, sorted(objects), lack.of_columns, lack.wanted, lack.had,
+                      around + sentence_of(roster, counted, lack))
 
 
 def plan_around(roster: Roster, fixed: Sequence[PlanLine], chosen: Sequence[Tuple[int, int]]) -> NamedPlan:
@@ -112,7 +117,8 @@ def plan_around(roster: Roster, fixed: Sequence[PlanLine], chosen: Sequence[Tupl
 
 
 def _wanted(roster: Roster, most: int, least: int) -> int:
-    """How many a name has that isn't left out. With bounds one is enough, and what misses its least count is missing."""
+    """How many a name has that isn't left out. With bounds one is enough, and what misses its least count is
+    missing."""
     if roster.least is None:
         return most
     return min(most, 1) if least == 0 else 0

@@ -12,7 +12,8 @@ from .rule_even import even_counted, even_rules, start_of
 from .rule_file import Rules
 
 BEST, WITHIN, IMPOSSIBLE, UNDECIDED = "best", "within", "impossible", "undecided"
-# What is said while something is found: the goal, what is being done, the cost of the best plan, and what no plan costs less than.
+# What is said while something is found: the goal, what is being done, the cost of the best plan, and what no plan costs
+# less than.
 Progress = Callable[[str, str, Optional[int], Optional[int]], None]
 # The share of the time that a stage before the costs gets, and that is left for one after them.
 SHARE = 0.25
@@ -50,11 +51,12 @@ class Evenness(NamedTuple):
 class Proved(NamedTuple):
     """What was proved of an answer.
 
-    `kind` is that of the costs; `better` is by how much another plan may be better at most, None where nothing is known; `with_changes`
-    is the cost with what changes cost, where they do. `reasons` can't hold together; `is_minimal` says that none can be left out.
-    `missing` is by how many least counts are missed, and `least_missing` that no plan misses less. `even` says how even counts are,
-    `is_most_even` that no plan is more even, and `otherwise` what a plan without the rules of evenness would cost. `fewer_changes` says
-    that fewer changes may be enough. Costs are in units of the roster, those with changes in halves.
+    `kind` is that of the costs; `better` is by how much another plan may be better at most, None where nothing is
+    known; `with_changes` is the cost with what changes cost, where they do. `reasons` can't hold together; `is_minimal`
+    says that none can be left out. `missing` is by how many least counts are missed, and `least_missing` that no plan
+    misses less. `even` says how even counts are, `is_most_even` that no plan is more even, and `otherwise` what a plan
+    without the rules of evenness would cost. `fewer_changes` says that fewer changes may be enough. Costs are in units
+    of the roster, those with changes in halves.
     """
 
     kind: str
@@ -88,8 +90,9 @@ def answer_by_rules(task: Task) -> Tuple[Answer, Proved]:
     stages = _Stages(task, end)
     finding = stages.costs()
     if finding.kind == IMPOSSIBLE:
-        proved = Proved(IMPOSSIBLE, task.seconds, reasons=_reasons(stages.built, finding.reasons), is_minimal=finding.is_minimal,
-                        is_around_past=_is_around_past(task), certificate=finding.certificate)
+        proved = Proved(IMPOSSIBLE, task.seconds, reasons=_reasons(stages.built, finding.reasons),
+                        is_minimal=finding.is_minimal, is_around_past=_is_around_past(task),
+                        certificate=finding.certificate)
         return _fullest(task, proved, end) if task.wish.fullest else (Answer(None, []), proved)
     if finding.plan is None:
         return Answer(None, []), Proved(UNDECIDED, task.seconds, certificate=finding.certificate)
@@ -101,7 +104,8 @@ def _is_around_past(task: Task) -> bool:
 
 
 def _fullest(task: Task, why: Proved, end: float) -> Tuple[Answer, Proved]:
-    """The plan that misses as few least counts as can be, and costs the least then, or is as good as was found until the end."""
+    """The plan that misses as few least counts as can be, and costs the least then, or is as good as was found until
+    the end."""
     stages = _Stages(task, end, True)
     finding = stages.costs()
     if finding.plan is None:
@@ -124,8 +128,8 @@ def _reasons(found: Built, texts: Sequence[str]) -> List[Reason]:
 
 
 class _Stages:
-    """One goal after the other: what is missing, evenness rule by rule, costs, changes. What one has reached bounds the next. All ends at a
-    time of the monotonic clock."""
+    """One goal after the other: what is missing, evenness rule by rule, costs, changes. What one has reached bounds the
+    next. All ends at a time of the monotonic clock."""
 
     def __init__(self, task: Task, end: float, may_miss: bool = False, is_even: bool = True):
         self.task, self._end, self._may_miss = task, end, may_miss
@@ -139,7 +143,8 @@ class _Stages:
 
     def _build(self, is_measured: bool) -> Built:
         task = self.task
-        return built(task.roster, task.rules, task.month, task.wish, task.own, self._may_miss, self._spreads, is_measured)
+        return built(task.roster, task.rules, task.month, task.wish, task.own, self._may_miss, self._spreads,
+                     is_measured)
 
     def _left(self, share: float = 1.0) -> float:
         """A share of the time that is left."""
@@ -171,7 +176,8 @@ class _Stages:
         return costs
 
     def costs(self) -> Finding:
-        """The plan of least cost, of those that miss the least and are the most even; or why an earlier goal has none."""
+        """The plan of least cost, of those that miss the least and are the most even; or why an earlier goal has
+        none."""
         if self.built.missing:
             self._missing = self._find(MISSING, self._weighed(self.built.missing), self._left(SHARE))
             if self._missing.plan is None:
@@ -218,8 +224,8 @@ class _Stages:
                         missing=0 if missing is None or missing.cost is None else missing.cost,
                         least_missing=None if missing is None else missing.bound,
                         is_most_even=all(reached.kind == BEST for reached in self._reached),
-                        even=self._even(plan) if self.is_even else (), fewer_changes=changed is not finding and changed.kind != BEST,
-                        certificate=finding.certificate)
+                        even=self._even(plan) if self.is_even else (),
+                        fewer_changes=changed is not finding and changed.kind != BEST, certificate=finding.certificate)
         return Answer(plan, []), self._with_otherwise(proved)
 
     def _plan(self, values: Sequence[int]) -> NamedPlan:
@@ -240,7 +246,8 @@ class _Stages:
         """What a plan costs with its changes, in halves: a kept pair that goes costs too."""
         kept = self.task.wish.kept or set()
         still = sum(pair in kept for pair in self.built.pairs)
-        return (-1 if self.task.wish.maximize else 1) * (cost + still * (self.task.wish.change or 0) + 2 * self._past_cost())
+        return (-1 if self.task.wish.maximize else 1) * (cost + still * (self.task.wish.change or 0)
+                                                         + 2 * self._past_cost())
 
     def _past_cost(self) -> int:
         sign = -1 if self.task.wish.maximize else 1
@@ -265,7 +272,8 @@ class _Stages:
         if not self.is_even:
             return proved
         task = self.task
-        other = _Stages(task._replace(wish=task.wish._replace(kept=None, change=None)), self._end, self._may_miss, False)
+        other = _Stages(task._replace(wish=task.wish._replace(kept=None, change=None)), self._end, self._may_miss,
+                        False)
         finding = other.costs()
         if finding.plan is None:
             return proved._replace(otherwise=Proved(UNDECIDED, task.seconds))

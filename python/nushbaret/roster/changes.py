@@ -19,8 +19,8 @@ class Lost(NamedTuple):
 
 
 class Changes(NamedTuple):
-    """The pairs that an earlier plan doesn't have, those that it has and could still be, and those that can't be any more, which count as
-    no changes."""
+    """The pairs that an earlier plan doesn't have, those that it has and could still be, and those that can't be any
+    more, which count as no changes."""
 
     comes: List[Pair]
     goes: List[PlanLine]

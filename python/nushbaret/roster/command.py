@@ -1,8 +1,8 @@
 """The command: a roster of names in a CSV file, and its plan.
 
-Status 0: a plan; 1: there is none; 2: the words are refused; 3: something is wrong in a roster, a plan or a list of counts; 4: a file
-can't be read or written, an output exists, the library isn't there, memory was refused, or nushbaret itself failed; 6: not decided in
-time; 130: Ctrl-C.
+Status 0: a plan; 1: there is none; 2: the words are refused; 3: something is wrong in a roster, a plan or a list of
+counts; 4: a file can't be read or written, an output exists, the library isn't there, memory was refused, or nushbaret
+itself failed; 6: not decided in time; 130: Ctrl-C.
 """
 import contextlib
 import io
@@ -45,8 +45,8 @@ def main(words: Optional[Sequence[str]] = None) -> int:
     Returns
     -------
     int
-        The status, 0 to 4 or 6, or 130 after Ctrl-C. Words that are refused, and `--help`, end by `SystemExit` with status 2 and 0. A fault of
-        nushbaret itself is raised where NUSHBARET_DEBUG is set.
+        The status, 0 to 4 or 6, or 130 after Ctrl-C. Words that are refused, and `--help`, end by `SystemExit` with
+        status 2 and 0. A fault of nushbaret itself is raised where NUSHBARET_DEBUG is set.
     """
     for stream in (sys.stdout, sys.stderr):
         if isinstance(stream, io.TextIOWrapper):
@@ -106,7 +106,8 @@ def _run(options: Options) -> int:
             _say(gone_line(plan, report.roster))
     lines = list(map(without_marks, first_lines(report)))
     is_content = _write(report, lines)
-    skipped = [f"{output.path} isn't written: there is no plan" for output in options.outputs if not _is_written(output, answer, options)]
+    skipped = [f"{output.path} isn't written: there is no plan" for output in options.outputs
+               if not _is_written(output, answer, options)]
     skipped += _lines_on_each(report)
     if options.certificate is not None and (report.proved is None or report.proved.certificate is None):
         skipped.append(f"{options.certificate} isn't written: nothing was proved")
@@ -133,7 +134,8 @@ def _report(options: Options, roster: Roster) -> Report:
     ruling = _read_rules(options, roster)
     hand = _read_hand(options.compare, roster, fixed, ruling) if options.compare else None
     pairs = None if kept is None else {(pair.person, pair.object) for pair in kept.known}
-    wish = Request(fixed, options.max, options.as_many_as_can, pairs, change_cost(options, roster), options.others, options.plans)
+    wish = Request(fixed, options.max, options.as_many_as_can, pairs, change_cost(options, roster), options.others,
+                   options.plans)
     fair: Optional[Fair] = None
     proved: Optional["Proved"] = None
     try:
@@ -169,7 +171,8 @@ def _read_hand(path: str, roster: Roster, fixed: List[PlanLine], ruling: Optiona
     return Hand(plan, broken, lack_of(roster, plan.known, fixed))
 
 
-def _read_past(options: Options, roster: Roster, kept: Optional[OldPlan]) -> Tuple[Roster, Optional[OldPlan], Optional["Past"]]:
+def _read_past(options: Options, roster: Roster, kept: Optional[OldPlan]) -> Tuple[Roster, Optional[OldPlan],
+                                                                                   Optional["Past"]]:
     """The roster and the kept plan with what is past, if any is."""
     if options.past is None or kept is None or roster.groups is None:
         return roster, kept, None
@@ -181,7 +184,8 @@ def _read_past(options: Options, roster: Roster, kept: Optional[OldPlan]) -> Tup
 
 
 def _answered(roster: Roster, wish: Request, is_fair: bool) -> Tuple[Answer, Optional[Fair]]:
-    """The answer, and what is to be said of a fair one. What few rosters need is imported here: loading takes a small one's time."""
+    """The answer, and what is to be said of a fair one. What few rosters need is imported here: loading takes a small
+    one's time."""
     solve = answer_of
     if roster.ruled:
         from .by_counts import answer_by_counts
@@ -193,17 +197,21 @@ def _answered(roster: Roster, wish: Request, is_fair: bool) -> Tuple[Answer, Opt
 
 
 def _read(options: Options) -> Roster:
-    """The roster, with how many each name takes. What is said of it is also said where its counts or groups are refused."""
-    roster = read_roster(options.roster, options.form, options.decimals, options.decimal_comma, options.round, options.sheet,
-                         options.skip_rows, Reading(options.encoding, _say))
+    """The roster, with how many each name takes. What is said of it is also said where its counts or groups are
+    refused."""
+    roster = read_roster(options.roster, options.form, options.decimals, options.decimal_comma, options.round,
+                         options.sheet, options.skip_rows, Reading(options.encoding, _say))
     forgotten: List[Optional[str]] = []
     try:
         tasks = read_counts(options.tasks, roster, False) if options.tasks else None
         places = read_counts(options.places, roster, True) if options.places else None
-        roster = with_rules(roster, tasks, places, read_groups(options.groups, roster, options.before is not None) if options.groups else None)
-        forgotten = [forgotten_line(roster, counts, side) for side, counts in ((1, places), (0, tasks)) if counts is not None]
+        roster = with_rules(roster, tasks, places, read_groups(options.groups, roster, options.before is not None)
+                            if options.groups else None)
+        forgotten = [forgotten_line(roster, counts, side) for side, counts in ((1, places), (0, tasks))
+                     if counts is not None]
     finally:
-        for line in [*read_lines(options.roster, roster, sys.stderr is not None and sys.stderr.isatty()), *filter(None, forgotten)]:
+        for line in [*read_lines(options.roster, roster, sys.stderr is not None and sys.stderr.isatty()),
+                     *filter(None, forgotten)]:
             _say(line)
     return roster
 
@@ -234,7 +242,8 @@ def change_cost(options: Options, roster: Roster) -> Optional[int]:
     if len(part) > roster.decimals:
         word = "--round" if options.round is not None else "--decimals"
         hint = f": {word} {len(part)} allows it" if len(part) <= MOST_PLACES else ""
-        raise RosterFault("--change-cost", f"{quoted(text)} has more decimal places than the roster's {roster.decimals}{hint}")
+        raise RosterFault("--change-cost", f"{quoted(text)} has more decimal places than the roster's "
+                          f"{roster.decimals}{hint}")
     return int(found[1] + part.ljust(roster.decimals, "0"))
 
 
@@ -247,7 +256,8 @@ def _write(report: Report, lines: List[str]) -> bool:
     """Writes the outputs, the files first. Whether standard output got one."""
     options = report.options
     outputs = [*options.outputs, *([Output(STANDARD_OUTPUT[0], options.print)] if options.print else [])]
-    contents = [(output, content_of(report, lines, output)) for output in outputs if _is_written(output, report.answer, options)]
+    contents = [(output, content_of(report, lines, output)) for output in outputs
+                if _is_written(output, report.answer, options)]
     files = [(output.path, content) for output, content in contents if not output.is_standard]
     if report.proved is not None and report.proved.certificate is not None and options.certificate is not None:
         from ..rows.certificates import certificate_text
@@ -282,12 +292,14 @@ def _lines_on_each(report: Report) -> List[str]:
     if folder is None:
         return []
     from .output.each import lines_on_calendars
-    return [f"{folder}: nothing is written: there is no plan"] if plan is None else lines_on_calendars(report.roster, plan, folder)
+    return [f"{folder}: nothing is written: there is no plan"] if plan is None else lines_on_calendars(report.roster,
+                                                                                                       plan, folder)
 
 
 def title_of(options: Options, output: Output) -> str:
     """The title of a page: its file's name without its end; of a page on a device or a pipe that of the roster."""
-    return heading_of(options.roster) if output.is_standard or is_device(output.path) else os.path.splitext(os.path.basename(output.path))[0]
+    return (heading_of(options.roster) if output.is_standard or is_device(output.path)
+            else os.path.splitext(os.path.basename(output.path))[0])
 
 
 def content_of(report: Report, lines: List[str], output: Output) -> bytes:

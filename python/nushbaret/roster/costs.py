@@ -40,13 +40,15 @@ class CostColumn:
         self._greatest, self._greatest_place = 0, [0, 0]
 
     def take_all(self, cells: Sequence[str], lines: Iterable[int], columns: Iterable[int]) -> None:
-        """Takes many cells: in one go where all are plain numbers, and else one by one, up to the first that is refused."""
+        """Takes many cells: in one go where all are plain numbers, and else one by one, up to the first that is
+        refused."""
         if cells and not self.take_plain(cells, lines, columns):
             for cell, line, column in zip(cells, lines, columns):
                 self.take(cell.strip(), line, column)
 
     def take_plain(self, cells: Sequence[str], lines: Iterable[int], columns: Iterable[int]) -> bool:
-        """Takes cells that are digits with at most a sign and a point, none out of range or with too many places. Otherwise takes none."""
+        """Takes cells that are digits with at most a sign and a point, none out of range or with too many places.
+        Otherwise takes none."""
         try:
             places, numbers = self._plain_numbers(cells)
         except ValueError:

@@ -26,7 +26,8 @@ DATE = re.compile(
 
 
 class _Written(NamedTuple):
-    """A name read as a date: its month and day, its year where it has one, and the days of the week that its word may mean."""
+    """A name read as a date: its month and day, its year where it has one, and the days of the week that its word may
+    mean."""
 
     name: str
     year: Optional[int]
@@ -64,7 +65,8 @@ def has_weekday(name: str) -> bool:
 
 
 def dates_of(names: Sequence[str]) -> Dates:
-    """The dates of names, if each is one and any has a year. A name without one has the year in which it is nearest to a date with one."""
+    """The dates of names, if each is one and any has a year. A name without one has the year in which it is nearest to
+    a date with one."""
     written: List[_Written] = []
     for name in names:
         found = _written(name)
@@ -101,7 +103,8 @@ def _written(name: str) -> Optional[_Written]:
         return None
     year = found["year"] or found["own_year"]
     month, day = int(found["month"] or found["own_month"]), int(found["day"] or found["own_day"])
-    return _Written(name, int(year) if year else None, month, day, frozenset.intersection(*weekdays) if weekdays else frozenset())
+    return _Written(name, int(year) if year else None, month, day,
+                    frozenset.intersection(*weekdays) if weekdays else frozenset())
 
 
 def _dated(own: _Written, year: Optional[int] = None) -> Optional[date]:
@@ -114,7 +117,8 @@ def _dated(own: _Written, year: Optional[int] = None) -> Optional[date]:
 
 
 def _nearest(own: _Written, anchors: Sequence[date]) -> Optional[date]:
-    """The date in that year in which it is nearest to one of some others, which rise, at most half a year away; of two the earlier."""
+    """The date in that year in which it is nearest to one of some others, which rise, at most half a year away; of two
+    the earlier."""
     years = sorted({year for anchor in anchors for year in (anchor.year - 1, anchor.year, anchor.year + 1)})
     found = [(_apart(one, anchors), one) for one in (_dated(own, year) for year in years) if one is not None]
     return min(((apart, one) for apart, one in found if apart <= HALF_A_YEAR), default=(None, None))[1]
@@ -138,10 +142,12 @@ def order_by_date(names: Sequence[str]) -> List[int]:
 
 
 def spellings(name: str) -> Tuple[str, ...]:
-    """All common ways to write a name that is a date with a year alone, first as date cells are read; of any other name itself."""
+    """All common ways to write a name that is a date with a year alone, first as date cells are read; of any other name
+    itself."""
     written = None if any(map(str.isalpha, name)) else _written(name)
     day = None if written is None else _dated(written)
     if day is None:
         return (name,)
     days, months = (dict.fromkeys((f"{number:02}", str(number))) for number in (day.day, day.month))
-    return tuple(dict.fromkeys((day.isoformat(), *(f"{one}.{other}.{day.year:04}" for one in days for other in months), name)))
+    return tuple(dict.fromkeys((day.isoformat(), *(f"{one}.{other}.{day.year:04}" for one in days for other in months),
+                                name)))

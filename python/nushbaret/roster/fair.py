@@ -11,8 +11,8 @@ Solve = Callable[[Roster, Request], Answer]
 
 
 def fair_answer(roster: Roster, wish: Request, solve: Solve) -> Tuple[Answer, Optional[Fair]]:
-    """The plan of the least cost among those whose dearest pair, of those that aren't fixed, is as cheap as possible; and what is to be
-    said of it. Without a plan, or with fixed pairs alone, there is nothing to be said.
+    """The plan of the least cost among those whose dearest pair, of those that aren't fixed, is as cheap as possible;
+    and what is to be said of it. Without a plan, or with fixed pairs alone, there is nothing to be said.
 
     A bound on costs that leaves plans as full as before is looked for by halving."""
     best = solve(roster, wish._replace(kept=None))
@@ -35,7 +35,8 @@ def fair_answer(roster: Roster, wish: Request, solve: Solve) -> Tuple[Answer, Op
 
 
 def _dearest(plan: Optional[NamedPlan], wish: Request) -> Optional[Pair]:
-    """The dearest pair of a plan that isn't fixed, the first of several; with the greatest cost in demand, the cheapest."""
+    """The dearest pair of a plan that isn't fixed, the first of several; with the greatest cost in demand, the
+    cheapest."""
     pairs = [] if plan is None else [pair for pair in plan.pairs if not pair.fixed]
     if not pairs:
         return None

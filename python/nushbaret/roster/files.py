@@ -43,7 +43,8 @@ def make_folder(path: str) -> None:
     try:
         os.makedirs(path, exist_ok=True)
     except OSError as fault:
-        raise OutputFault(f"{path}: {'no folder' if isinstance(fault, (FileExistsError, NotADirectoryError)) else fault.strerror or fault}") from fault
+        is_file = isinstance(fault, (FileExistsError, NotADirectoryError))
+        raise OutputFault(f"{path}: {'no folder' if is_file else fault.strerror or fault}") from fault
 
 
 def write_files(contents: Sequence[Tuple[str, bytes]], force: bool) -> None:
@@ -126,8 +127,8 @@ def _mode_of(place: str) -> int:
 
 
 def print_content(content: Union[str, bytes]) -> None:
-    """Writes to standard output, or raises what the stream says. A broken stream is replaced, so that the end of the program prints
-    nothing more."""
+    """Writes to standard output, or raises what the stream says. A broken stream is replaced, so that the end of the
+    program prints nothing more."""
     if sys.stdout is None:
         raise OutputFault("standard output is closed")
     try:

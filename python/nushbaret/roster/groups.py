@@ -21,11 +21,12 @@ class Counts(NamedTuple):
 
 
 def read_counts(path: str, roster: Roster, of_objects: bool) -> Counts:
-    """Reads how many each object, or each person, takes: a title line, and lines of a name and one whole number, or two: at least and at
-    most. Of two, where both have a title, either may be left empty: then there is no least or no greatest number.
+    """Reads how many each object, or each person, takes: a title line, and lines of a name and one whole number, or
+    two: at least and at most. Of two, where both have a title, either may be left empty: then there is no least or no
+    greatest number.
 
-    Raises `RosterFault` for the first name that the roster doesn't have or that stands twice, number that is none from 0 to 4194304, or least
-    number that is greater than the most.
+    Raises `RosterFault` for the first name that the roster doesn't have or that stands twice, number that is none from
+    0 to 4194304, or least number that is greater than the most.
     """
     sheet = Sheet(path, reading=roster.reading)
     line, title = sheet.title()
@@ -46,7 +47,8 @@ def read_counts(path: str, roster: Roster, of_objects: bool) -> Counts:
 
 
 def _lines(sheet: Sheet, width: int) -> Iterator[Tuple[int, List[str]]]:
-    """The lines after the title, each with a name and one number or two. An empty cell below a third title is an empty number."""
+    """The lines after the title, each with a name and one number or two. An empty cell below a third title is an empty
+    number."""
     records = sheet.records()
     next(records)
     for line, cells in records:
@@ -79,8 +81,9 @@ KIND = "kind"
 
 
 def read_groups(path: str, roster: Roster, has_earlier: bool = False) -> Groups:
-    """Reads groups of objects of which nobody takes two: a title line, and lines of an object and its group; maybe with columns of times,
-    and one of kinds. With `has_earlier` objects that the roster doesn't have are those of earlier days.
+    """Reads groups of objects of which nobody takes two: a title line, and lines of an object and its group; maybe with
+    columns of times, and one of kinds. With `has_earlier` objects that the roster doesn't have are those of earlier
+    days.
 
     Raises `RosterFault` for the first object that the roster doesn't have or that stands twice, or time that is none.
     """
@@ -131,7 +134,8 @@ class _Groups:
 
     def _rest(self, line: int, cells: List[str]) -> Tuple[str, str, Optional[Times]]:
         """The group, the kind and the times of a line."""
-        kind = "" if self._kind is None or not cells[self._kind] else self._sheet.name(cells[self._kind], line, self._kind + 1)
+        kind = "" if self._kind is None or not cells[self._kind] else self._sheet.name(cells[self._kind], line,
+                                                                                       self._kind + 1)
         times = times_of(self._sheet, cells, self._columns, line) if self._columns else None
         return self._sheet.name(cells[1], line, 2), kind, times
 
@@ -151,9 +155,10 @@ def _column_of_kinds(sheet: Sheet, title: Sequence[str], line: int) -> Optional[
 
 
 def with_rules(roster: Roster, tasks: Optional[Counts], places: Optional[Counts], groups: Optional[Groups]) -> Roster:
-    """The roster with counts and groups. Where any line has two numbers bounds alone decide: then an object without a line takes exactly
-    one, and a person at most one."""
-    most = [None if counts is None else {number: bound.most for number, bound in counts.bounds.items()} for counts in (tasks, places)]
+    """The roster with counts and groups. Where any line has two numbers bounds alone decide: then an object without a
+    line takes exactly one, and a person at most one."""
+    most = [None if counts is None else {number: bound.most for number, bound in counts.bounds.items()}
+            for counts in (tasks, places)]
     least = None
     if any(counts is not None and counts.are_ranges for counts in (tasks, places)):
         of_persons, of_objects = ({number: bound.least for number, bound in counts.bounds.items()} if counts else {}
@@ -181,8 +186,9 @@ def refuse_two_of_a_group(path: str, roster: Roster, pairs: Sequence[PlanLine]) 
         group = groups.of_objects.get(pair.object)
         before = None if group is None else first.setdefault((pair.person, group), pair)
         if group is not None and before is not None and before is not pair:
-            raise RosterFault(path, f"{roster.persons[pair.person]} has {roster.objects[pair.object]} and, in {unit_of(path)} {before.line}, "
-                              f"{roster.objects[before.object]}: two of {groups.title} {groups.names[group]}", pair.line)
+            raise RosterFault(path, f"{roster.persons[pair.person]} has {roster.objects[pair.object]} and, in "
+                              f"{unit_of(path)} {before.line}, {roster.objects[before.object]}: two of {groups.title} "
+                              f"{groups.names[group]}", pair.line)
 
 
 class Paired(Protocol):
@@ -198,7 +204,8 @@ class Paired(Protocol):
 def order_of(roster: Roster) -> List[int]:
     """A rank for each object: by groups and objects in the order of their file, then those in none."""
     held = {} if roster.groups is None else roster.groups.of_objects
-    order = sorted(held, key=held.__getitem__) + [object_ for object_ in range(len(roster.objects)) if object_ not in held]
+    order = sorted(held, key=held.__getitem__) + [object_ for object_ in range(len(roster.objects))
+                                                  if object_ not in held]
     ranks = [0] * len(order)
     for rank, object_ in enumerate(order):
         ranks[object_] = rank

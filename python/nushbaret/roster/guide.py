@@ -19,5 +19,6 @@ def guide() -> str:
 
 
 def _shown(texts: List[pathlib.Path], page: pathlib.Path, examples: pathlib.Path) -> str:
-    lines = [*(text.read_text(encoding="utf-8") for text in texts), f"This guide as a page: {page}", f"The examples in it: {examples}", ""]
+    lines = [*(text.read_text(encoding="utf-8") for text in texts), f"This guide as a page: {page}",
+             f"The examples in it: {examples}", ""]
     return "\n".join(lines)

@@ -1,4 +1,5 @@
-"""The calendar of a roster with rules: which day and kind each object has, weeks, weekends, and what was worked before the first day."""
+"""The calendar of a roster with rules: which day and kind each object has, weeks, weekends, and what was worked before
+the first day."""
 from datetime import date
 from typing import Dict, FrozenSet, List, NamedTuple, Optional, Sequence, Set, Tuple
 
@@ -30,8 +31,9 @@ class Week(NamedTuple):
 class Month(NamedTuple):
     """The days of a plan, by number: ordinals of dates, or the places of groups in their file.
 
-    `shifts` has the day and the kind of each object that is in a group. The plan goes from the day `begin` to `last`; days before it are
-    known from `known` on. Before the day `start` nothing is planned. `worked` has the kinds that a person had on days before `begin`.
+    `shifts` has the day and the kind of each object that is in a group. The plan goes from the day `begin` to `last`;
+    days before it are known from `known` on. Before the day `start` nothing is planned. `worked` has the kinds that a
+    person had on days before `begin`.
     """
 
     shifts: Dict[int, Shift]
@@ -59,7 +61,8 @@ class Month(NamedTuple):
         return day < self.start
 
     def is_weekend(self, day: int) -> bool:
-        """Whether a day is a Saturday, a Sunday or a holiday. Days without dates or words for days of the week are seven to a week."""
+        """Whether a day is a Saturday, a Sunday or a holiday. Days without dates or words for days of the week are
+        seven to a week."""
         if day in self.holidays:
             return True
         if self.are_dates:
@@ -81,7 +84,8 @@ class Month(NamedTuple):
 
     @property
     def weeks(self) -> List[Week]:
-        """The weeks with a day of the plan: from Monday where days are dates, and else seven days from the first one."""
+        """The weeks with a day of the plan: from Monday where days are dates, and else seven days from the first
+        one."""
         # The ordinal 1 is a Monday.
         shift = -1 if self.are_dates else 0
         days: Dict[int, List[int]] = {}
@@ -149,8 +153,10 @@ def _earlier_shifts(groups: Groups, days: Sequence[int], begin: int, path: str) 
     of_names = dict(zip(_earlier_names(groups), days))
     for one in groups.earlier:
         if of_names[one.group] >= begin or one.group in groups.names:
-            raise RosterFault(path, f"the roster has no object {quoted(one.name)}, and {one.group} isn't before its first day", one.line, 1)
-    return {one.name: Shift(of_names[one.group], one.kind or _label_of(one, groups), one.times) for one in groups.earlier}
+            raise RosterFault(path, f"the roster has no object {quoted(one.name)}, and {one.group} isn't before its "
+                              "first day", one.line, 1)
+    return {one.name: Shift(of_names[one.group], one.kind or _label_of(one, groups), one.times)
+            for one in groups.earlier}
 
 
 def _label_of(one: Earlier, groups: Groups) -> str:
@@ -163,7 +169,8 @@ def _worked(roster: Roster, before: Before, earlier: Dict[str, Shift]) -> Dict[T
     worked: Dict[Tuple[int, int], List[Shift]] = {}
     for person, object_, line in before.pairs:
         if object_ in roster.object_numbers:
-            raise RosterFault(before.path, f"{quoted(object_)} is planned now: a plan of earlier days is needed", line, 2)
+            raise RosterFault(before.path, f"{quoted(object_)} is planned now: a plan of earlier days is needed", line,
+                              2)
         number, shift = roster.person_numbers.get(person), earlier.get(object_)
         if number is not None and shift is not None:
             worked.setdefault((number, shift.day), []).append(shift)

@@ -45,14 +45,16 @@ def joined(names: Sequence[str]) -> str:
 
 
 class NamesShown:
-    """The names that a sentence shows: persons and objects share eight, and each side may have four at least. Each is to be asked for once."""
+    """The names that a sentence shows: persons and objects share eight, and each side may have four at least. Each is
+    to be asked for once."""
 
     def __init__(self, persons: int, objects: int):
         of_objects = min(objects, max(MOST_NAMES // 2, MOST_NAMES - persons))
         self._left = [min(persons, MOST_NAMES - of_objects), of_objects]
 
     def listed(self, side: int, names: Sequence[str]) -> str:
-        """Names of persons (side 0) or of objects (side 1) in a row, the last of many as their number; nothing where none may be shown."""
+        """Names of persons (side 0) or of objects (side 1) in a row, the last of many as their number; nothing where
+        none may be shown."""
         shown = list(names[:self._left[side]])
         self._left[side] -= len(shown)
         more = len(names) - len(shown)

@@ -1,9 +1,10 @@
 """The problem of single nodes of a roster in which each name counts once, and all of its best plans.
 
-The best plans are those along pairs whose reduced cost is 0, in which nobody stays out but whose dual is 0. Of these one has the
-fewest changes from an earlier plan. Two of them differ by rounds of pairs that cost nothing, each in one of them: so a pair that
-is in some best plan and not in all stands, as an arrow from the object to its person where it is in this plan and the other way
-where it isn't, in a round of these arrows. What stays out is held by one vertex on each side.
+The best plans are those along pairs whose reduced cost is 0, in which nobody stays out but whose dual is 0. Of these
+one has the fewest changes from an earlier plan. Two of them differ by rounds of pairs that cost nothing, each in one of
+them: so a pair that is in some best plan and not in all stands, as an arrow from the object to its person where it is
+in this plan and the other way where it isn't, in a round of these arrows. What stays out is held by one vertex on each
+side.
 """
 from array import array
 from bisect import bisect_right
@@ -36,8 +37,9 @@ class Edges(Sequence[Pair]):
 
 
 class RosterNodes(NamedTuple):
-    """Rows and columns with the pairs among them. `of_rows[row]` is a person, and `of_columns[column]` an object; `edges[k]` is the pair of
-    these that edge k chooses. `by_rows` says that the edges stand row by row, and `is_full` that they are a whole matrix, in order."""
+    """Rows and columns with the pairs among them. `of_rows[row]` is a person, and `of_columns[column]` an object;
+    `edges[k]` is the pair of these that edge k chooses. `by_rows` says that the edges stand row by row, and `is_full`
+    that they are a whole matrix, in order."""
 
     of_rows: List[int]
     of_columns: List[int]
@@ -54,7 +56,8 @@ class RosterNodes(NamedTuple):
 
 
 def nodes_without(nodes: RosterNodes, fixed: Collection[Pair]) -> RosterNodes:
-    """The nodes without those of fixed pairs, where each stands for the name of its number. A whole matrix stays one."""
+    """The nodes without those of fixed pairs, where each stands for the name of its number. A whole matrix stays
+    one."""
     sides = []
     for side, numbers, count in ((0, nodes.rows, len(nodes.of_rows)), (1, nodes.columns, len(nodes.of_columns))):
         taken = {pair[side] for pair in fixed}
@@ -64,7 +67,8 @@ def nodes_without(nodes: RosterNodes, fixed: Collection[Pair]) -> RosterNodes:
     kept = bytes(row in sides[0][2] and column in sides[1][2] for row, column in zip(nodes.rows, nodes.columns))
     own = [array("I", compress(numbers, kept)) for numbers, _, _ in sides]
     rows, columns = (array("I", map(places.__getitem__, numbers)) for numbers, (_, _, places) in zip(own, sides))
-    return RosterNodes(sides[0][1], sides[1][1], rows, columns, array("q", compress(nodes.costs, kept)), Edges(*own), nodes.by_rows, nodes.is_full)
+    return RosterNodes(sides[0][1], sides[1][1], rows, columns, array("q", compress(nodes.costs, kept)), Edges(*own),
+                       nodes.by_rows, nodes.is_full)
 
 
 def least_costs(nodes: RosterNodes, maximize: bool) -> Numbers:
@@ -113,7 +117,8 @@ def face_of(nodes: RosterNodes, costs: Numbers, best: BestPlan, rents: List[int]
         lowest[row] = list(compress(edges, map(low.__eq__, paid))) if paid.count(low) > 1 else [edges[paid.index(low)]]
     out = [least[row] for row in without]
     bound = min((cost for cost in out if cost is not None), default=None)
-    tight = [edge for low, own in zip(least, lowest) if low is not None and (bound is None or low <= bound) for edge in own]
+    tight = [edge for low, own in zip(least, lowest) if low is not None and (bound is None or low <= bound)
+             for edge in own]
     some_out = len(without) > 0
     rows = [row for row, cost in enumerate(least) if some_out and (cost is None or bound is None or cost >= bound)]
     spare = len(unused) > 0
@@ -168,7 +173,8 @@ class Swap(NamedTuple):
 
 
 def swaps_of(nodes: RosterNodes, face: Face, chosen: List[Pair]) -> List[Swap]:
-    """The groups that could change places, in the order of their first persons; none where the chosen plan is the only best one."""
+    """The groups that could change places, in the order of their first persons; none where the chosen plan is the only
+    best one."""
     pairs, first_object, part = _parts_of(nodes, face, chosen)
     swaps: Dict[int, List[Pair]] = {}
     for person, object_ in sorted(pairs):
@@ -184,8 +190,8 @@ def is_only_one(nodes: RosterNodes, face: Face, chosen: List[Pair]) -> bool:
 
 
 def _parts_of(nodes: RosterNodes, face: Face, chosen: List[Pair]) -> Tuple[Set[Pair], int, List[int]]:
-    """The pairs that a best plan may have or not, as far as they themselves say; the vertex of the first object, and for each vertex
-    which others it depends on: two with the same number do."""
+    """The pairs that a best plan may have or not, as far as they themselves say; the vertex of the first object, and
+    for each vertex which others it depends on: two with the same number do."""
     first_object = max(nodes.of_rows, default=0) + 1
     out = first_object + max(nodes.of_columns, default=0) + 1
     leads: List[List[int]] = [[] for _ in range(out + 2)]

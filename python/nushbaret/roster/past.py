@@ -42,12 +42,13 @@ def groups_before(groups: Groups, name: str) -> List[int]:
     return list(range(groups.names.index(name)))
 
 
-def with_past(roster: Roster, groups: Groups, kept: OldPlan, name: str, rounds: Optional[int]) -> Tuple[Roster, OldPlan, Past]:
+def with_past(roster: Roster, groups: Groups, kept: OldPlan, name: str, rounds: Optional[int]) -> Tuple[Roster, OldPlan,
+                                                                                                        Past]:
     """The roster and the plan with a past, which is before a group.
 
-    The pairs of the plan there are allowed, at their cost in the plan's file or 0 where the roster forbids them, also those of persons that
-    it doesn't have. Where a person has more of them than it takes at most, that is its greatest count. No least count of the past is left.
-    With `rounds` costs are rounded to so many places.
+    The pairs of the plan there are allowed, at their cost in the plan's file or 0 where the roster forbids them, also
+    those of persons that it doesn't have. Where a person has more of them than it takes at most, that is its greatest
+    count. No least count of the past is left. With `rounds` costs are rounded to so many places.
     """
     earlier = groups_before(groups, name)
     own = set(earlier)
@@ -62,11 +63,13 @@ def with_past(roster: Roster, groups: Groups, kept: OldPlan, name: str, rounds: 
     had = Counter(person for person, _ in places)
     passing = [person for person in sorted(had) if had[person] > roster.tasks_of(person)]
     lines = [_first_line(roster, groups, kept, name, earlier, len(places)), *_forbidden_lines(roster, kept, added),
-             *(_most_line(roster, kept, person, had[person]) for person in passing if roster.persons[person] not in kept.gone)]
+             *(_most_line(roster, kept, person, had[person]) for person in passing
+               if roster.persons[person] not in kept.gone)]
     costs = roster.costs_of(set(places))
     pairs = [PlanLine(*place, pair.line, costs[place]) for place, pair in zip(places, named)]
     roster = _with_counts(roster, {person: had[person] for person in passing})
-    return roster, old_plan_of(kept.path, roster, kept.named, False)._replace(gone=kept.gone), Past(earlier, pairs, lines)
+    return roster, old_plan_of(kept.path, roster, kept.named, False)._replace(gone=kept.gone), Past(earlier, pairs,
+                                                                                                    lines)
 
 
 def _with_persons(roster: Roster, names: Sequence[str]) -> Roster:
@@ -76,7 +79,8 @@ def _with_persons(roster: Roster, names: Sequence[str]) -> Roster:
         return roster
     numbers = {name: number for number, name in enumerate(new, len(roster.persons))}
     tasks = {**(roster.tasks or {}), **dict.fromkeys(numbers.values(), 0)}
-    return roster._replace(persons=roster.persons + new, person_numbers={**roster.person_numbers, **numbers}, tasks=tasks)
+    return roster._replace(persons=roster.persons + new, person_numbers={**roster.person_numbers, **numbers},
+                           tasks=tasks)
 
 
 def _with_pairs(roster: Roster, added: Sequence[Triple]) -> Roster:
@@ -102,9 +106,10 @@ def _with_counts(roster: Roster, most: Dict[int, int]) -> Roster:
 
 
 def _cost_in_file(path: str, roster: Roster, pair: NamedPair, rounds: Optional[int]) -> int:
-    """What a pair costs in the plan's file, in the roster's units; 0 where no number stands there. A number that can't be read is
-    refused."""
-    costs = CostColumn(_Refuser(path), roster.decimals if rounds is None else None, roster.comma and not is_json(path), rounds)
+    """What a pair costs in the plan's file, in the roster's units; 0 where no number stands there. A number that can't
+    be read is refused."""
+    costs = CostColumn(_Refuser(path), roster.decimals if rounds is None else None, roster.comma and not is_json(path),
+                       rounds)
     try:
         costs.take(pair.cost, pair.line, 3)
     except RosterFault:
@@ -132,15 +137,15 @@ def _forbidden_lines(roster: Roster, kept: OldPlan, added: Sequence[Triple]) -> 
 
 
 def _most_line(roster: Roster, kept: OldPlan, person: int, had: int) -> str:
-    return (f"{kept.path}: {roster.persons[person]} has {counted(had, roster.titles[1])} in the past, more than the most of "
-            f"{roster.tasks_of(person)}: {had} is the most")
+    return (f"{kept.path}: {roster.persons[person]} has {counted(had, roster.titles[1])} in the past, more than the "
+            f"most of {roster.tasks_of(person)}: {had} is the most")
 
 
 def with_fixed(roster: Roster, past: Past, fixed: Sequence[PlanLine], path: str) -> List[PlanLine]:
     """The pairs of the past, and those of a file of fixed pairs.
 
-    Raises `RosterFault` for the first fixed pair in the past that the plan doesn't have, and for the first person who has more in both than
-    it takes.
+    Raises `RosterFault` for the first fixed pair in the past that the plan doesn't have, and for the first person who
+    has more in both than it takes.
     """
     pairs = {(pair.person, pair.object) for pair in past.pairs}
     new = [pair for pair in fixed if (pair.person, pair.object) not in pairs]
@@ -151,6 +156,6 @@ def with_fixed(roster: Roster, past: Past, fixed: Sequence[PlanLine], path: str)
             raise RosterFault(path, f"{names} is in the past, where the kept plan doesn't have it", pair.line)
         had[pair.person] += 1
         if had[pair.person] > roster.tasks_of(pair.person):
-            raise RosterFault(path, f"with {names} {roster.persons[pair.person]} has {had[pair.person]}, also counting the past, where "
-                              f"{roster.tasks_of(pair.person)} is the most", pair.line)
+            raise RosterFault(path, f"with {names} {roster.persons[pair.person]} has {had[pair.person]}, also counting "
+                              f"the past, where {roster.tasks_of(pair.person)} is the most", pair.line)
     return [*past.pairs, *new]

@@ -1,5 +1,5 @@
-"""The rows of a workbook's sheet, as a CSV file would have them, by openpyxl. What openpyxl doesn't say in its fast mode, which cells are
-merged and which formulas have no value, is read from the sheet itself."""
+"""The rows of a workbook's sheet, as a CSV file would have them, by openpyxl. What openpyxl doesn't say in its fast
+mode, which cells are merged and which formulas have no value, is read from the sheet itself."""
 import datetime
 import posixpath
 import re
@@ -28,8 +28,8 @@ class WorkbookFault(Exception):
 
 
 class Taken(NamedTuple):
-    """The rows of a sheet, all of one length, as a CSV file would have them; the sheet's name, and those of all; and the lines that are one
-    merged cell."""
+    """The rows of a sheet, all of one length, as a CSV file would have them; the sheet's name, and those of all; and
+    the lines that are one merged cell."""
 
     rows: List[List[str]]
     name: str
@@ -38,7 +38,8 @@ class Taken(NamedTuple):
 
 
 def read_workbook(path: str, comma: bool, name: Optional[str], preferred: Optional[str], skipped: int) -> Taken:
-    """What is in a sheet of a workbook, in the rows after the first `skipped`; with `comma` numbers have a decimal comma.
+    """What is in a sheet of a workbook, in the rows after the first `skipped`; with `comma` numbers have a decimal
+    comma.
 
     Where none is named, it is the preferred sheet if there is one of that name, and else the first.
     """
@@ -50,7 +51,8 @@ def read_workbook(path: str, comma: bool, name: Optional[str], preferred: Option
         # openpyxl warns of what it leaves out, such as colours by rules, and none of it is read.
         with warnings.catch_warnings():
             warnings.simplefilter("ignore")
-            return _taken(openpyxl.load_workbook(path, read_only=True, data_only=True), path, comma, name or preferred, name is not None, skipped)
+            return _taken(openpyxl.load_workbook(path, read_only=True, data_only=True), path, comma, name or preferred,
+                          name is not None, skipped)
     except (OSError, WorkbookFault):
         raise
     except Exception as fault:
@@ -74,10 +76,11 @@ def _taken(book: Any, path: str, comma: bool, wanted: Optional[str], is_needed: 
     marks = _marks_of(path, names[place])
     for row, column in marks.unvalued:
         if row >= skipped:
-            raise WorkbookFault("a formula without a value: open the workbook in your spreadsheet, and save it there", row + 1, column + 1)
+            raise WorkbookFault("a formula without a value: open the workbook in your spreadsheet, and save it there",
+                                row + 1, column + 1)
     rows = _with_merged(rows, marks.merged)
-    whole = {row + 1 for (top, left), (bottom, right) in marks.merged if left == 0 and rows and right + 1 >= len(rows[0]) > 1
-             for row in range(top, min(bottom + 1, len(rows)))}
+    whole = {row + 1 for (top, left), (bottom, right) in marks.merged if left == 0 and rows
+             and right + 1 >= len(rows[0]) > 1 for row in range(top, min(bottom + 1, len(rows)))}
     return Taken(rows[skipped:], names[place], names, whole)
 
 
@@ -88,7 +91,8 @@ def listed_sheets(names: List[str]) -> str:
 
 
 def _cell_text(value: Any, comma: bool) -> str:
-    """A cell as a spreadsheet shows it: numbers with up to 15 digits, whole days as dates, and times without seconds that are 0."""
+    """A cell as a spreadsheet shows it: numbers with up to 15 digits, whole days as dates, and times without seconds
+    that are 0."""
     if value is None:
         return ""
     if isinstance(value, float):
@@ -125,7 +129,8 @@ def _marks_of(path: str, name: str) -> _Marks:
 
 
 def _part_of(archive: zipfile.ZipFile, name: str) -> Tuple[Optional[str], bool]:
-    """Which file of the archive holds the sheet of this name; and whether the values of formulas are still to be worked out."""
+    """Which file of the archive holds the sheet of this name; and whether the values of formulas are still to be worked
+    out."""
     main = next((target for kind, target in _related(archive, "").values() if kind == "officeDocument"), None)
     if main is None:
         return None, False
@@ -178,7 +183,8 @@ def _mark(sheet: IO[bytes], is_stale: bool, marks: _Marks) -> None:
 
 
 def _is_unvalued(cell: ElementTree.Element, is_stale: bool) -> bool:
-    """Whether a cell has a formula whose value isn't there. A formula whose value is an empty text says so by its type."""
+    """Whether a cell has a formula whose value isn't there. A formula whose value is an empty text says so by its
+    type."""
     held = {_bare(child.tag): child.text for child in cell}
     return "f" in held and (is_stale or not held.get("v") and cell.get("t") != "str") and cell.get("r") is not None
 

@@ -25,7 +25,8 @@ TITLES = ("person", "object", "cost")
 FORMAT = 4
 # Where a workbook has its plan.
 PLAN_SHEET = "Plan"
-# The column of a plan that says what changed from an earlier one, and its words: for a new pair, and for two that are no pairs of the plan.
+# The column of a plan that says what changed from an earlier one, and its words: for a new pair, and for two that are
+# no pairs of the plan.
 CHANGE, COMES, GOES, NOT_POSSIBLE = "change", "comes", "goes", "not possible"
 
 
@@ -60,7 +61,8 @@ class Names:
         number = self.number(cell, line, column)
         if number < before:
             hint = "--tasks" if self._kind == "persons" else "--places"
-            self._sheet.refuse(f"the name {quoted(cell)} a second time (list it once; {hint} says how many it takes)", line, column)
+            self._sheet.refuse(f"the name {quoted(cell)} a second time (list it once; {hint} says how many it takes)",
+                               line, column)
         return number
 
     def known(self, cells: Sequence[str]) -> Optional[List[int]]:
@@ -89,7 +91,8 @@ Read = Tuple[Tuple[str, str, str], Names, Names, Numbers, Numbers]
 
 
 class Earlier(NamedTuple):
-    """An object of a day before the roster's: its name, its group, its kind and times as far as the file has them, and the line."""
+    """An object of a day before the roster's: its name, its group, its kind and times as far as the file has them, and
+    the line."""
 
     name: str
     group: str
@@ -99,8 +102,9 @@ class Earlier(NamedTuple):
 
 
 class Groups(NamedTuple):
-    """Groups of objects of which nobody takes two: their title, their names in the order of the file, the group of each object that is in
-    one, and when objects begin and end, where the file says it; their kinds, if a column has them; and objects of earlier days."""
+    """Groups of objects of which nobody takes two: their title, their names in the order of the file, the group of each
+    object that is in one, and when objects begin and end, where the file says it; their kinds, if a column has them;
+    and objects of earlier days."""
 
     title: str
     names: List[str]
@@ -112,13 +116,13 @@ class Groups(NamedTuple):
 
 
 class Roster(NamedTuple):
-    """A problem by names. Pair k is of `persons[of_persons[k]]` and `objects[of_objects[k]]`, no pair twice; `costs[k]` is in
-    units of 10^-decimals. `titles` are the words for a person, an object and a cost. `tasks` and `places` say of persons and of
-    objects how many they take at most, where it isn't one; None where nothing was said. Where bounds alone decide, `least` says of persons
-    and of objects how many they take at least, where it isn't 0. `rounded` says whether any cost was changed by
-    rounding, `has_bom` whether the file began with a BOM, `is_matrix` whether it is a matrix, and `by_persons`
-    whether the pairs stand person by person. `encoding` is that of the file, and `reading` how other files are read. Of the objects in
-    `past` nothing is planned."""
+    """A problem by names. Pair k is of `persons[of_persons[k]]` and `objects[of_objects[k]]`, no pair twice; `costs[k]`
+    is in units of 10^-decimals. `titles` are the words for a person, an object and a cost. `tasks` and `places` say of
+    persons and of objects how many they take at most, where it isn't one; None where nothing was said. Where bounds
+    alone decide, `least` says of persons and of objects how many they take at least, where it isn't 0. `rounded` says
+    whether any cost was changed by rounding, `has_bom` whether the file began with a BOM, `is_matrix` whether it is a
+    matrix, and `by_persons` whether the pairs stand person by person. `encoding` is that of the file, and `reading` how
+    other files are read. Of the objects in `past` nothing is planned."""
 
     persons: List[str]
     objects: List[str]
@@ -198,9 +202,11 @@ def alike(names: List[str]) -> List[List[str]]:
 
 
 def like(name: str, names: List[str]) -> List[str]:
-    """Names that differ from a name in case, spaces or one letter alone, those of the first kinds if there are any; three at most."""
+    """Names that differ from a name in case, spaces or one letter alone, those of the first kinds if there are any;
+    three at most."""
     bare = _bare(name)
-    found = [other for other in names if _bare(other) == bare] or [other for other in names if _is_near(_bare(other), bare)]
+    found = [other for other in names if _bare(other) == bare] or [other for other in names
+                                                                   if _is_near(_bare(other), bare)]
     return found[:3]
 
 
@@ -288,9 +294,10 @@ def read_roster(path: str, form: Optional[str], decimals: Optional[int], comma: 
     read = _read_matrix if is_matrix else _read_lines if form else _read_sure_lines
     titles, persons, objects, of_persons, of_objects = read(sheet, costs)
     used, scaled = costs.scaled()
-    return Roster(persons.list, objects.list, persons.numbers, objects.numbers, of_persons, of_objects, scaled,
-                  used, titles, sheet.separator, comma, rounded=costs.rounded, has_bom=sheet.has_bom, is_matrix=is_matrix,
-                  by_persons=is_matrix or all(map(le, of_persons, islice(of_persons, 1, None))), encoding=sheet.encoding, reading=reading)
+    return Roster(persons.list, objects.list, persons.numbers, objects.numbers, of_persons, of_objects, scaled, used,
+                  titles, sheet.separator, comma, rounded=costs.rounded, has_bom=sheet.has_bom, is_matrix=is_matrix,
+                  by_persons=is_matrix or all(map(le, of_persons, islice(of_persons, 1, None))),
+                  encoding=sheet.encoding, reading=reading)
 
 
 def _may_be_lines(sheet: Sheet) -> bool:
@@ -319,7 +326,8 @@ def _read_lines(sheet: Sheet, costs: CostColumn) -> Read:
         sheet.refuse(f"{len(title)} titles, where a person, an object and a cost are needed{fourth}", line)
     if looks_like_number(title[2]):
         sheet.refuse(f"a title line must come first, and {quoted(title[2])} is a number", line, 3)
-    first, second, third = (sheet.name(cell, line, column) if cell else TITLES[column - 1] for column, cell in enumerate(title, 1))
+    first, second, third = (sheet.name(cell, line, column) if cell else TITLES[column - 1]
+                            for column, cell in enumerate(title, 1))
     reading = Lines(sheet, costs)
     try:
         for lines, columns in sheet.blocks(3):
@@ -341,7 +349,8 @@ class Lines:
         self.of_persons, self.of_objects = array("I"), array("I")
         self._pairs = array("q")
 
-    def take_all(self, lines: Sequence[int], persons: Sequence[str], objects: Sequence[str], costs: Sequence[str]) -> bool:
+    def take_all(self, lines: Sequence[int], persons: Sequence[str], objects: Sequence[str],
+                 costs: Sequence[str]) -> bool:
         """Takes many lines in one go, if all names are known or plain, and all costs are. Otherwise takes none."""
         of_persons = self.persons.known(persons)
         of_objects = None if of_persons is None else self.objects.known(objects)
@@ -352,7 +361,8 @@ class Lines:
         self.of_objects.extend(of_objects)
         return True
 
-    def take_each(self, lines: Sequence[int], persons: Sequence[str], objects: Sequence[str], costs: Sequence[str]) -> None:
+    def take_each(self, lines: Sequence[int], persons: Sequence[str], objects: Sequence[str],
+                  costs: Sequence[str]) -> None:
         """Takes lines one by one, up to the first that is refused."""
         for line, *cells in zip(lines, persons, objects, costs):
             person_name, object_name, cost = map(str.strip, cells)
@@ -378,7 +388,8 @@ class Lines:
 def _read_matrix(sheet: Sheet, costs: CostColumn) -> Read:
     first, title = sheet.title()
     if looks_like_number(title[0]):
-        sheet.refuse(f"the first line and the first column must have names, and {quoted(title[0])} is a number", first, 1)
+        sheet.refuse(f"the first line and the first column must have names, and {quoted(title[0])} is a number", first,
+                     1)
     if len(title) < 2:
         sheet.refuse("no object after the first column", first)
     persons, objects = Names(sheet, "persons"), Names(sheet, "objects")
@@ -412,11 +423,11 @@ class PlanLine(NamedTuple):
 
 
 def read_plan(path: str, roster: Roster) -> List[PlanLine]:
-    """Reads pairs that are to stand: a title line, and lines of a person and an object, of which further cells aren't read; or a plan in
-    JSON.
+    """Reads pairs that are to stand: a title line, and lines of a person and an object, of which further cells aren't
+    read; or a plan in JSON.
 
-    Raises `RosterFault` for the first name that the roster doesn't have, then for the first name that stands more often than it may,
-    then for the first pair that the roster forbids; and `OSError` where the file can't be read.
+    Raises `RosterFault` for the first name that the roster doesn't have, then for the first name that stands more often
+    than it may, then for the first pair that the roster forbids; and `OSError` where the file can't be read.
     """
     places = [(_known(path, roster, person, line, 1, 1), _known(path, roster, object_, line, 2, 2), line)
               for person, object_, line, _ in named_pairs(path, roster)]
@@ -429,7 +440,8 @@ def read_plan(path: str, roster: Roster) -> List[PlanLine]:
 
 
 class NamedPair(NamedTuple):
-    """A pair of a plan by names, the line where it stands, or in JSON its number, and its cost as it is written there, if any is."""
+    """A pair of a plan by names, the line where it stands, or in JSON its number, and its cost as it is written there,
+    if any is."""
 
     person: str
     object: str
@@ -438,8 +450,8 @@ class NamedPair(NamedTuple):
 
 
 class OldPlan(NamedTuple):
-    """An earlier plan, by the file's name: its pairs by names, those that the roster allows, the names that the roster doesn't have, and
-    the pairs of known names that it forbids, each with its line."""
+    """An earlier plan, by the file's name: its pairs by names, those that the roster allows, the names that the roster
+    doesn't have, and the pairs of known names that it forbids, each with its line."""
 
     path: str
     named: List[NamedPair]
@@ -456,7 +468,8 @@ class OldPlan(NamedTuple):
 def read_old_plan(path: str, roster: Roster, by_counts: bool = True) -> OldPlan:
     """Reads an earlier plan, as `read_plan` does. Its names may be gone, and its pairs forbidden.
 
-    Raises `RosterFault` for the first name that stands more often than it may, if counts are to be kept, and for a pair that stands twice.
+    Raises `RosterFault` for the first name that stands more often than it may, if counts are to be kept, and for a pair
+    that stands twice.
     """
     return old_plan_of(path, roster, named_pairs(path, roster), by_counts)
 
@@ -480,7 +493,8 @@ def old_plan_of(path: str, roster: Roster, named: List[NamedPair], by_counts: bo
             places.append((roster.person_numbers[person], roster.object_numbers[object_], line))
     _refuse_twice(path, roster, places, by_counts)
     costs = roster.costs_of({(person, object_) for person, object_, _ in places})
-    known = [PlanLine(person, object_, line, costs[person, object_]) for person, object_, line in places if (person, object_) in costs]
+    known = [PlanLine(person, object_, line, costs[person, object_]) for person, object_, line in places
+             if (person, object_) in costs]
     return OldPlan(path, named, known, list(gone), [place for place in places if place[:2] not in costs])
 
 
@@ -493,7 +507,8 @@ def named_pairs(path: str, roster: Roster) -> List[NamedPair]:
     """The pairs of a plan by names."""
     pairs = _plan_of_json(path) if is_json(path) else _plan_of_sheet(path, roster)
     return [NamedPair(_as_written(roster.persons, roster.person_numbers, pair.person),
-                      _as_written(roster.objects, roster.object_numbers, pair.object), pair.line, pair.cost) for pair in pairs]
+                      _as_written(roster.objects, roster.object_numbers, pair.object), pair.line, pair.cost)
+            for pair in pairs]
 
 
 def _plan_of_sheet(path: str, roster: Roster) -> List[NamedPair]:
@@ -529,7 +544,8 @@ def _pair_of_json(path: str, pair: Any, number: int) -> NamedPair:
         raise RosterFault(path, "a person and an object are needed, each a text", number)
     cost = pair.get("cost", "")
     is_number = isinstance(cost, (str, int, float)) and not isinstance(cost, bool)
-    return NamedPair(unicodedata.normalize("NFC", person), unicodedata.normalize("NFC", object_), number, str(cost) if is_number else "")
+    return NamedPair(unicodedata.normalize("NFC", person), unicodedata.normalize("NFC", object_), number,
+                     str(cost) if is_number else "")
 
 
 def known(sheet: Sheet, roster: Roster, cell: str, line: int, side: int, column: int) -> int:
@@ -543,13 +559,15 @@ def _known(path: str, roster: Roster, name: str, line: int, side: int, column: i
     if name not in numbers:
         near = like(name, list(numbers))
         hint = f": did you mean {' or '.join(map(quoted, near))}?" if near else ""
-        raise RosterFault(path, f"the roster has no {'person' if side == 1 else 'object'} {quoted(name)}{hint}{others}", line, column)
+        raise RosterFault(path, f"the roster has no {'person' if side == 1 else 'object'} {quoted(name)}{hint}{others}",
+                          line, column)
     return numbers[name]
 
 
 def _refuse_twice(path: str, roster: Roster, places: List[Tuple[int, int, int]], by_counts: bool = True) -> None:
     """Refuses a name that stands more often than it may, if counts are to be kept, and a pair that stands twice."""
-    for column, names, most in ((1, roster.persons, roster.tasks_of), (2, roster.objects, roster.places_of)) if by_counts else ():
+    for column, names, most in ((1, roster.persons, roster.tasks_of),
+                                (2, roster.objects, roster.places_of)) if by_counts else ():
         lines: Dict[int, List[int]] = {}
         for found in places:
             number = found[column - 1]

@@ -25,8 +25,8 @@ class OwnRow(NamedTuple):
 
 
 class Built(NamedTuple):
-    """A model's variables and rows: the pair of each of the first variables; those that say how many are missing, with their factors; how
-    many variables come before those of evenness; and what says how even counts are."""
+    """A model's variables and rows: the pair of each of the first variables; those that say how many are missing, with
+    their factors; how many variables come before those of evenness; and what says how even counts are."""
 
     making: Making
     pairs: List[Pair]
@@ -41,13 +41,16 @@ class Built(NamedTuple):
 
 def built(roster: Roster, rules: Rules, month: Month, wish: Request, own: Sequence[OwnRow] = (), may_miss: bool = False,
           spreads: Sequence[int] = (), is_measured: bool = False) -> Built:
-    """The variables and rows of a roster with rules; with `may_miss` least counts may be missed. Counts of the first rules of evenness differ
-    by `spreads`; with `is_measured` the model measures how little those of the next rule can differ."""
+    """The variables and rows of a roster with rules; with `may_miss` least counts may be missed. Counts of the first
+    rules of evenness differ by `spreads`; with `is_measured` the model measures how little those of the next rule can
+    differ."""
     sign = -1 if wish.maximize else 1
-    listed = [(person, object_, sign * cost) for person, object_, cost in zip(roster.of_persons, roster.of_objects, roster.costs)
+    listed = [(person, object_, sign * cost) for person, object_, cost in zip(roster.of_persons, roster.of_objects,
+                                                                              roster.costs)
               if object_ not in roster.past]
     # Finding is faster where each person's variables go by days.
-    listed.sort(key=lambda triple: (triple[0], month.shifts[triple[1]].day if triple[1] in month.shifts else month.last + 1, triple[1]))
+    listed.sort(key=lambda triple: (triple[0], month.shifts[triple[1]].day if triple[1] in month.shifts
+                                    else month.last + 1, triple[1]))
     pairs = [(person, object_) for person, object_, _ in listed]
     past = [(pair.person, pair.object) for pair in wish.fixed if pair.object in roster.past]
     work = Work(month, {pair: variable for variable, pair in enumerate(pairs)}, past)
@@ -101,7 +104,8 @@ def _with(bounds: Bounds, count: int) -> Bounds:
 
 
 def _bounded(making: Making, own: Sum, bounds: Bounds, side: int, number: int, may_miss: bool) -> Dict[int, int]:
-    """Bounds the count of a person (side 0) or an object; the variables by which it may be missed, with their factors."""
+    """Bounds the count of a person (side 0) or an object; the variables by which it may be missed, with their
+    factors."""
     roster = making.roster
     said = Said(bounds_text(bounds, roster.titles[1 - side], len(roster.objects if side == 0 else roster.persons)),
                 (roster.persons, roster.objects)[side][number])
@@ -123,7 +127,8 @@ def bounds_text(bounds: Bounds, word: str, limit: int) -> str:
         return counted(bounds.most, word)
     if not bounds.least:
         return f"at most {counted(bounds.most, word)}"
-    return f"at least {counted(bounds.least, word)}" if bounds.most >= limit else f"{bounds.least}-{bounds.most} {plural(word)}"
+    return (f"at least {counted(bounds.least, word)}" if bounds.most >= limit
+            else f"{bounds.least}-{bounds.most} {plural(word)}")
 
 
 def _one_of_each(making: Making) -> None:

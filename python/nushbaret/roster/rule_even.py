@@ -9,7 +9,8 @@ from .sums import Sum, Work
 
 
 class Even(NamedTuple):
-    """The counts that a rule compares, and variables with their factors: the least count is at least `base` and their sum."""
+    """The counts that a rule compares, and variables with their factors: the least count is at least `base` and their
+    sum."""
 
     sums: List[Sum]
     base: int
@@ -17,8 +18,8 @@ class Even(NamedTuple):
 
 
 class EvennessRows(NamedTuple):
-    """What was added for rules of evenness, and the variables, with their factors, that say by how much more than one the counts of the
-    rule that is measured differ."""
+    """What was added for rules of evenness, and the variables, with their factors, that say by how much more than one
+    the counts of the rule that is measured differ."""
 
     rules: List[Even]
     excess: Dict[int, int]
@@ -39,8 +40,8 @@ def _days(month: Month, rule: Rule) -> List[int]:
 
 
 def add_evenness(making: Making, spreads: Sequence[int], is_measured: bool) -> EvennessRows:
-    """Adds the rows of the first rules, whose counts differ by at most so much each; with `is_measured` also those of the next rule, which
-    say how little its counts can differ."""
+    """Adds the rows of the first rules, whose counts differ by at most so much each; with `is_measured` also those of
+    the next rule, which say how little its counts can differ."""
     rules, excess = even_rules(making.rules.rules), {}
     found = [_within(making, rule, spread) for rule, spread in zip(rules, spreads)]
     if is_measured and len(spreads) < len(rules):
@@ -68,12 +69,15 @@ def _measured(making: Making, rule: Rule) -> Dict[int, int]:
 def _less(own: Sum, factors: Dict[int, int]) -> Sum:
     """A sum less some variables with their factors."""
     found = Sum()
-    found.terms, found.past, found.is_open = {**own.terms, **{variable: -factor for variable, factor in factors.items()}}, own.past, True
+    found.terms, found.past, found.is_open = {**own.terms,
+                                              **{variable: -factor
+                                                 for variable, factor in factors.items()}}, own.past, True
     return found
 
 
 def _within(making: Making, rule: Rule, spread: int) -> Even:
-    """Counts that differ by `spread` at most. Where only one least count fits how many shifts there are, each count is bounded by itself."""
+    """Counts that differ by `spread` at most. Where only one least count fits how many shifts there are, each count is
+    bounded by itself."""
     sums = _sums(making, rule)
     if not sums:
         return Even([], 0, {})
@@ -89,7 +93,8 @@ def _within(making: Making, rule: Rule, spread: int) -> Even:
             making.rows.add(_less(own, low), base, None, said)
             making.rows.add(_less(own, low), None, base + spread, said)
     if low:
-        making.rows.add(_less(Sum(), {variable: -factor for variable, factor in low.items()}), None, top - base, making.said(rule, next(iter(sums))))
+        making.rows.add(_less(Sum(), {variable: -factor for variable, factor in low.items()}), None, top - base,
+                        making.said(rule, next(iter(sums))))
     return Even(list(sums.values()), base, low)
 
 
@@ -116,7 +121,8 @@ def start_of(evenness: EvennessRows, prefix: Sequence[int]) -> Optional[List[int
         return None
     values = list(prefix)
     for even in evenness.rules:
-        counts = [int(own.past) + sum(int(factor) * values[variable] for variable, factor in own.terms.items()) for own in even.sums]
+        counts = [int(own.past) + sum(int(factor) * values[variable] for variable, factor in own.terms.items())
+                  for own in even.sums]
         above = min(counts, default=even.base) - even.base
         values += [above // factor % 2 for factor in even.low.values()]
     return values

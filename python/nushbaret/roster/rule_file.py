@@ -19,9 +19,10 @@ WEEKLY, MONTHLY = "week", "month"
 ANY = ("shift", "shifts", "day", "days")
 WEEKENDS = "weekend shifts"
 # The rules as they are written, for a hint where one is unknown; KIND is a kind of shifts.
-SHAPES = ("rest", "days in a row", "KIND in a row", "shifts per week", "shifts per month", "KIND per week", "KIND per month",
-          "weekend shifts per month", "hours per week", "hours per month", "free weekends", "whole weekends", "no single", "hours of",
-          "at least 1 on", "at most 1 on", "apart", "together", "holiday", "even")
+SHAPES = ("rest", "days in a row", "KIND in a row", "shifts per week", "shifts per month", "KIND per week",
+          "KIND per month", "weekend shifts per month", "hours per week", "hours per month", "free weekends",
+          "whole weekends", "no single", "hours of", "at least 1 on", "at most 1 on", "apart", "together", "holiday",
+          "even")
 NUMBER = r"[0-9]{1,6}(?:[.,][0-9]{1,3})?"
 RANGE = re.compile(rf"(?P<least>{NUMBER})?\s*(?P<dash>[-\u2013])?\s*(?P<most>{NUMBER})?")
 
@@ -29,7 +30,8 @@ RANGE = re.compile(rf"(?P<least>{NUMBER})?\s*(?P<dash>[-\u2013])?\s*(?P<most>{NU
 class Rule(NamedTuple):
     """A rule: what it is, the sentence that it is, and for which persons.
 
-    `kinds` are the kinds of shifts that it counts, None for all; for rest those of the one day, and `after` those of the next one.
+    `kinds` are the kinds of shifts that it counts, None for all; for rest those of the one day, and `after` those of
+    the next one.
     """
 
     what: str
@@ -65,7 +67,8 @@ class RuleLine(NamedTuple):
 def read_rules(path: str, roster: Roster, month: Month) -> Rules:
     """Reads rules: a title line, and lines of a rule, its value, and names, none for everybody.
 
-    Raises `RosterFault` for the first rule, kind, name or number that can't be read, with its place; `OSError` where the file can't be.
+    Raises `RosterFault` for the first rule, kind, name or number that can't be read, with its place; `OSError` where
+    the file can't be.
     """
     sheet = Sheet(path, roster.comma, reading=roster.reading)
     line, title = sheet.title()
@@ -136,10 +139,12 @@ class _RuleReader:
     def _unknown(self, line: RuleLine) -> NoReturn:
         if not line.rule:
             self._refuse(line, 1, "no rule")
-        shapes = [shape.replace("KIND", kind) for shape in SHAPES for kind in (self._month.kinds if "KIND" in shape else [""])]
+        shapes = [shape.replace("KIND", kind) for shape in SHAPES
+                  for kind in (self._month.kinds if "KIND" in shape else [""])]
         near = get_close_matches(line.rule.casefold(), [shape.casefold() for shape in shapes], 1, 0.6)
         named = [shape for shape in shapes if shape.casefold() in near]
-        self._refuse(line, 1, f"{quoted(line.rule)} is no rule" + (f": did you mean {quoted(named[0])}?" if named else ""))
+        self._refuse(line, 1, f"{quoted(line.rule)} is no rule"
+                     + (f": did you mean {quoted(named[0])}?" if named else ""))
 
     def _kinds(self, line: RuleLine, column: int, text: str) -> Optional[FrozenSet[str]]:
         """The kinds that a text lists; None where it is all shifts."""
@@ -152,7 +157,8 @@ class _RuleReader:
                 return None
             if kind is None:
                 near = like(word, list(known.values())) or get_close_matches(word, list(known.values()), 1, 0.6)
-                hint = f": did you mean {quoted(near[0])}?" if near else f": the kinds are {', '.join(known.values()) or 'none'}"
+                hint = (f": did you mean {quoted(near[0])}?" if near
+                        else f": the kinds are {', '.join(known.values()) or 'none'}")
                 self._refuse(line, column, f"no kind of shift is {quoted(word)}{hint}")
             found.add(kind)
         return frozenset(found)
@@ -171,12 +177,15 @@ class _RuleReader:
                 self._refuse(line, 3, f"the roster has no person {quoted(name)}{hint}" if name else "an empty name")
         return tuple(dict.fromkeys(numbers[name] for name in names))
 
-    def _bounds(self, line: RuleLine, is_whole: bool = True, is_least: bool = False) -> Tuple[Optional[Fraction], Optional[Fraction]]:
+    def _bounds(self, line: RuleLine, is_whole: bool = True, is_least: bool = False) -> Tuple[Optional[Fraction],
+                                                                                              Optional[Fraction]]:
         """At least and at most so many. One number is the most, or with `is_least` the least."""
         found = RANGE.fullmatch(line.value)
         if found is None or not (found["least"] or found["most"]):
-            self._refuse(line, 2, f"{quoted(line.value)} is no number, and no range such as 2-5" if line.value else "no number")
-        least, most = (None if text is None else Fraction(text.replace(",", ".")) for text in (found["least"], found["most"]))
+            self._refuse(line, 2, f"{quoted(line.value)} is no number, and no range such as 2-5" if line.value
+                         else "no number")
+        least, most = (None if text is None else Fraction(text.replace(",", "."))
+                       for text in (found["least"], found["most"]))
         if not found["dash"]:
             if least is None or most is not None:
                 self._refuse(line, 2, f"{quoted(line.value)} is no number, and no range such as 2-5")
@@ -211,16 +220,19 @@ class _RuleReader:
 
     def _run(self, line: RuleLine, words: Match[str]) -> None:
         least, most = self._bounds(line)
-        self._add(line, Rule(RUN, _sentence(line), self._persons(line), self._kinds(line, 1, words[1]), None, least, most))
+        self._add(line, Rule(RUN, _sentence(line), self._persons(line), self._kinds(line, 1, words[1]), None, least,
+                             most))
 
     def _no_single(self, line: RuleLine, words: Match[str]) -> None:
-        self._add(line, Rule(RUN, _sentence(line), self._persons(line), self._kinds(line, 2, line.value), None, Fraction(2)))
+        self._add(line, Rule(RUN, _sentence(line), self._persons(line), self._kinds(line, 2, line.value), None,
+                             Fraction(2)))
 
     def _per(self, line: RuleLine, words: Match[str]) -> None:
         least, most = self._bounds(line)
         of_weekends = words[1].casefold() == WEEKENDS
         kinds = None if of_weekends else self._kinds(line, 1, words[1])
-        self._add(line, Rule(COUNT, _sentence(line), self._persons(line), kinds, None, least, most, words[2].casefold(), of_weekends))
+        self._add(line, Rule(COUNT, _sentence(line), self._persons(line), kinds, None, least, most, words[2].casefold(),
+                             of_weekends))
 
     def _per_hours(self, line: RuleLine, words: Match[str]) -> None:
         least, most = self._bounds(line, False)
@@ -241,7 +253,8 @@ class _RuleReader:
         side = words[1].casefold()
         least, most = (count, None) if side == "least" else (None, count)
         who = ", ".join(self._roster.persons[person] for person in persons)
-        self._add(line, Rule(STAFF, f"at {side} {words[2]} of {who} on {line.value or 'each'}", persons, kinds, None, least, most))
+        self._add(line, Rule(STAFF, f"at {side} {words[2]} of {who} on {line.value or 'each'}", persons, kinds, None,
+                             least, most))
 
     def _apart(self, line: RuleLine, words: Match[str]) -> None:
         self._with_others(line, APART)
@@ -279,7 +292,8 @@ class _RuleReader:
             dates = dates_of([*self._month.names.values(), line.value]).all
             day = None if dates is None else dates[-1].toordinal()
         if day is None:
-            self._refuse(line, 2, f"{quoted(line.value)} is no day of the roster" + (", and no date" if self._month.are_dates else ""))
+            self._refuse(line, 2, f"{quoted(line.value)} is no day of the roster"
+                         + (", and no date" if self._month.are_dates else ""))
         self.holidays.append(day)
 
     def need_hours(self, line: RuleLine) -> None:
@@ -288,7 +302,8 @@ class _RuleReader:
         for shift in shifts:
             if shift.kind not in self.hours and shift.times is None:
                 named = f"of the kind {quoted(shift.kind)}" if shift.kind else "of shifts without a kind"
-                self._refuse(line, 1, f"the hours {named} aren't known: a rule 'hours of', or columns from and to in the groups' file")
+                self._refuse(line, 1, f"the hours {named} aren't known: a rule 'hours of', or columns from and to in "
+                             "the groups' file")
 
 
 def _sentence(line: RuleLine) -> str:

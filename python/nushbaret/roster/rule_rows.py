@@ -51,23 +51,27 @@ def add_rules(making: Making) -> None:
 
 
 def _rest(making: Making, rules: Sequence[Rule]) -> None:
-    """After a shift of one kind none of another one the day after. Several rules make common rows, which say more in fractions."""
+    """After a shift of one kind none of another one the day after. Several rules make common rows, which say more in
+    fractions."""
     pairs: Dict[int, Set[Tuple[str, str]]] = {}
     for rule in rules:
         for person in rule.persons:
-            pairs.setdefault(person, set()).update((one, other) for one in rule.kinds or () for other in rule.after or ())
+            pairs.setdefault(person, set()).update((one, other) for one in rule.kinds or () for other in rule.after
+                                                   or ())
     cliques = {frozenset(own): _cliques(own) for own in pairs.values()}
     month = making.month
     for person, own in sorted(pairs.items()):
         for one, other in cliques[frozenset(own)]:
-            said = Said(f"rest: no {' or '.join(sorted(other))} the day after {' or '.join(sorted(one))}", making.roster.persons[person])
+            said = Said(f"rest: no {' or '.join(sorted(other))} the day after {' or '.join(sorted(one))}",
+                        making.roster.persons[person])
             for day in range(month.known, month.last):
                 both = making.work.sum(person, [day + 1], other, 1, making.work.sum(person, [day], one))
                 making.rows.add(both, None, 1, said, person)
 
 
 def _cliques(pairs: Set[Tuple[str, str]]) -> List[Clique]:
-    """Sets of kinds, each forbidden after each of others, as large as can be around the others of one kind; all pairs are in one."""
+    """Sets of kinds, each forbidden after each of others, as large as can be around the others of one kind; all pairs
+    are in one."""
     after = {one: frozenset(b for a, b in pairs if a == one) for one, _ in pairs}
     before = {other: frozenset(a for a, b in pairs if b == other) for _, other in pairs}
     of_one = [(frozenset(a for a in after if after[a] >= own), own) for own in after.values()]
@@ -92,8 +96,8 @@ def _longest(making: Making, rule: Rule, person: int, most: int) -> None:
 
 
 def _shortest(making: Making, rule: Rule, person: int, least: int) -> None:
-    """Who has a shift on a day, and had none the day before, has one on each of the next days. What is before the first day, and after the
-    last one, isn't known."""
+    """Who has a shift on a day, and had none the day before, has one on each of the next days. What is before the first
+    day, and after the last one, isn't known."""
     month, work = making.month, making.work
     for day in range(month.known + 1, month.last + 1):
         next_days = range(day + 1, min(day + least, month.last + 1))
@@ -105,7 +109,8 @@ def _shortest(making: Making, rule: Rule, person: int, least: int) -> None:
 
 
 def spans_of(month: Month, rule: Rule) -> Iterator[Tuple[List[int], bool]]:
-    """The days in which a rule counts, and whether its least number is one there: not in a week of which days aren't known."""
+    """The days in which a rule counts, and whether its least number is one there: not in a week of which days aren't
+    known."""
     if rule.per == WEEKLY:
         spans = [(week.days, week.is_whole) for week in month.weeks]
     else:
@@ -168,13 +173,15 @@ def _staff(making: Making, rule: Rule) -> None:
     """So many of some persons at each object, if it takes anybody."""
     for object_ in making.work.objects(rule.kinds):
         if making.roster.places_of(object_) > 0:
-            making.rows.add(_at(making, rule.persons, object_), rule.least, rule.most, Said(rule.sentence, making.roster.objects[object_]))
+            making.rows.add(_at(making, rule.persons, object_), rule.least, rule.most,
+                            Said(rule.sentence, making.roster.objects[object_]))
 
 
 def _apart(making: Making, rule: Rule) -> None:
     """At most one of some persons at an object."""
     for object_ in making.work.objects(None):
-        making.rows.add(_at(making, rule.persons, object_), None, 1, Said(rule.sentence, making.roster.objects[object_]))
+        making.rows.add(_at(making, rule.persons, object_), None, 1,
+                        Said(rule.sentence, making.roster.objects[object_]))
 
 
 def _together(making: Making, rule: Rule) -> None:
@@ -199,5 +206,5 @@ def _at(making: Making, persons: Sequence[int], object_: int) -> Sum:
     return found
 
 
-MAKERS: Dict[str, Callable[[Making, Rule], None]] = {
-    RUN: _run, COUNT: _count, HOURS: _hours, FREE: _free, WHOLE: _whole, STAFF: _staff, APART: _apart, TOGETHER: _together}
+MAKERS: Dict[str, Callable[[Making, Rule], None]] = {RUN: _run, COUNT: _count, HOURS: _hours, FREE: _free,
+                                                     WHOLE: _whole, STAFF: _staff, APART: _apart, TOGETHER: _together}

@@ -11,19 +11,23 @@ from .roster import NamedPair, OldPlan, PlanLine, Roster
 from .sheets import unit_of
 
 
-def broken_rules(roster: Roster, hand: OldPlan, repeated: Sequence[NamedPair], fixed: Sequence[PlanLine]) -> List[Broken]:
-    """All rules that a plan breaks: pairs that the roster doesn't have, repeated pairs, groups, counts, and fixed pairs."""
+def broken_rules(roster: Roster, hand: OldPlan, repeated: Sequence[NamedPair],
+                 fixed: Sequence[PlanLine]) -> List[Broken]:
+    """All rules that a plan breaks: pairs that the roster doesn't have, repeated pairs, groups, counts, and fixed
+    pairs."""
     pairs = sorted([*hand.known, *(PlanLine(*pair, 0) for pair in hand.forbidden)])
-    return [*_not_listed(roster, hand), *_repeated(hand, repeated), *_two_of_a_group(roster, pairs), *_too_many(roster, pairs),
-            *_too_few(roster, pairs, fixed), *_not_as_fixed(roster, pairs, fixed)]
+    return [*_not_listed(roster, hand), *_repeated(hand, repeated), *_two_of_a_group(roster, pairs),
+            *_too_many(roster, pairs), *_too_few(roster, pairs, fixed), *_not_as_fixed(roster, pairs, fixed)]
 
 
 def _not_listed(roster: Roster, hand: OldPlan) -> Iterator[Broken]:
     forbidden = {(roster.persons[person], roster.objects[object_]) for person, object_, _ in hand.forbidden}
     for person, object_ in hand.pairs:
-        gone = [name for name, names in ((person, roster.person_numbers), (object_, roster.object_numbers)) if name not in names]
+        gone = [name for name, names in ((person, roster.person_numbers), (object_, roster.object_numbers))
+                if name not in names]
         if gone:
-            yield Broken("unlisted", [person], [object_], f"{person}, {object_}: the roster has no {' and no '.join(gone)}")
+            yield Broken("unlisted", [person], [object_], f"{person}, {object_}: the roster has no "
+                         f"{' and no '.join(gone)}")
         elif (person, object_) in forbidden:
             yield Broken("unlisted", [person], [object_], f"{person}, {object_}: the roster forbids this pair")
 
@@ -35,7 +39,8 @@ def _repeated(hand: OldPlan, repeated: Sequence[NamedPair]) -> Iterator[Broken]:
         lines.setdefault((pair.person, pair.object), [first[pair.person, pair.object]]).append(pair.line)
     for (person, object_), own in lines.items():
         places = f"{', '.join(map(str, own[:-1]))} and {own[-1]}"
-        yield Broken("repeated", [person], [object_], f"{person}, {object_}: {len(own)} times, in {unit_of(hand.path)}s {places}")
+        yield Broken("repeated", [person], [object_], f"{person}, {object_}: {len(own)} times, in "
+                     f"{unit_of(hand.path)}s {places}")
 
 
 def _two_of_a_group(roster: Roster, pairs: Sequence[Paired]) -> Iterator[Broken]:
@@ -46,8 +51,8 @@ def _two_of_a_group(roster: Roster, pairs: Sequence[Paired]) -> Iterator[Broken]
             own.setdefault((pair.person, groups.of_objects[pair.object]), []).append(roster.objects[pair.object])
     for (person, group), objects in own.items():
         if groups is not None and len(objects) > 1:
-            yield Broken("group", [roster.persons[person]], objects,
-                         f"{roster.persons[person]}: {joined(objects)}, {len(objects)} of {groups.title} {groups.names[group]}")
+            yield Broken("group", [roster.persons[person]], objects, f"{roster.persons[person]}: {joined(objects)}, "
+                         f"{len(objects)} of {groups.title} {groups.names[group]}")
 
 
 def _too_many(roster: Roster, pairs: Sequence[Paired]) -> Iterator[Broken]:
@@ -61,15 +66,16 @@ def _too_many(roster: Roster, pairs: Sequence[Paired]) -> Iterator[Broken]:
 
 
 def lacking(roster: Roster, pairs: Sequence[Paired], fixed: Sequence[PlanLine]) -> List[Missing]:
-    """Which least counts pairs miss. With single numbers the side with the smaller sum must have all, and both where the sums are one."""
+    """Which least counts pairs miss. With single numbers the side with the smaller sum must have all, and both where
+    the sums are one."""
     if roster.least is not None:
         return missing_of(roster, pairs)
     most = [[bound.most for bound in bounds] for bounds in bounds_around(roster, fixed)]
     sums = [sum(own) for own in most]
     had = Counter(pair.person for pair in pairs), Counter(pair.object for pair in pairs)
     given = Counter(pair.person for pair in fixed), Counter(pair.object for pair in fixed)
-    return [Missing(side, (roster.persons, roster.objects)[side][number], number, had[side][number], left + given[side][number])
-            for side in range(2) if sums[side] <= sums[1 - side]
+    return [Missing(side, (roster.persons, roster.objects)[side][number], number, had[side][number],
+                    left + given[side][number]) for side in range(2) if sums[side] <= sums[1 - side]
             for number, left in enumerate(most[side]) if left and had[side][number] < left + given[side][number]]
 
 

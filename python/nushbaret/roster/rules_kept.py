@@ -1,4 +1,5 @@
-"""Which rules of a file a plan breaks: it looks at days and kinds, never at the rows that say the rules to the solver."""
+"""Which rules of a file a plan breaks: it looks at days and kinds, never at the rows that say the rules to the
+solver."""
 from fractions import Fraction
 from typing import Callable, Dict, Iterable, Iterator, List, NamedTuple, Optional, Sequence, Set, Tuple
 
@@ -40,7 +41,8 @@ class DailyPlan(NamedTuple):
     def broken(self, rule: Rule, persons: Sequence[int], objects: Iterable[Optional[int]], text: str) -> Broken:
         """That a rule is broken by some persons at some objects."""
         names = [self.roster.objects[object_] for object_ in objects if object_ is not None]
-        return Broken(rule.what, [self.roster.persons[person] for person in persons], names, f"{text} ({rule.sentence})")
+        return Broken(rule.what, [self.roster.persons[person] for person in persons], names,
+                      f"{text} ({rule.sentence})")
 
     def called(self, own: Had) -> str:
         """What a shift is called: its object's name; of an earlier day its kind and day."""
@@ -50,7 +52,8 @@ class DailyPlan(NamedTuple):
 
 def plan_of(roster: Roster, rules: Rules, month: Month, pairs: Sequence[Paired]) -> DailyPlan:
     """A plan by days. Objects in no group have no day, and no rule is about them."""
-    had: Dict[Tuple[int, int], List[Had]] = {spot: [(shift, None) for shift in shifts] for spot, shifts in month.worked.items()}
+    had: Dict[Tuple[int, int], List[Had]] = {spot: [(shift, None) for shift in shifts]
+                                             for spot, shifts in month.worked.items()}
     who: Dict[int, Set[int]] = {}
     for pair in pairs:
         who.setdefault(pair.object, set()).add(pair.person)
@@ -65,7 +68,8 @@ def plan_of(roster: Roster, rules: Rules, month: Month, pairs: Sequence[Paired])
 
 
 def broken_by(plan: DailyPlan) -> List[Broken]:
-    """The rules that a plan breaks, in the order of the file. What the past alone breaks isn't there, since nobody can mend it."""
+    """The rules that a plan breaks, in the order of the file. What the past alone breaks isn't there, since nobody can
+    mend it."""
     found: Dict[Tuple[str, str], Broken] = {}
     for rule in plan.rules.rules:
         if rule.what != EVEN:
@@ -101,12 +105,13 @@ def _run(plan: DailyPlan, rule: Rule) -> Iterator[Broken]:
             is_short = rule.least is not None and len(run) < rule.least and _is_cut(plan, rule, person, run)
             if is_long or is_short:
                 text = f"{plan.roster.persons[person]}: {len(run)} in a row, {_from_to(plan.month, run)}"
-                yield plan.broken(rule, [person], [object_ for _, object_ in plan.all_on(person, run, rule.kinds)], text)
+                yield plan.broken(rule, [person], [object_ for _, object_ in plan.all_on(person, run, rule.kinds)],
+                                  text)
 
 
 def _is_cut(plan: DailyPlan, rule: Rule, person: int, run: range) -> bool:
-    """Whether a run that is too short could be longer: days before the first, and after the last one, aren't known, and what ended in the
-    past or can't go on is as it is."""
+    """Whether a run that is too short could be longer: days before the first, and after the last one, aren't known, and
+    what ended in the past or can't go on is as it is."""
     month = plan.month
     if run[0] == month.known or run[-1] == month.last or month.is_past(run[-1] + 1):
         return False
@@ -160,7 +165,8 @@ def _count(plan: DailyPlan, rule: Rule) -> Iterator[Broken]:
 
 
 def _hours(plan: DailyPlan, rule: Rule) -> Iterator[Broken]:
-    return _bounded(plan, rule, lambda own: sum((hours_of(plan.rules, shift) for shift, _ in own), Fraction(0)), "hours")
+    return _bounded(plan, rule, lambda own: sum((hours_of(plan.rules, shift) for shift, _ in own), Fraction(0)),
+                    "hours")
 
 
 def _free(plan: DailyPlan, rule: Rule) -> Iterator[Broken]:
@@ -172,7 +178,8 @@ def _free(plan: DailyPlan, rule: Rule) -> Iterator[Broken]:
         free = len(weekends) - len(worked)
         if rule.least is not None and free < rule.least or rule.most is not None and free > rule.most:
             objects = [object_ for days in worked for _, object_ in plan.all_on(person, days)]
-            yield plan.broken(rule, [person], objects, f"{plan.roster.persons[person]}: {free} free weekend{'' if free == 1 else 's'}")
+            yield plan.broken(rule, [person], objects, f"{plan.roster.persons[person]}: {free} free "
+                              f"weekend{'' if free == 1 else 's'}")
 
 
 def _whole(plan: DailyPlan, rule: Rule) -> Iterator[Broken]:
@@ -183,7 +190,8 @@ def _whole(plan: DailyPlan, rule: Rule) -> Iterator[Broken]:
             days = [day for day in weekend if day in held]
             for day, other in zip(days, days[1:]):
                 own, others = plan.on(person, day), plan.on(person, other)
-                can_mend = not month.is_past(other) and not (own and month.is_past(day) and not plan.may(person, other, None))
+                can_mend = not month.is_past(other) and not (own and month.is_past(day)
+                                                             and not plan.may(person, other, None))
                 if len(own) != len(others) and can_mend:
                     there, gone = (own, other) if own else (others, day)
                     text = f"{plan.roster.persons[person]}: {plan.called(there[0])}, and none on {month.name(gone)}"
@@ -192,13 +200,15 @@ def _whole(plan: DailyPlan, rule: Rule) -> Iterator[Broken]:
 
 def _planned(plan: DailyPlan, kinds: Kinds) -> Iterator[int]:
     """The objects of some kinds that aren't past."""
-    return (object_ for object_, shift in plan.month.shifts.items() if is_of(shift, kinds) and not plan.month.is_past(shift.day))
+    return (object_ for object_, shift in plan.month.shifts.items() if is_of(shift, kinds)
+            and not plan.month.is_past(shift.day))
 
 
 def _staff(plan: DailyPlan, rule: Rule) -> Iterator[Broken]:
     for object_ in _planned(plan, rule.kinds):
         there = [person for person in rule.persons if person in plan.who.get(object_, ())]
-        is_broken = rule.least is not None and len(there) < rule.least or rule.most is not None and len(there) > rule.most
+        is_broken = (rule.least is not None and len(there) < rule.least or rule.most is not None
+                     and len(there) > rule.most)
         if is_broken and plan.roster.places_of(object_) > 0:
             names = joined([plan.roster.persons[person] for person in there]) or "none of them"
             yield plan.broken(rule, there, [object_], f"{plan.roster.objects[object_]}: {names}")
@@ -208,7 +218,8 @@ def _apart(plan: DailyPlan, rule: Rule) -> Iterator[Broken]:
     for object_ in _planned(plan, None):
         there = [person for person in rule.persons if person in plan.who.get(object_, ())]
         if len(there) > 1:
-            yield plan.broken(rule, there, [object_], f"{plan.roster.objects[object_]}: {joined([plan.roster.persons[one] for one in there])}")
+            yield plan.broken(rule, there, [object_], f"{plan.roster.objects[object_]}: "
+                              f"{joined([plan.roster.persons[one] for one in there])}")
 
 
 def _together(plan: DailyPlan, rule: Rule) -> Iterator[Broken]:
@@ -219,5 +230,6 @@ def _together(plan: DailyPlan, rule: Rule) -> Iterator[Broken]:
             yield plan.broken(rule, there, [object_], text)
 
 
-READERS: Dict[str, Callable[[DailyPlan, Rule], Iterator[Broken]]] = {
-    REST: _rest, RUN: _run, COUNT: _count, HOURS: _hours, FREE: _free, WHOLE: _whole, STAFF: _staff, APART: _apart, TOGETHER: _together}
+READERS: Dict[str, Callable[[DailyPlan, Rule], Iterator[Broken]]] = {REST: _rest, RUN: _run, COUNT: _count,
+                                                                     HOURS: _hours, FREE: _free, WHOLE: _whole,
+                                                                     STAFF: _staff, APART: _apart, TOGETHER: _together}

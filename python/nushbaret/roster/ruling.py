@@ -31,7 +31,8 @@ def read_ruling(options: Options, roster: Roster, say: Callable[[str], object]) 
         return None
     before = None
     if options.before is not None:
-        before = Before(options.before, [(pair.person, pair.object, pair.line) for pair in named_pairs(options.before, roster)])
+        before = Before(options.before, [(pair.person, pair.object, pair.line)
+                                         for pair in named_pairs(options.before, roster)])
         for line in _left_out(roster, before):
             say(line)
     month = month_of(roster, roster.groups, options.groups, before)
@@ -41,13 +42,15 @@ def read_ruling(options: Options, roster: Roster, say: Callable[[str], object]) 
 
 def _left_out(roster: Roster, before: Before) -> Iterator[str]:
     """What of an earlier plan no rule looks at."""
-    gone = [person for person in dict.fromkeys(person for person, _, _ in before.pairs) if person not in roster.person_numbers]
+    gone = [person for person in dict.fromkeys(person for person, _, _ in before.pairs)
+            if person not in roster.person_numbers]
     if gone:
         yield f"{before.path}: the roster has no {listed(gone, list(range(len(gone))))}"
     names = [] if roster.groups is None else undated(roster.groups, before)
     if names:
         shown = listed(names, list(range(len(names))))
-        yield f"{before.path}: the groups' file doesn't list {counted(len(names), roster.titles[1])} ({shown}): no rule looks at them"
+        yield (f"{before.path}: the groups' file doesn't list {counted(len(names), roster.titles[1])} ({shown}): no "
+               "rule looks at them")
 
 
 def broken_rules_of(ruling: Ruling, roster: Roster, pairs: Sequence[Paired]) -> List[Broken]:
@@ -101,11 +104,14 @@ def _shown(roster: Roster, options: Options) -> Iterator[Optional[Progress]]:
         _put("\r" + " " * widest[0] + "\r")
 
 
-def progress_line(roster: Roster, options: Options, goal: str, done: str, cost: Optional[int], bound: Optional[int]) -> str:
-    """A goal, what is being done, the best plan so far, and what is proved of all plans; other goals than costs count from 0."""
+def progress_line(roster: Roster, options: Options, goal: str, done: str, cost: Optional[int],
+                  bound: Optional[int]) -> str:
+    """A goal, what is being done, the best plan so far, and what is proved of all plans; other goals than costs count
+    from 0."""
     def shown(units: int) -> str:
         own = -units if options.max else units
-        return str(units) if goal != COSTS else halves(roster, own) if options.change_cost is not None else roster.shown(own)
+        return str(units) if goal != COSTS else halves(roster,
+                                                       own) if options.change_cost is not None else roster.shown(own)
     parts = [f"{goal}: {done}"] + [f"found {shown(cost)}" for cost in [cost] if cost is not None]
     side = "at most" if options.max and goal == COSTS else "at least"
     return ", ".join(parts if bound is None else [*parts, f"proved {side} {shown(bound)}"])

@@ -1,5 +1,5 @@
-"""The cells of CSV files and workbooks, and what is wrong in a file. Lines and columns are counted from 1, and a column is a cell of its
-line."""
+"""The cells of CSV files and workbooks, and what is wrong in a file. Lines and columns are counted from 1, and a column
+is a cell of its line."""
 import csv
 import os
 import re
@@ -24,8 +24,8 @@ OTHER_ENDS = "\v\f\x1c\x1d\x1e\x85\u2028\u2029"
 
 
 class RosterFault(ValueError):
-    """What is wrong in a file, and where: line and column from 1, as far as there is a place. In a plan in JSON the line is the number of
-    a pair."""
+    """What is wrong in a file, and where: line and column from 1, as far as there is a place. In a plan in JSON the
+    line is the number of a pair."""
 
     def __init__(self, path: str, text: str, line: Optional[int] = None, column: Optional[int] = None) -> None:
         self.path, self.text, self.line, self.column = path, text, line, column
@@ -38,7 +38,8 @@ class RosterFault(ValueError):
 
 
 class Reading(NamedTuple):
-    """How text is read: in which encoding, if one was named; and where it is said what was read in place of what was named."""
+    """How text is read: in which encoding, if one was named; and where it is said what was read in place of what was
+    named."""
 
     encoding: Optional[str] = None
     say: Callable[[str], object] = str
@@ -84,15 +85,15 @@ def _standard_input() -> bytes:
 
 
 class Sheet:
-    """The records of a CSV file: with `;`, TAB or `,` between cells, the one that its first line has most of. Or those of a workbook's
-    sheet: the one that FILE.xlsx#SHEET or `name` names; else the preferred one, if there is one of that name; else the first. Rows above
-    the titles may be skipped.
+    """The records of a CSV file: with `;`, TAB or `,` between cells, the one that its first line has most of. Or those
+    of a workbook's sheet: the one that FILE.xlsx#SHEET or `name` names; else the preferred one, if there is one of that
+    name; else the first. Rows above the titles may be skipped.
 
     Raises `OSError` where the file can't be read, and `RosterFault` where it is no text or is too long.
     """
 
-    def __init__(self, path: str, comma: bool = False, name: Optional[str] = None, skipped: int = 0, reading: Reading = Reading(),
-                 preferred: Optional[str] = None) -> None:
+    def __init__(self, path: str, comma: bool = False, name: Optional[str] = None, skipped: int = 0,
+                 reading: Reading = Reading(), preferred: Optional[str] = None) -> None:
         self.path, self.skipped = "standard input" if path == "-" else path, skipped
         self.rows: Optional[List[List[str]]] = None
         # What a refusal says of other sheets, and the lines that are one merged cell.
@@ -106,7 +107,8 @@ class Sheet:
         else:
             self._take_text(_held(path), reading)
 
-    def _take_workbook(self, path: str, comma: bool, name: Optional[str], preferred: Optional[str], reading: Reading) -> None:
+    def _take_workbook(self, path: str, comma: bool, name: Optional[str], preferred: Optional[str],
+                       reading: Reading) -> None:
         from .read_workbook import WorkbookFault, listed_sheets, read_workbook
         self.has_bom, self.has_hint, self.separator, self.encoding = False, False, ";" if comma else ",", "utf-8"
         try:
@@ -138,9 +140,11 @@ class Sheet:
         raise RosterFault(self.path, text + self.others, line, column)
 
     def records(self) -> Iterator[Tuple[int, List[str]]]:
-        """The records that aren't empty, each with the number of its first line; cells without the white space around them."""
+        """The records that aren't empty, each with the number of its first line; cells without the white space around
+        them."""
         if self.rows is not None:
-            yield from ((line, cells) for line, cells in enumerate(map(_stripped, self.rows), self.skipped + 1) if any(cells))
+            yield from ((line, cells) for line, cells in enumerate(map(_stripped, self.rows), self.skipped + 1)
+                        if any(cells))
             return
         reader = csv.reader(_lines_of(self.text), delimiter=self.separator, strict=True)
         line = self.skipped + 1
@@ -163,7 +167,8 @@ class Sheet:
             while not cells[-1]:
                 cells.pop()
             if line in self.merged:
-                self.refuse(f"{quoted(cells[0])} in one merged cell, where titles are needed; --skip-rows K skips rows above them", line)
+                self.refuse(f"{quoted(cells[0])} in one merged cell, where titles are needed; --skip-rows K skips rows "
+                            "above them", line)
             return line, cells
         self.refuse("an empty file")
 
@@ -181,8 +186,8 @@ class Sheet:
             yield line, cells[:width]
 
     def blocks(self, width: int) -> Iterator[Block]:
-        """The records of `body`, many at a time: their lines, and their cells column by column, maybe with white space around them, and
-        among them records without any content. A fault comes after the records before it."""
+        """The records of `body`, many at a time: their lines, and their cells column by column, maybe with white space
+        around them, and among them records without any content. A fault comes after the records before it."""
         begin, line = yield from self._plain_blocks(width)
         begun = begin > 0
         for lines, rows in self._raw_blocks(begin, line):
@@ -190,7 +195,8 @@ class Sheet:
             if columns is not None:
                 yield lines, columns
                 continue
-            records = [(line, cells) for line, cells in zip(lines, map(_stripped, rows)) if any(cells) and not self._is_hint(line)]
+            records = [(line, cells) for line, cells in zip(lines, map(_stripped, rows)) if any(cells)
+                       and not self._is_hint(line)]
             body, fault = self._of_width(records if begun else records[1:], width), None
             begun = begun or bool(records)
             whole: List[Tuple[int, List[str]]] = []
@@ -204,8 +210,8 @@ class Sheet:
                 raise fault
 
     def _plain_blocks(self, width: int) -> Generator[Block, None, Tuple[int, int]]:
-        """The first records after the title, as long as no cell is in quotes and each line has so many cells. Returns where in the text the
-        next record begins, and its line; 0 and the first line where the title isn't plain."""
+        """The first records after the title, as long as no cell is in quotes and each line has so many cells. Returns
+        where in the text the next record begins, and its line; 0 and the first line where the title isn't plain."""
         begin, line = 0 if self.rows is not None else self._after_title(), self.skipped + 2
         if begin == 0:
             return 0, self.skipped + 1
@@ -222,12 +228,13 @@ class Sheet:
         """Where the second line begins, if the first one is the title and has no quotes; else 0."""
         end = self.text.find("\n") + 1
         title = self.text[:end].replace("\r\n", "\n")
-        is_plain = not self.has_hint and title.replace(self.separator, "").strip() and '"' not in title and "\r" not in title
+        is_plain = not self.has_hint and title.replace(self.separator,
+                                                       "").strip() and '"' not in title and "\r" not in title
         return end if is_plain else 0
 
     def _raw_blocks(self, begin: int, line: int) -> Iterator[Tuple[Sequence[int], List[List[str]]]]:
-        """All records from a place of the text, and its line, as they are, many at a time, with their lines. A fault comes after the records
-        before it."""
+        """All records from a place of the text, and its line, as they are, many at a time, with their lines. A fault
+        comes after the records before it."""
         if self.rows is not None:
             yield range(self.skipped + 1, self.skipped + len(self.rows) + 1), self.rows
             return
@@ -248,7 +255,8 @@ class Sheet:
         self.refuse(f"no CSV: {fault}", lines[-1])
 
     def name(self, cell: str, line: int, column: int) -> str:
-        """A cell as a name, with a blank for each line break; letters with accents are one name however they are written."""
+        """A cell as a name, with a blank for each line break; letters with accents are one name however they are
+        written."""
         if not cell.isprintable():
             cell = LINE_BREAKS.sub(" ", cell)
         if not cell:
@@ -284,11 +292,12 @@ def _lines_of(text: str, begin: int = 0) -> Iterator[str]:
 
 
 def _numbered(rows: List[List[str]], first: int, last: Optional[int]) -> Sequence[int]:
-    """The line of each record, and the one after them. A record takes several lines where its cells have breaks; none does if so many
-    lines as records end with the last."""
+    """The line of each record, and the one after them. A record takes several lines where its cells have breaks; none
+    does if so many lines as records end with the last."""
     if last is not None and last - first + 1 == len(rows):
         return range(first, last + 2)
-    return list(accumulate((1 + sum(len(re.findall("\r\n?|\n", cell)) for cell in cells) for cells in rows), initial=first))
+    return list(accumulate((1 + sum(len(re.findall("\r\n?|\n", cell)) for cell in cells) for cells in rows),
+                           initial=first))
 
 
 def _stripped(cells: List[str]) -> List[str]:

@@ -54,8 +54,10 @@ class Rows:
         """New variables, with factors of which the sum can be each number up to `most`."""
         return {self.helper(None): 2**place for place in range(most.bit_length())}
 
-    def add(self, own: Sum, least: Optional[Number], most: Optional[Number], said: Said, person: Optional[int] = None) -> None:
-        """Bounds a sum. A bound that the past alone exceeds is as near as can be; where all is past nothing is bounded."""
+    def add(self, own: Sum, least: Optional[Number], most: Optional[Number], said: Said,
+            person: Optional[int] = None) -> None:
+        """Bounds a sum. A bound that the past alone exceeds is as near as can be; where all is past nothing is
+        bounded."""
         if not own.is_open:
             return
         terms, low, high = _whole(own, least, most)
@@ -70,10 +72,12 @@ class Rows:
 
     def model(self, costs: Optional[Sequence[int]] = None, more: Sequence[Row] = ()) -> Model:
         """The model, with its own costs or others, and maybe more rows."""
-        return Model(len(self.costs), tuple(self.costs if costs is None else costs), (*self.rows, *more), tuple(self.persons))
+        return Model(len(self.costs), tuple(self.costs if costs is None else costs), (*self.rows, *more),
+                     tuple(self.persons))
 
 
-def _whole(own: Sum, least: Optional[Number], most: Optional[Number]) -> Tuple[Tuple[Tuple[int, int], ...], Optional[int], Optional[int]]:
+def _whole(own: Sum, least: Optional[Number], most: Optional[Number]) -> Tuple[Tuple[Tuple[int, int], ...],
+                                                                               Optional[int], Optional[int]]:
     """The terms in whole numbers without a common factor, and what bounds them."""
     scale = 1
     for factor in own.terms.values():
@@ -126,7 +130,8 @@ class Work:
 
     def objects(self, kinds: Kinds) -> Iterator[int]:
         """The objects of some kinds that can still be planned."""
-        return (object_ for object_, shift in self.month.shifts.items() if is_of(shift, kinds) and not self.month.is_past(shift.day))
+        return (object_ for object_, shift in self.month.shifts.items() if is_of(shift, kinds)
+                and not self.month.is_past(shift.day))
 
 
 def is_of(shift: Shift, kinds: Kinds) -> bool:

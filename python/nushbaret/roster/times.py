@@ -36,7 +36,8 @@ class Columns(NamedTuple):
 
 def columns_of(sheet: Sheet, title: Sequence[str], line: int) -> Optional[Columns]:
     """The columns of times after the first two, if there are any. Refuses one without the other."""
-    places = [[place for place, cell in enumerate(title) if place > 1 and cell.casefold() == word] for word in (FROM, TO)]
+    places = [[place for place, cell in enumerate(title) if place > 1 and cell.casefold() == word]
+              for word in (FROM, TO)]
     if not any(places):
         return None
     for own, word, other in zip(places, (FROM, TO), (TO, FROM)):
@@ -47,10 +48,12 @@ def columns_of(sheet: Sheet, title: Sequence[str], line: int) -> Optional[Column
 
 
 def times_of(sheet: Sheet, cells: List[str], columns: Columns, line: int) -> Optional[Times]:
-    """The times of a line, None where both cells are empty. What ends before it begins, or when it begins, ends on the next day."""
+    """The times of a line, None where both cells are empty. What ends before it begins, or when it begins, ends on the
+    next day."""
     if not cells[columns.begin] and not cells[columns.end]:
         return None
-    begin, end = (_minutes(sheet, cells[place], line, place + 1, most) for place, most in ((columns.begin, DAY - 1), (columns.end, DAY)))
+    begin, end = (_minutes(sheet, cells[place], line, place + 1, most)
+                  for place, most in ((columns.begin, DAY - 1), (columns.end, DAY)))
     return Times(begin, end if end > begin else end + DAY)
 
 

@@ -16,10 +16,11 @@ from .sheets import file_and_sheet
 NAME = "nushbaret"
 MOST_PLANS = 1000
 SUMMARY = "Find the plan of least cost for a roster of names in a CSV file, or who is short of what."
-STATUSES = ("Status 0: a plan; 1: there is none; 2: these words are refused; 3: a file's content is; 4: a file can't be read or written, an "
-            "output exists, the library isn't there, or memory was refused; 6: not decided in time. Ctrl-C: 130.")
-ROSTER = ("a CSV file (- is standard input) or an .xlsx workbook, with a title line: a person, an object and a cost in each line, or a "
-          "matrix with names in the first line and column, where an empty cell forbids a pair")
+STATUSES = ("Status 0: a plan; 1: there is none; 2: these words are refused; 3: a file's content is; 4: a file can't "
+            "be read or written, an output exists, the library isn't there, or memory was refused; 6: not decided in "
+            "time. Ctrl-C: 130.")
+ROSTER = ("a CSV file (- is standard input) or an .xlsx workbook, with a title line: a person, an object and a cost in "
+          "each line, or a matrix with names in the first line and column, where an empty cell forbids a pair")
 
 
 class WordsFault(Exception):
@@ -27,8 +28,8 @@ class WordsFault(Exception):
 
 
 class Value(NamedTuple):
-    """What stands after an option: how the help calls it; a file, and with which ends of its name; or one of some words. `read` makes it
-    of the word."""
+    """What stands after an option: how the help calls it; a file, and with which ends of its name; or one of some
+    words. `read` makes it of the word."""
 
     name: str
     is_file: bool = False
@@ -38,9 +39,10 @@ class Value(NamedTuple):
 
 
 class Option(NamedTuple):
-    """An option: its word; what it does, in the words of the help; the section of the help; the field of Options that it sets; what
-    stands after it, None for nothing; what it sets where nothing does; whether it may stand several times; and what is set where it
-    doesn't stand. Of the options of one `choice` only one may stand. `short` is a word of one letter for it."""
+    """An option: its word; what it does, in the words of the help; the section of the help; the field of Options that
+    it sets; what stands after it, None for nothing; what it sets where nothing does; whether it may stand several
+    times; and what is set where it doesn't stand. Of the options of one `choice` only one may stand. `short` is a word
+    of one letter for it."""
 
     word: str
     help: str
@@ -117,7 +119,8 @@ def _encoding(word: str) -> str:
         try:
             b" ".decode(word)
         except LookupError:
-            raise argparse.ArgumentTypeError(f"{word!r} is no encoding that Python has, such as Windows-1252 or UTF-8") from None
+            raise argparse.ArgumentTypeError(f"{word!r} is no encoding that Python has, such as Windows-1252 or "
+                                             "UTF-8") from None
     return word
 
 
@@ -126,66 +129,74 @@ COUNT_OF_PLACES = Value("K", choices=PLACES, read=_number(0, MOST_PLACES))
 PLAN = Value("PLAN", True, (".csv", ".json", ".xlsx"))
 COUNTS = Value("FILE.csv", True, (".csv", ".xlsx"))
 
-READING, COUNTING, PLANNING, SHOWING, WRITING = "The roster", "Counts and rules", "The plan", "What is printed", "What is written"
+READING, COUNTING, PLANNING, SHOWING, WRITING = ("The roster", "Counts and rules", "The plan", "What is printed",
+                                                 "What is written")
 SECTIONS = (READING, COUNTING, PLANNING, SHOWING, WRITING)
 
-OPTIONS = (
-    Option("--lines", "the roster has lines", READING, "form", sets=LINES, choice="form"),
-    Option("--matrix", "the roster is a matrix", READING, "form", sets=MATRIX, choice="form"),
-    Option("--decimals", f"costs have at most K decimal places, 0 to {MOST_PLACES} (else as many as the roster uses)", READING, "decimals",
-           COUNT_OF_PLACES, choice="places"),
-    Option("--round", "round costs to K decimal places, and say by how much that may matter", READING, "round", COUNT_OF_PLACES,
-           choice="places"),
-    Option("--decimal-comma", "costs are written as 2,50", READING, "decimal_comma"),
-    Option("--encoding", f"files of text are in this encoding (else UTF-8, or plain {WESTERN})", READING, "encoding",
-           Value("NAME", read=_encoding)),
-    Option("--sheet", "read this sheet of the roster's workbook (else the first); FILE.xlsx#SHEET names one of any file", READING, "sheet",
-           Value("NAME")),
-    Option("--skip-rows", "skip so many rows above the titles", READING, "skip_rows", Value("K", read=_number(0, 10**6)), default=0),
-    Option("--places", "lines of an object and how many persons it takes (else one): a number, or at least and at most", COUNTING, "places",
-           COUNTS),
-    Option("--tasks", "lines of a person and how many objects it takes (else one): a number, or at least and at most", COUNTING, "tasks",
-           COUNTS),
-    Option("--groups", "lines of an object and its group: nobody takes two objects of one group", COUNTING, "groups", COUNTS),
-    Option("--rules", "lines of a rule, its value and names: rest, runs, weeks, free weekends, hours and others; needs --groups, and SciPy",
-           COUNTING, "rules", COUNTS),
-    Option("--before", "with --rules: what was worked on earlier days (.csv, .json or .xlsx), whose objects the file of groups lists too",
-           COUNTING, "before", PLAN),
-    Option("--max", "find the plan of greatest cost", PLANNING, "max"),
-    Option("--fair", "make the dearest pair as cheap as possible, and then the sum", PLANNING, "fair"),
-    Option("--fixed", "keep the pairs of this plan (.csv, .json or .xlsx)", PLANNING, "fixed", PLAN),
-    Option("--as-many-as-can", "where there is no plan for all, find the fullest", PLANNING, "as_many_as_can"),
-    Option("--keep", "of all best plans take one with the fewest changes from this one (.csv, .json or .xlsx)", PLANNING, "keep", PLAN),
-    Option("--past", "with --keep: what the plan has in the groups before this one stays, and the rest is planned", PLANNING, "past",
-           Value("GROUP")),
-    Option("--change-cost", "weigh changes from the kept plan: half of C for each pair that comes, and for each that goes", PLANNING,
-           "change_cost", Value("C")),
-    Option("--time", "with --rules: find and prove for at most S seconds (else 60)", PLANNING, "time", Value("S", read=_number(1, 10**6))),
-    Option("--compare", "list the rules that this plan (.csv, .json or .xlsx) breaks, and by how much it is worse than the best", SHOWING,
-           "compare", PLAN),
-    Option("--others", "show who could change places at no cost, or the next best plan", SHOWING, "others"),
-    Option("--plans", f"show the K best plans, 2 to {MOST_PLANS}: each as what differs from the first", SHOWING, "plans",
-           Value("K", read=_number(2, MOST_PLANS)), default=1),
-    Option("--rents", "print the rents of the objects too", SHOWING, "rents"),
-    Option("--print", "write the plan to standard output as csv or json, and what is printed else to standard error", SHOWING, "print",
-           Value("KIND", choices=("csv", "json"))),
-    Option("--output", "write the plan as .csv, .json, .html or .xlsx; may be given several times", WRITING, "outputs",
-           Value("FILE", True, tuple("." + kind for kind in KINDS), read=_output), repeats=True, short="-o"),
-    Option("--html", "draw the plan as a page", WRITING, "outputs", Value("FILE", True, (".html",), read=_page), repeats=True),
-    Option("--plan-only", "leave wishes, costs, hints and other plans out of pages, as for the wall", WRITING, "plan_only"),
-    Option("--each", "write for each person a page and, where groups are dates, a calendar (.ics) into this folder", WRITING, "each",
-           Value("FOLDER", True)),
-    Option("--certificate", "with --rules: write what proves the answer; --check FILE checks it alone", WRITING, "certificate",
-           Value("FILE", True)),
-    Option("--quiet", "print the cost alone, or who is short", WRITING, "quiet", short="-q"),
-    Option("--force", "overwrite an output that exists", WRITING, "force"),
-)
+OPTIONS = (Option("--lines", "the roster has lines", READING, "form", sets=LINES, choice="form"),
+           Option("--matrix", "the roster is a matrix", READING, "form", sets=MATRIX, choice="form"),
+           Option("--decimals", f"costs have at most K decimal places, 0 to {MOST_PLACES} (else as many as the roster "
+                  "uses)", READING, "decimals", COUNT_OF_PLACES, choice="places"),
+           Option("--round", "round costs to K decimal places, and say by how much that may matter", READING, "round",
+                  COUNT_OF_PLACES, choice="places"), Option("--decimal-comma", "costs are written as 2,50", READING,
+                                                            "decimal_comma"),
+           Option("--encoding", f"files of text are in this encoding (else UTF-8, or plain {WESTERN})", READING,
+                  "encoding", Value("NAME", read=_encoding)), Option("--sheet", "read this sheet of the roster's "
+                                                                     "workbook (else the first); FILE.xlsx#SHEET names "
+                                                                     "one of any file", READING, "sheet",
+                                                                     Value("NAME")),
+           Option("--skip-rows", "skip so many rows above the titles", READING, "skip_rows",
+                  Value("K", read=_number(0, 10**6)), default=0), Option("--places", "lines of an object and how many "
+                                                                         "persons it takes (else one): a number, or at "
+                                                                         "least and at most", COUNTING, "places",
+                                                                         COUNTS),
+           Option("--tasks", "lines of a person and how many objects it takes (else one): a number, or at least and at "
+                  "most", COUNTING, "tasks", COUNTS), Option("--groups", "lines of an object and its group: nobody "
+                                                             "takes two objects of one group", COUNTING, "groups",
+                                                             COUNTS),
+           Option("--rules", "lines of a rule, its value and names: rest, runs, weeks, free weekends, hours and "
+                  "others; needs --groups, and SciPy", COUNTING, "rules", COUNTS),
+           Option("--before", "with --rules: what was worked on earlier days (.csv, .json or .xlsx), whose objects the "
+                  "file of groups lists too", COUNTING, "before", PLAN),
+           Option("--max", "find the plan of greatest cost", PLANNING, "max"),
+           Option("--fair", "make the dearest pair as cheap as possible, and then the sum", PLANNING, "fair"),
+           Option("--fixed", "keep the pairs of this plan (.csv, .json or .xlsx)", PLANNING, "fixed", PLAN),
+           Option("--as-many-as-can", "where there is no plan for all, find the fullest", PLANNING, "as_many_as_can"),
+           Option("--keep", "of all best plans take one with the fewest changes from this one (.csv, .json or .xlsx)",
+                  PLANNING, "keep", PLAN), Option("--past", "with --keep: what the plan has in the groups before this "
+                                                  "one stays, and the rest is planned", PLANNING, "past",
+                                                  Value("GROUP")),
+           Option("--change-cost", "weigh changes from the kept plan: half of C for each pair that comes, and for each "
+                  "that goes", PLANNING, "change_cost", Value("C")), Option("--time", "with --rules: find and prove "
+                                                                            "for at most S seconds (else 60)", PLANNING,
+                                                                            "time", Value("S", read=_number(1, 10**6))),
+           Option("--compare", "list the rules that this plan (.csv, .json or .xlsx) breaks, and by how much it is "
+                  "worse than the best", SHOWING, "compare", PLAN), Option("--others", "show who could change places "
+                                                                           "at no cost, or the next best plan", SHOWING,
+                                                                           "others"),
+           Option("--plans", f"show the K best plans, 2 to {MOST_PLANS}: each as what differs from the first", SHOWING,
+                  "plans", Value("K", read=_number(2, MOST_PLANS)), default=1),
+           Option("--rents", "print the rents of the objects too", SHOWING, "rents"),
+           Option("--print", "write the plan to standard output as csv or json, and what is printed else to standard "
+                  "error", SHOWING, "print", Value("KIND", choices=("csv", "json"))),
+           Option("--output", "write the plan as .csv, .json, .html or .xlsx; may be given several times", WRITING,
+                  "outputs", Value("FILE", True, tuple("." + kind for kind in KINDS), read=_output), repeats=True,
+                  short="-o"), Option("--html", "draw the plan as a page", WRITING, "outputs",
+                                      Value("FILE", True, (".html",), read=_page), repeats=True),
+           Option("--plan-only", "leave wishes, costs, hints and other plans out of pages, as for the wall", WRITING,
+                  "plan_only"), Option("--each", "write for each person a page and, where groups are dates, a calendar "
+                                       "(.ics) into this folder", WRITING, "each", Value("FOLDER", True)),
+           Option("--certificate", "with --rules: write what proves the answer; --check FILE checks it alone", WRITING,
+                  "certificate", Value("FILE", True)),
+           Option("--quiet", "print the cost alone, or who is short", WRITING, "quiet", short="-q"),
+           Option("--force", "overwrite an output that exists", WRITING, "force"),)
 
 
 # The options that need no roster, with their short words and what stands after them, if any, after the one for help.
 GENERAL = (("-V", "--version", "", "show program's version number and exit"),
            ("", "--guide", "", "print the guide to rosters, and where it lies with its examples, and exit"),
-           ("", "--check", "FILE", "check a file that --certificate wrote, print what it shows, and exit: 0 if shown, 1 if not"))
+           ("", "--check", "FILE", "check a file that --certificate wrote, print what it shows, and exit: 0 if shown, "
+            "1 if not"))
 HINT = f"{NAME} --help lists all options"
 DASHES = "-\u2013\u2014"
 
@@ -203,8 +214,9 @@ class _Parser(argparse.ArgumentParser):
     """A parser that says in one line why words are refused."""
 
     def error(self, message: str) -> NoReturn:
-        for begin, text in (("the following arguments are required: ROSTER", "the file of a roster is needed"), ("argument ", ""),
-                            ("unrecognized arguments: ", "one roster at a time, and there is also ")):
+        for begin, text in (("the following arguments are required: ROSTER", "the file of a roster is needed"),
+                            ("argument ", ""), ("unrecognized arguments: ", "one roster at a time, and there is also "
+                                                "")):
             if message.startswith(begin):
                 message = text + message[len(begin):]
         self.refuse(f"{message} ({HINT})")
@@ -220,7 +232,8 @@ class _Guide(argparse.Action):
     def __init__(self, option_strings: Sequence[str], dest: str, **words: Any) -> None:
         super().__init__(option_strings, argparse.SUPPRESS, nargs=0, **words)
 
-    def __call__(self, parser: argparse.ArgumentParser, namespace: argparse.Namespace, values: Any, option_string: Optional[str] = None) -> None:
+    def __call__(self, parser: argparse.ArgumentParser, namespace: argparse.Namespace, values: Any,
+                 option_string: Optional[str] = None) -> None:
         from .guide import guide
         try:
             print_content(guide())
@@ -235,7 +248,8 @@ class _Check(argparse.Action):
     def __init__(self, option_strings: Sequence[str], dest: str, **words: Any) -> None:
         super().__init__(option_strings, argparse.SUPPRESS, **words)
 
-    def __call__(self, parser: argparse.ArgumentParser, namespace: argparse.Namespace, values: Any, option_string: Optional[str] = None) -> None:
+    def __call__(self, parser: argparse.ArgumentParser, namespace: argparse.Namespace, values: Any,
+                 option_string: Optional[str] = None) -> None:
         from .check_file import checked
         try:
             status, line = checked(str(values))
@@ -248,7 +262,8 @@ class _Check(argparse.Action):
 class _Once(argparse.Action):
     """Takes a file that is asked for once."""
 
-    def __call__(self, parser: argparse.ArgumentParser, namespace: argparse.Namespace, values: Any, option_string: Optional[str] = None) -> None:
+    def __call__(self, parser: argparse.ArgumentParser, namespace: argparse.Namespace, values: Any,
+                 option_string: Optional[str] = None) -> None:
         before = getattr(namespace, self.dest)
         if before is not None:
             raise argparse.ArgumentError(self, f"given twice, with {before} and {values}")
@@ -278,13 +293,14 @@ def _add(place: Any, option: Option) -> None:
     words = [word for word in (option.short, option.word) if word]
     if option.value is None:
         default = False if option.sets is True else None
-        place.add_argument(*words, dest=option.field, action="store_const", const=option.sets, default=default, help=option.help)
+        place.add_argument(*words, dest=option.field, action="store_const", const=option.sets, default=default,
+                           help=option.help)
         return
     # A word that isn't one of the choices is refused by argparse; numbers refuse their own.
     choices = option.value.choices if option.value.read is str and option.value.choices else None
     action = "append" if option.repeats else _Once if option.value.is_file else "store"
-    place.add_argument(*words, dest=option.field, metavar=option.value.name, type=option.value.read, choices=choices, help=option.help,
-                       action=action, default=[] if option.repeats else option.default)
+    place.add_argument(*words, dest=option.field, metavar=option.value.name, type=option.value.read, choices=choices,
+                       help=option.help, action=action, default=[] if option.repeats else option.default)
 
 
 def read_words(words: Optional[Sequence[str]]) -> Options:
@@ -306,7 +322,8 @@ def _refuse_unknown(words: Sequence[str], parser: argparse.ArgumentParser) -> No
     words = words[:words.index("--")] if "--" in words else words
     for before, word in zip((NAME, *words), words):
         name = word.partition("=")[0]
-        if before in valued or not _looks_like_option(name) or name in known or name[:2] in known and "--" + name[1:] not in known:
+        if (before in valued or not _looks_like_option(name) or name in known or name[:2] in known
+            and "--" + name[1:] not in known):
             continue
         near = _nearest(name.strip(DASHES), [word for word in known if word.startswith("--")])
         if near or word[0] == "-":
@@ -360,13 +377,15 @@ def _judge_fair(options: Options, refuse: Callable[[str], NoReturn]) -> None:
 def _judge_rules(options: Options, refuse: Callable[[str], NoReturn]) -> None:
     """Refuses what doesn't go with rules, and what needs them."""
     if options.rules is None:
-        for word, value in (("--before", options.before), ("--time", options.time), ("--certificate", options.certificate)):
+        for word, value in (("--before", options.before), ("--time", options.time),
+                            ("--certificate", options.certificate)):
             if value is not None:
                 refuse(f"{word} needs --rules")
         return
     if not options.groups:
         refuse("--rules needs --groups, which says the day of each object")
-    for word, is_given in (("--others", options.others), ("--plans", options.plans > 1), ("--fair", options.fair), ("--rents", options.rents)):
+    for word, is_given in (("--others", options.others), ("--plans", options.plans > 1), ("--fair", options.fair),
+                           ("--rents", options.rents)):
         if is_given:
             refuse(f"{word} is of plans without rules: not with --rules")
 

@@ -1,4 +1,5 @@
-"""A model by persons: each person's variables and rows, and the rows that several persons share. Needs NumPy and SciPy."""
+"""A model by persons: each person's variables and rows, and the rows that several persons share. Needs NumPy and
+SciPy."""
 import importlib
 from typing import Any, Dict, List, NamedTuple, Optional, Sequence, Tuple
 
@@ -9,7 +10,8 @@ sparse: Any = importlib.import_module("scipy.sparse")
 
 
 class PersonBlock(NamedTuple):
-    """A person's part of a model: the variables, the rows' numbers, and these rows over the block's own variables, from 0."""
+    """A person's part of a model: the variables, the rows' numbers, and these rows over the block's own variables, from
+    0."""
 
     variables: List[int]
     numbers: List[int]
@@ -23,7 +25,8 @@ def limits_of(row: Row) -> Limits:
 
 
 def blocks_of(model: Model) -> Tuple[List[PersonBlock], List[int]]:
-    """The persons' blocks, a variable of nobody being one of its own, and the numbers of the rows over several blocks or none."""
+    """The persons' blocks, a variable of nobody being one of its own, and the numbers of the rows over several blocks
+    or none."""
     block_of, variables = _blocks_of_variables(model)
     numbers: List[List[int]] = [[] for _ in variables]
     shared: List[int] = []
@@ -51,7 +54,8 @@ def _blocks_of_variables(model: Model) -> Tuple[List[int], List[List[int]]]:
 def _block(model: Model, variables: List[int], numbers: List[int]) -> PersonBlock:
     place = {variable: at for at, variable in enumerate(variables)}
     rows = [model.rows[number] for number in numbers]
-    return PersonBlock(variables, numbers, [Limits(row.least, moved(row.terms, place), row.most) for row in rows], place)
+    return PersonBlock(variables, numbers, [Limits(row.least, moved(row.terms, place), row.most) for row in rows],
+                       place)
 
 
 def moved(terms: Terms, to: Any) -> Terms:

@@ -1,5 +1,5 @@
-"""Bounds on what a plan costs, with their proofs: by the relaxation's dual values, by small trees, and person by person. Needs NumPy and
-SciPy."""
+"""Bounds on what a plan costs, with their proofs: by the relaxation's dual values, by small trees, and person by
+person. Needs NumPy and SciPy."""
 import importlib
 import time
 from typing import Any, List, Optional
@@ -86,7 +86,8 @@ class Prover:
             has_gained = self.attempt_whole(self.channel.cost - 1)
 
     def attempt_whole(self, most: int) -> bool:
-        """Looks for a tree over all variables that shows that no plan costs `most` or less; whether it, or a better plan, was found."""
+        """Looks for a tree over all variables that shows that no plan costs `most` or less; whether it, or a better
+        plan, was found."""
         cost, self.whole.plan = self.channel.cost, None
         try:
             self.tell(self.whole.tree(self.model.costs, most, _MOST_LEAVES), most)
@@ -141,7 +142,8 @@ class Prover:
         return None if self.channel.cost is None else self.channel.cost - 1
 
     def by_persons(self, pricing: Pricing, best: Bound) -> None:
-        """The bound that the prices show, plans near it, and trees after the persons' links for what is left between them."""
+        """The bound that the prices show, plans near it, and trees after the persons' links for what is left between
+        them."""
         for percent in _NEAR:
             if self.channel.cost is None:
                 self.look_near(pricing, best, best.value // SCALE + abs(best.value) * percent // (100 * SCALE) + 2)
@@ -163,10 +165,12 @@ class Prover:
         least = (reaches[0] > SCALE * most).astype(float)
         greatest = 1.0 - (reaches[1] > SCALE * most)
         if (least <= greatest).all():
-            self.say_found(tried(self.model.costs, [*self.rows, cost_row(self.model, most)], self.left() / 3, least, greatest).plan)
+            self.say_found(tried(self.model.costs, [*self.rows, cost_row(self.model, most)], self.left() / 3, least,
+                                 greatest).plan)
 
     def close(self, pricing: Pricing, best: Bound) -> None:
-        """Looks for a proof that the plan known is best; where that isn't found in a part of the time, for one that is half way as far."""
+        """Looks for a proof that the plan known is best; where that isn't found in a part of the time, for one that is
+        half way as far."""
         is_whole = True
         while self.channel.cost is not None and not self.is_closed() and self.left() > 1:
             most = self.channel.cost - 1

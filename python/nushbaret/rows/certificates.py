@@ -36,8 +36,8 @@ def lists_of(certificate: Certificate) -> Lists:
     for row in rows:
         starts.append(starts[-1] + len(row.terms))
     return Lists(certificate.variables, starts, [variable for row in rows for variable, _ in row.terms],
-                 [factor for row in rows for _, factor in row.terms], [row.least for row in rows], [row.most for row in rows],
-                 list(certificate.plan or ()), list(certificate.tree))
+                 [factor for row in rows for _, factor in row.terms], [row.least for row in rows],
+                 [row.most for row in rows], list(certificate.plan or ()), list(certificate.tree))
 
 
 def certificate_of(lists: Lists) -> Certificate:
@@ -84,8 +84,8 @@ def certificate_from(text: str) -> Certificate:
     if len(found["n"]) != 1:
         raise CertificateFault("line 2: one number is needed")
     whole = {name: [value for value in values if value is not None] for name, values in found.items()}
-    return certificate_of(Lists(whole["n"][0], whole["starts"], whole["variables"], whole["coefficients"], found["least"], found["most"],
-                                whole["plan"], whole["tree"]))
+    return certificate_of(Lists(whole["n"][0], whole["starts"], whole["variables"], whole["coefficients"],
+                                found["least"], found["most"], whole["plan"], whole["tree"]))
 
 
 def _number(word: str, line: int, may_be_absent: bool) -> Optional[int]:
@@ -97,7 +97,8 @@ def _number(word: str, line: int, may_be_absent: bool) -> Optional[int]:
 
 
 def write_certificate(path: Union[str, "pathlib.Path"], certificate: Certificate) -> None:
-    """Writes a certificate. Raises `CertificateFault` and writes nothing where a number is beyond 64 bits, OSError where it can't be written."""
+    """Writes a certificate. Raises `CertificateFault` and writes nothing where a number is beyond 64 bits, OSError
+    where it can't be written."""
     pathlib.Path(path).write_bytes(certificate_text(certificate).encode("ascii"))
 
 

@@ -1,5 +1,5 @@
-"""Proofs person by person: a chain of splits, each with a person's tree, and after it one leaf that adds them up, or a tree over all
-variables. Needs NumPy and SciPy."""
+"""Proofs person by person: a chain of splits, each with a person's tree, and after it one leaf that adds them up, or a
+tree over all variables. Needs NumPy and SciPy."""
 import importlib
 from typing import Any, Dict, List, NamedTuple, Optional, Tuple
 
@@ -48,8 +48,8 @@ class Chain:
         return self.bound.value - SCALE * self.target - 1
 
     def add_persons(self, spare: Optional[int]) -> None:
-        """A link for each person, which says the least that her months cost at the prices; `spare` may be given up in all, or a little by
-        each."""
+        """A link for each person, which says the least that her months cost at the prices; `spare` may be given up in
+        all, or a little by each."""
         wanted = [number for number, block in enumerate(self.pricing.blocks)
                   if np.minimum(self.costs[block.variables], 0).sum() < self.bound.least[number]]
         for done, number in enumerate(wanted):
@@ -63,7 +63,8 @@ class Chain:
         tree = Trees(part, self.deadline).tree(own, least - 1)
         terms = self._terms(number)
         self.row_of[number], self.least[number] = self.next_row(), least
-        self.links.append(_Link(terms, least - 1, renamed(tree, part, self.next_row(), self.next_row() + 1), Limits(least, terms, None)))
+        self.links.append(_Link(terms, least - 1, renamed(tree, part, self.next_row(), self.next_row() + 1),
+                                Limits(least, terms, None)))
 
     def _terms(self, number: int) -> Terms:
         variables = self.pricing.blocks[number].variables
@@ -71,7 +72,8 @@ class Chain:
 
     def last(self, instead: Optional[Tuple[int, int]] = None) -> Leaf:
         """The leaf that adds up prices, costs, and each person's least; that of one person from another row instead."""
-        prices = [(self.pricing.shared[place], int(self.bound.prices[place])) for place in np.flatnonzero(self.bound.prices).tolist()]
+        prices = [(self.pricing.shared[place], int(self.bound.prices[place]))
+                  for place in np.flatnonzero(self.bound.prices).tolist()]
         rows = [row for number, row in self.row_of.items() if instead is None or number != instead[0]]
         rows += [] if instead is None else [instead[1]]
         costs = [(self.cost_row, -SCALE)] if self.has_costs else []
@@ -82,12 +84,15 @@ class Chain:
         proof = last
         for link in reversed(self.links):
             is_above = link.row.most is None
-            proof = Split(link.terms, link.most, link.refuted, proof) if is_above else Split(link.terms, link.most, proof, link.refuted)
+            proof = Split(link.terms, link.most, link.refuted, proof) if is_above else Split(link.terms, link.most,
+                                                                                             proof, link.refuted)
         return proof
 
     def add_fixing(self) -> List[int]:
-        """Links that fix variables of persons whose other values need a cost beyond the target; the places of these links."""
-        total = self.bound.value - sum(self.bound.least) + sum(self.least.get(number, least) for number, least in enumerate(self.bound.least))
+        """Links that fix variables of persons whose other values need a cost beyond the target; the places of these
+        links."""
+        total = self.bound.value - sum(self.bound.least) + sum(self.least.get(number, least)
+                                                               for number, least in enumerate(self.bound.least))
         places = []
         for number in list(self.row_of):
             wanted = SCALE * self.target + 1 - total + self.least[number]
@@ -98,10 +103,12 @@ class Chain:
         return places
 
     def _fixing(self, number: int, wanted: int) -> Optional[_Link]:
-        """The link that fixes variables of a person without which, or with which, her months cost `wanted` or more at the prices."""
+        """The link that fixes variables of a person without which, or with which, her months cost `wanted` or more at
+        the prices."""
         block, own = self.pricing.blocks[number], self.costs[self.pricing.blocks[number].variables]
         without, with_ = self.pricing.with_and_without(number, own)
-        terms = tuple((place, 1 if with_[place] >= wanted else -1) for place in range(len(own)) if max(with_[place], without[place]) >= wanted)
+        terms = tuple((place, 1 if with_[place] >= wanted else -1) for place in range(len(own))
+                      if max(with_[place], without[place]) >= wanted)
         most = -sum(factor < 0 for _, factor in terms)
         if not terms:
             return None
@@ -111,14 +118,15 @@ class Chain:
             tree = Trees(part, self.deadline).tree(own, wanted - 1, _FIXING_LEAVES)
         except Open:
             return None
-        beyond = Split(self._terms(number), wanted - 1, renamed(tree, part, other + 1, other + 2), self.last((number, other + 1)))
+        beyond = Split(self._terms(number), wanted - 1, renamed(tree, part, other + 1, other + 2),
+                       self.last((number, other + 1)))
         moved = tuple((block.variables[place], factor) for place, factor in terms)
         return _Link(moved, most, beyond, Limits(None, moved, most))
 
 
 def chain(pricing: Pricing, bound: Bound, target: int, deadline: float) -> Proof:
-    """A proof that no plan costs `target` or less, by prices of the shared rows. The row `cost <= target` comes after the model's rows.
-    Raises `Open` where a person's tree isn't found in time."""
+    """A proof that no plan costs `target` or less, by prices of the shared rows. The row `cost <= target` comes after
+    the model's rows. Raises `Open` where a person's tree isn't found in time."""
     links = Chain(pricing, bound, target, deadline)
     if links.spare() < 0:
         raise Open

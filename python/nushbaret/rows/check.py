@@ -19,8 +19,8 @@ class _TreeNode(NamedTuple):
 
 
 def shows(certificate: Certificate) -> bool:
-    """Whether a certificate shows that no plan meets its rows, and its plan, where it has one, meets all but the last. The library says so;
-    where it doesn't have this check, or a number is beyond 64 bits, this module does."""
+    """Whether a certificate shows that no plan meets its rows, and its plan, where it has one, meets all but the last.
+    The library says so; where it doesn't have this check, or a number is beyond 64 bits, this module does."""
     is_shown = shown_by_library(certificate)
     return shows_here(certificate) if is_shown is None else is_shown
 
@@ -28,7 +28,8 @@ def shows(certificate: Certificate) -> bool:
 def shows_here(certificate: Certificate) -> bool:
     """The same by this module alone."""
     plan, rows = certificate.plan, certificate.rows
-    if plan is not None and not (rows and len(plan) == certificate.variables and set(plan) <= {0, 1} and meets(plan, rows[:-1])):
+    if plan is not None and not (rows and len(plan) == certificate.variables and set(plan) <= {0, 1}
+                                 and meets(plan, rows[:-1])):
         return False
     try:
         return all(_is_shown(leaf, rows, path) for leaf, path in _leaves(certificate))

@@ -16,7 +16,8 @@ TOO_MUCH = 2**60
 
 
 class Diagram(NamedTuple):
-    """Layers of a decision diagram, one a variable: where 0 and 1 lead from each node. The number after a layer's last node is a dead end."""
+    """Layers of a decision diagram, one a variable: where 0 and 1 lead from each node. The number after a layer's last
+    node is a dead end."""
 
     order: List[int]
     zero: List[Any]
@@ -45,7 +46,8 @@ def _as_given(variables: int, rows: Sequence[Limits]) -> List[int]:
         for variable, _ in row.terms:
             if len(row.terms) <= shortest[variable]:
                 before = [other for other, _ in row.terms if other < variable]
-                after[variable] = max(before, default=variable) if len(row.terms) < shortest[variable] else max([after[variable], *before])
+                after[variable] = (max(before, default=variable) if len(row.terms) < shortest[variable]
+                                   else max([after[variable], *before]))
                 shortest[variable] = len(row.terms)
     return sorted(range(variables), key=lambda variable: (after[variable], variable))
 
@@ -59,7 +61,8 @@ def _step_by_step(variables: int, rows: Sequence[Limits]) -> List[int]:
     left = [len(row.terms) for row in rows]
     waiting, order = list(range(variables)), []
     while waiting:
-        best = min(waiting, key=lambda variable: sum((left[row] == len(rows[row].terms)) - (left[row] == 1) for row in rows_of[variable]))
+        best = min(waiting, key=lambda variable: sum((left[row] == len(rows[row].terms)) - (left[row] == 1)
+                                                     for row in rows_of[variable]))
         waiting.remove(best)
         order.append(best)
         for number in rows_of[best]:
@@ -68,12 +71,15 @@ def _step_by_step(variables: int, rows: Sequence[Limits]) -> List[int]:
 
 
 class _Packing:
-    """Disjoint rows of ones of which at most so many may be taken: bounds on what the rest of another row can come to."""
+    """Disjoint rows of ones of which at most so many may be taken: bounds on what the rest of another row can come
+    to."""
 
     def __init__(self, order: Sequence[int], rows: Sequence[Limits]):
         self.order = order
-        packed = [row for row in rows if row.most is not None and row.terms and all(factor == 1 for _, factor in row.terms)]
-        self.item_of, self.items = _disjoint([[variable for variable, _ in row.terms] for row in packed if row.most == 1], len(order))
+        packed = [row for row in rows if row.most is not None and row.terms
+                  and all(factor == 1 for _, factor in row.terms)]
+        self.item_of, self.items = _disjoint([[variable for variable, _ in row.terms] for row in packed
+                                              if row.most == 1], len(order))
         wide = [row for row in packed if row.most is not None and row.most > 1]
         unions = [(sorted({self.item_of[variable] for variable, _ in row.terms}), row.most or 0) for row in wide]
         self.group_of, groups = _disjoint([union for union, _ in unions], self.items)
@@ -100,7 +106,8 @@ class _Packing:
 
 
 def _disjoint(sets: Sequence[Sequence[int]], count: int) -> Tuple[List[int], int]:
-    """To which of disjoint sets each of 0..count belongs, and how many there are: those given that share none, then one of its own."""
+    """To which of disjoint sets each of 0..count belongs, and how many there are: those given that share none, then one
+    of its own."""
     set_of, number = [-1] * count, 0
     for own in sets:
         if all(set_of[one] < 0 for one in own):
@@ -160,14 +167,17 @@ class _Layers:
 
     def _left(self, states: Any) -> Tuple[Any, Any]:
         """How much each open row still needs at least and has room for at most."""
-        least = np.array([-_FAR if self.rows[row].least is None else self.rows[row].least for row in self.open], dtype=np.int64)
-        most = np.array([_FAR if self.rows[row].most is None else self.rows[row].most for row in self.open], dtype=np.int64)
+        least = np.array([-_FAR if self.rows[row].least is None else self.rows[row].least for row in self.open],
+                         dtype=np.int64)
+        most = np.array([_FAR if self.rows[row].most is None else self.rows[row].most for row in self.open],
+                        dtype=np.int64)
         return least - states, most - states
 
     def _keys(self, wanted: Any, allowed: Any) -> Any:
         """A number for each state, the same for states from which the same is left to do."""
         mixers = self.mixers[:, self.open]
-        return np.maximum(wanted, self._of(self.least)) @ mixers[0] + np.minimum(allowed, self._of(self.most)) @ mixers[1]
+        return np.maximum(wanted, self._of(self.least)) @ mixers[0] + np.minimum(allowed,
+                                                                                 self._of(self.most)) @ mixers[1]
 
 
 def diagram_of(variables: int, rows: Sequence[Limits], most_nodes: int = MOST_NODES) -> Optional[Diagram]:

@@ -1,4 +1,5 @@
-"""Finds the cheapest plan of a model, with a certificate: SciPy looks, in processes of its own, and the check of certificates decides."""
+"""Finds the cheapest plan of a model, with a certificate: SciPy looks, in processes of its own, and the check of
+certificates decides."""
 import contextlib
 import importlib.util
 import json
@@ -35,14 +36,18 @@ class _Worker:
         self.threads: List[threading.Thread] = []
 
     def start(self, first: Dict[str, Any]) -> None:
-        """Starts the process, which no Ctrl-C of the terminal reaches: who started it ends it, or it ends when its input does."""
+        """Starts the process, which no Ctrl-C of the terminal reaches: who started it ends it, or it ends when its
+        input does."""
         package = str(pathlib.Path(__file__).resolve().parent.parent.parent)
         paths = [package, *filter(None, [os.environ.get("PYTHONPATH")])]
-        environment = {**os.environ, "PYTHONPATH": os.pathsep.join(paths), "OMP_NUM_THREADS": "1", "OPENBLAS_NUM_THREADS": "1"}
-        self.process = subprocess.Popen([sys.executable, "-m", "nushbaret.rows.worker"], stdin=subprocess.PIPE, stdout=subprocess.PIPE,
-                                        stderr=subprocess.DEVNULL, text=True, env=environment, start_new_session=True, creationflags=_OWN_GROUP)
+        environment = {**os.environ, "PYTHONPATH": os.pathsep.join(paths), "OMP_NUM_THREADS": "1",
+                       "OPENBLAS_NUM_THREADS": "1"}
+        self.process = subprocess.Popen([sys.executable, "-m", "nushbaret.rows.worker"], stdin=subprocess.PIPE,
+                                        stdout=subprocess.PIPE, stderr=subprocess.DEVNULL, text=True, env=environment,
+                                        start_new_session=True, creationflags=_OWN_GROUP)
         self.tell(first)
-        self.threads = [threading.Thread(target=work, args=(self.process,), daemon=True) for work in (self._write, self._read)]
+        self.threads = [threading.Thread(target=work, args=(self.process,), daemon=True)
+                        for work in (self._write, self._read)]
         for thread in self.threads:
             thread.start()
 
@@ -110,7 +115,8 @@ class _PlanSearch:
         return True
 
     def _certificate(self, most: int, tree: Sequence[int]) -> Certificate:
-        """The certificate of a bound. Where costs have a unit, a split on the cost in units leads to the row that the proof uses."""
+        """The certificate of a bound. Where costs have a unit, a split on the cost in units leads to the row that the
+        proof uses."""
         terms = tuple((variable, cost) for variable, cost in enumerate(self.model.costs) if cost)
         count, unit = len(self.rows), self.unit
         row = Limits(None, terms, (most + 1) * unit - 1)
@@ -121,10 +127,12 @@ class _PlanSearch:
 
     def take_reasons(self, told: Dict[str, Any]) -> bool:
         """Keeps reasons, if their proof shows that their rows have no plan."""
-        certificate = Certificate(self.model.variables, tuple(self.rows[row] for row in told["rows"]), None, tuple(told["tree"]))
+        certificate = Certificate(self.model.variables, tuple(self.rows[row] for row in told["rows"]), None,
+                                  tuple(told["tree"]))
         if not shows(certificate):
             return False
-        self.reasons = Finding("impossible", reasons=tuple(told["reasons"]), is_minimal=told["is_minimal"], certificate=certificate)
+        self.reasons = Finding("impossible", reasons=tuple(told["reasons"]), is_minimal=told["is_minimal"],
+                               certificate=certificate)
         return True
 
     def is_best(self) -> bool:
@@ -153,11 +161,12 @@ def _deeper(tree: Sequence[int], first: int) -> List[int]:
     return moved
 
 
-def find(model: Model, seconds: float, progress: Optional[Progress] = None, start: Optional[Sequence[int]] = None) -> Finding:
+def find(model: Model, seconds: float, progress: Optional[Progress] = None,
+         start: Optional[Sequence[int]] = None) -> Finding:
     """Looks for the cheapest plan of a model and for a proof, for so many seconds by the clock.
 
-    `progress` is called with the stage, the cost of the best plan so far and its bound. `start` is a plan known before. What is returned has been
-    shown by its certificate. Raises ImportError where SciPy isn't there.
+    `progress` is called with the stage, the cost of the best plan so far and its bound. `start` is a plan known before.
+    What is returned has been shown by its certificate. Raises ImportError where SciPy isn't there.
     """
     deadline = time.monotonic() + seconds
     if any(importlib.util.find_spec(name) is None for name in ("numpy", "scipy")):
@@ -191,11 +200,13 @@ def _without_variables(search: _PlanSearch) -> None:
     for number, row in enumerate(search.model.rows):
         if not meets((), search.rows[number:number + 1]):
             factor = 1 if row.least is not None and row.least > 0 else -1
-            search.take_reasons({"reasons": [row.text], "is_minimal": True, "rows": [number], "tree": [0, 1, 0, factor]})
+            search.take_reasons({"reasons": [row.text], "is_minimal": True, "rows": [number],
+                                 "tree": [0, 1, 0, factor]})
 
 
 def _next_message(told: "queue.Queue[Dict[str, Any]]", deadline: float) -> Optional[Dict[str, Any]]:
-    """What a worker reports next; None where the time is over. It waits in short pieces, since on Windows Ctrl-C ends no wait."""
+    """What a worker reports next; None where the time is over. It waits in short pieces, since on Windows Ctrl-C ends
+    no wait."""
     while True:
         left = deadline - time.monotonic()
         try:

@@ -52,7 +52,8 @@ def _bounds(values: Iterable[Optional[int]], absent: int) -> "array[int]":
 
 
 def shown_by_library(certificate: Certificate) -> Optional[bool]:
-    """Whether the library shows a certificate's claim; None where it can't decide: it doesn't have the call, or a number is too great."""
+    """Whether the library shows a certificate's claim; None where it can't decide: it doesn't have the call, or a
+    number is too great."""
     call = _rows_call()
     if call is None or _says_no_bound(certificate) or (certificate.plan is not None and certificate.variables == 0):
         return None

@@ -23,7 +23,8 @@ class Model(NamedTuple):
     variables: int
     costs: Tuple[int, ...]
     rows: Tuple[Row, ...]
-    # Whose variable each is; None where it is nobody's. A row whose variables are all of one person counts as that person's.
+    # Whose variable each is; None where it is nobody's. A row whose variables are all of one person counts as that
+    # person's.
     persons: Tuple[Optional[int], ...]
 
 
@@ -36,13 +37,15 @@ class Limits(NamedTuple):
 
 
 class Leaf(NamedTuple):
-    """The end of a branch of a proof: whole multipliers of rows, by the rows' numbers, whose weighed sum no plan can reach."""
+    """The end of a branch of a proof: whole multipliers of rows, by the rows' numbers, whose weighed sum no plan can
+    reach."""
 
     multipliers: Tuple[Tuple[int, int], ...]
 
 
 class Split(NamedTuple):
-    """A branching of a proof: the sum of the terms is at most `most` in the one half, and at least one more in the other.
+    """A branching of a proof: the sum of the terms is at most `most` in the one half, and at least one more in the
+    other.
 
     Each half has this as one more row, after the rows that were there.
     """
@@ -57,8 +60,8 @@ Proof = Union[Leaf, Split]
 
 
 def flat(proof: Proof) -> Tuple[int, ...]:
-    """A proof as one list: a leaf is 0, how many multipliers, and them; a split 1, how many terms, the greatest sum of the half below,
-    the terms, and then both halves."""
+    """A proof as one list: a leaf is 0, how many multipliers, and them; a split 1, how many terms, the greatest sum of
+    the half below, the terms, and then both halves."""
     numbers: List[int] = []
     waiting = [proof]
     while waiting:
@@ -74,7 +77,8 @@ def flat(proof: Proof) -> Tuple[int, ...]:
 class Certificate(NamedTuple):
     """The claim that no 0/1 plan meets all rows, with its proof as one list, in the form of `nushbaret_rows` in C.
 
-    With a plan the last row is `cost <= most`: the plan meets all rows but that one, and no plan costs less than `most + 1`.
+    With a plan the last row is `cost <= most`: the plan meets all rows but that one, and no plan costs less than `most
+    + 1`.
     """
 
     variables: int
@@ -87,8 +91,8 @@ class Finding(NamedTuple):
     """What was found of a model, no more than its certificate has shown.
 
     kind
-        "best": the plan costs the least. "within": a plan and a bound that is less than its cost. "impossible": no plan meets the rows.
-        "undecided": there is no bound, and maybe no plan, and no proof that there is none.
+        "best": the plan costs the least. "within": a plan and a bound that is less than its cost. "impossible": no plan
+        meets the rows. "undecided": there is no bound, and maybe no plan, and no proof that there is none.
     plan
         0 or 1 for each variable, or None.
     cost
@@ -98,7 +102,8 @@ class Finding(NamedTuple):
     reasons
         Where the kind is "impossible": sentences that can't hold together.
     is_minimal
-        Whether none of the reasons can be left out: without any of them some plan is known. False where the time ended before.
+        Whether none of the reasons can be left out: without any of them some plan is known. False where the time ended
+        before.
     certificate
         What shows the bound, or the reasons; None where nothing is shown.
     """

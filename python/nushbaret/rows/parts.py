@@ -13,7 +13,8 @@ class Part(NamedTuple):
 
 
 def renamed(proof: Proof, part: Part, cost_row: Optional[int], first: int) -> Proof:
-    """A part's tree in the model's numbers, where `cost <= most` is row `cost_row`, if there is one, and the splits' rows begin with `first`."""
+    """A part's tree in the model's numbers, where `cost <= most` is row `cost_row`, if there is one, and the splits'
+    rows begin with `first`."""
     numbers = dict(enumerate([*part.numbers, *([] if cost_row is None else [cost_row])]))
     after = first - len(numbers)
     return _renamed(proof, part.variables, numbers, after)
@@ -23,4 +24,5 @@ def _renamed(proof: Proof, variables: Sequence[int], numbers: Dict[int, int], af
     if isinstance(proof, Leaf):
         return Leaf(tuple((numbers.get(row, row + after), factor) for row, factor in proof.multipliers))
     terms = tuple((variables[variable], factor) for variable, factor in proof.terms)
-    return Split(terms, proof.most, _renamed(proof.below, variables, numbers, after), _renamed(proof.above, variables, numbers, after))
+    return Split(terms, proof.most, _renamed(proof.below, variables, numbers, after),
+                 _renamed(proof.above, variables, numbers, after))

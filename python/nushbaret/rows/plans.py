@@ -16,15 +16,17 @@ _FIRST_PART = 0.4
 
 
 class Tried(NamedTuple):
-    """What HiGHS returned: a plan that meets the rows, or None; and whether it says that no other costs less, or that there is none."""
+    """What HiGHS returned: a plan that meets the rows, or None; and whether it says that no other costs less, or that
+    there is none."""
 
     plan: Optional[List[int]]
     is_over: bool
 
 
 def tried(costs: Sequence[int], rows: Sequence[Limits], seconds: float, least: Any = 0, most: Any = 1) -> Tried:
-    """Lets HiGHS look for the cheapest plan that meets the rows, with bounds of the variables, for about so many seconds. Where what it
-    returns doesn't meet them, it looks once more without its presolve, which was seen to lose bounds."""
+    """Lets HiGHS look for the cheapest plan that meets the rows, with bounds of the variables, for about so many
+    seconds. Where what it returns doesn't meet them, it looks once more without its presolve, which was seen to lose
+    bounds."""
     low, high = side_of(rows)
     constraints = optimize.LinearConstraint(matrix_of(rows, len(costs)), low, high) if rows else ()
     for presolve in (True, False):

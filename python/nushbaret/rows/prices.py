@@ -1,4 +1,5 @@
-"""Prices of the rows that persons share, by column generation: a bound on what a plan costs, and months that are cheap at the prices.
+"""Prices of the rows that persons share, by column generation: a bound on what a plan costs, and months that are cheap
+at the prices.
 
 Needs NumPy and SciPy.
 """
@@ -30,7 +31,8 @@ class PricedMonth(NamedTuple):
 
 
 class Bound(NamedTuple):
-    """Whole prices of the shared rows, the least costs of each block at them, and what no plan costs less than; all times `SCALE`."""
+    """Whole prices of the shared rows, the least costs of each block at them, and what no plan costs less than; all
+    times `SCALE`."""
 
     value: int
     prices: Any
@@ -64,7 +66,8 @@ class Pricing:
         key = taken.tobytes()
         if key not in self.months[number]:
             variables = self.blocks[number].variables
-            self.months[number][key] = PricedMonth(taken, int(self.costs[variables] @ taken), self.columns[number] @ taken)
+            self.months[number][key] = PricedMonth(taken, int(self.costs[variables] @ taken),
+                                                   self.columns[number] @ taken)
 
     def add_plan(self, plan: Any) -> None:
         """Keeps a plan's months."""
@@ -101,8 +104,8 @@ class Pricing:
         return whole
 
     def search(self, prices: Any, target: Callable[[], Optional[int]], deadline: float) -> Iterator[Bound]:
-        """Better and better bounds, until one shows that no plan costs `target()` or less, or no better one in whole costs can be found, or
-        the time is over."""
+        """Better and better bounds, until one shows that no plan costs `target()` or less, or no better one in whole
+        costs can be found, or the time is over."""
         best = self.bound(self.rounded(prices))
         if best is None:
             return
@@ -147,7 +150,8 @@ class Pricing:
         return sum(map(len, self.months))
 
     def master(self) -> Optional["Master"]:
-        """The best mixture of the kept months, where a shared row may be missed at a high cost; None where it isn't found."""
+        """The best mixture of the kept months, where a shared row may be missed at a high cost; None where it isn't
+        found."""
         months = [month for own in self.months for month in own.values()]
         counts = [len(own) for own in self.months]
         uses = np.array([month.uses for month in months]).T.reshape(len(self.shared), len(months))
@@ -160,7 +164,8 @@ class Pricing:
         return without, with_
 
     def reaches(self, prices: Any) -> Any:
-        """For each variable the bounds at whole prices where it is 0 and where it is 1: an array of shape (2, variables), times `SCALE`."""
+        """For each variable the bounds at whole prices where it is 0 and where it is 1: an array of shape (2,
+        variables), times `SCALE`."""
         costs, side = self.priced(prices), self.side(prices)
         found = np.zeros((2, self.model.variables), dtype=np.int64)
         for block, diagram in zip(self.blocks, self.diagrams):
@@ -187,8 +192,8 @@ def _master(uses: Any, costs: Any, counts: List[int], least: Any, most: Any) -> 
     above = np.hstack([np.vstack([-uses[low], uses[up]]), missing])
     one_each = np.zeros((len(counts), columns + rows))
     one_each[np.repeat(np.arange(len(counts)), counts), np.arange(columns)] = 1
-    found = optimize.linprog(np.append(costs, np.full(rows, high)), A_ub=above, b_ub=np.append(-least[low], most[up]), A_eq=one_each,
-                             b_eq=np.ones(len(counts)), bounds=(0, None), method="highs")
+    found = optimize.linprog(np.append(costs, np.full(rows, high)), A_ub=above, b_ub=np.append(-least[low], most[up]),
+                             A_eq=one_each, b_eq=np.ones(len(counts)), bounds=(0, None), method="highs")
     if found.status != 0:
         return None
     prices = np.zeros(rows)
@@ -198,8 +203,9 @@ def _master(uses: Any, costs: Any, counts: List[int], least: Any, most: Any) -> 
 
 
 def _diagrams(blocks: Sequence[PersonBlock], deadline: float) -> List[Diagram]:
-    """The blocks' diagrams. Where one is too wide, or all take too long, the others are without rows that weigh their variables, such as
-    hours: then their least costs are bounds. Raises `TooWide` where these are too wide, too, or the deadline has passed."""
+    """The blocks' diagrams. Where one is too wide, or all take too long, the others are without rows that weigh their
+    variables, such as hours: then their least costs are bounds. Raises `TooWide` where these are too wide, too, or the
+    deadline has passed."""
     now = time.monotonic()
     exact_until, found, is_exact = now + (deadline - now) * _EXACT_PART, [], True
     for block in blocks:

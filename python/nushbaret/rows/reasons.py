@@ -1,4 +1,5 @@
-"""Why no plan meets a model's rows: the fewest sentences that can't hold together, by a deletion filter. Needs NumPy and SciPy."""
+"""Why no plan meets a model's rows: the fewest sentences that can't hold together, by a deletion filter. Needs NumPy
+and SciPy."""
 import importlib
 import time
 from typing import Any, Dict, Iterator, List, NamedTuple, Optional, Set, Tuple
@@ -49,7 +50,8 @@ class _Filter:
             return None
 
     def without(self, texts: Set[str], leaves: int) -> Optional[_Shown]:
-        """A proof that no plan meets these sentences; None where it isn't found, or a plan is known, or found and kept."""
+        """A proof that no plan meets these sentences; None where it isn't found, or a plan is known, or found and
+        kept."""
         if self.knows_plan(texts):
             return None
         shown = self.refuted(texts, 0)
@@ -69,10 +71,11 @@ class _Filter:
 
 
 def reasons(model: Model, deadline: float, leaves: int, first: Optional[Proof] = None) -> Iterator[Reasons]:
-    """Fewer and fewer sentences that can't hold together, with `first` as a proof that all can't. None where that isn't shown: a tree over
-    all variables has at most so many leaves."""
+    """Fewer and fewer sentences that can't hold together, with `first` as a proof that all can't. None where that isn't
+    shown: a tree over all variables has at most so many leaves."""
     work = _Filter(model, deadline)
-    shown = _Shown(list(range(len(model.rows))), first) if first else work.refuted({row.text for row in model.rows}, leaves)
+    shown = _Shown(list(range(len(model.rows))), first) if first else work.refuted({row.text for row in model.rows},
+                                                                                   leaves)
     if shown is None:
         return
     needed: Set[str] = set()

@@ -62,8 +62,8 @@ class _Candidate(NamedTuple):
 
 
 class Trees:
-    """Trees over a part's rows; several may be made, for different costs. `fixing` has the places of rows that leave one choice for each
-    of their variables: of those with factor 1 none is taken, and each with factor -1 is."""
+    """Trees over a part's rows; several may be made, for different costs. `fixing` has the places of rows that leave
+    one choice for each of their variables: of those with factor 1 none is taken, and each with factor -1 is."""
 
     def __init__(self, part: Part, deadline: float, fixing: Sequence[int] = ()):
         self.part = part
@@ -75,7 +75,8 @@ class Trees:
         self.both = sparse.vstack([self.matrix[self.used], -self.matrix[self.used]]).tocsc()
         self.whole = self.matrix.astype(np.int64)
         self.far = np.asarray(abs(self.matrix).sum(axis=1)).ravel() + 1 if part.rows else np.zeros(0)
-        self.sums = [row for row in self.used if len(part.rows[row].terms) > 1 and all(abs(factor) == 1 for _, factor in part.rows[row].terms)]
+        self.sums = [row for row in self.used if len(part.rows[row].terms) > 1
+                     and all(abs(factor) == 1 for _, factor in part.rows[row].terms)]
         self.leaves = 0
         # What a unit of a candidate gained in the half below and above, by the candidates' keys.
         self.gains: Dict[int, List[float]] = {}
@@ -83,8 +84,8 @@ class Trees:
         self.plan: Optional[List[int]] = None
 
     def tree(self, costs: Any, most: Optional[int], most_leaves: int = 2000) -> Proof:
-        """A tree that shows that no month costs `most` or less (None: that there is no month), where row number `len(rows)` is
-        `cost <= most` and splits' rows follow. Raises `Open` where it isn't found."""
+        """A tree that shows that no month costs `most` or less (None: that there is no month), where row number
+        `len(rows)` is `cost <= most` and splits' rows follow. Raises `Open` where it isn't found."""
         self.costs, self.most, self.left = np.asarray(costs, dtype=np.int64), most, most_leaves
         self.gains = {}
         root = self._root()
@@ -99,7 +100,8 @@ class Trees:
         rows = self.part.rows
         least, most = self._fixed()
         return _SearchNode(tuple(None if row.least is None else _Bound(row.least, at) for at, row in enumerate(rows)),
-                     tuple(None if row.most is None else _Bound(row.most, at) for at, row in enumerate(rows)), tuple(least), tuple(most), 0)
+                           tuple(None if row.most is None else _Bound(row.most, at) for at, row in enumerate(rows)),
+                           tuple(least), tuple(most), 0)
 
     def _fixed(self) -> Tuple[List[_Bound], List[_Bound]]:
         """The least and the greatest values of the variables, and the rows that fix them."""
@@ -135,7 +137,8 @@ class Trees:
             self._learn(candidate, solved.value, [result.value for _, result in halves])
             low, high = sorted(min(result.value, cut) for _, result in halves)
             if best is None or (low, high) > best[0]:
-                terms: Terms = ((candidate.variable, 1),) if candidate.row is None else self.part.rows[candidate.row].terms
+                terms: Terms = ((candidate.variable,
+                                 1),) if candidate.row is None else self.part.rows[candidate.row].terms
                 best = ((low, high), terms, candidate.most, halves)
             if low >= cut:
                 break
@@ -145,8 +148,8 @@ class Trees:
         return best[1:]
 
     def _worth_trying(self, solved: Solved, cut: float) -> List[_Candidate]:
-        """Some candidates that weren't tried before: the longest sums, those farthest from whole numbers, and a variable; and of the others
-        those that gained the most."""
+        """Some candidates that weren't tried before: the longest sums, those farthest from whole numbers, and a
+        variable; and of the others those that gained the most."""
         sums, ones = self._candidates(solved.point)
         new = [one for one in sums if one.row not in self.gains]
         longest = sorted(new, key=lambda one: -len(self.part.rows[one.row or 0].terms))[:_CANDIDATES]
@@ -172,7 +175,8 @@ class Trees:
     def _candidates(self, point: Any) -> Tuple[List[_Candidate], List[_Candidate]]:
         """The sums of rows, and the variables, that aren't whole, the farthest from whole numbers first."""
         values = (self.matrix[self.sums] @ point).tolist() if self.sums else []
-        sums = [_Candidate(row, -1, math.floor(value), value - math.floor(value)) for row, value in zip(self.sums, values)]
+        sums = [_Candidate(row, -1, math.floor(value), value - math.floor(value))
+                for row, value in zip(self.sums, values)]
         ones = [_Candidate(None, variable, 0, value) for variable, value in enumerate(point.tolist())]
         both = [[one for one in some if 1e-6 < one.above < 1 - 1e-6] for some in (sums, ones)]
         for some in both:
@@ -244,8 +248,10 @@ class Trees:
         return None
 
     def _shown(self, node: _SearchNode, multipliers: Any, times: int) -> Optional[Leaf]:
-        """The leaf with these multipliers of rows, and `times` the costs against them, where no month reaches the weighed sum."""
-        weights = (self.whole.T @ multipliers if self.part.rows else np.zeros(self.count, dtype=np.int64)) - times * self.costs
+        """The leaf with these multipliers of rows, and `times` the costs against them, where no month reaches the
+        weighed sum."""
+        weights = (self.whole.T @ multipliers if self.part.rows
+                   else np.zeros(self.count, dtype=np.int64)) - times * self.costs
         used: Dict[int, int] = {}
         bound = 0
         for row in np.flatnonzero(multipliers).tolist():

@@ -1,4 +1,5 @@
-"""A person's plan as an iCalendar file (RFC 5545): whole days, or local times where these are known. The same plan gives the same bytes."""
+"""A person's plan as an iCalendar file (RFC 5545): whole days, or local times where these are known. The same plan
+gives the same bytes."""
 import uuid
 from datetime import date, datetime, time, timedelta
 from typing import Iterator, List, NamedTuple, Optional, Sequence
@@ -13,8 +14,8 @@ ESCAPES = str.maketrans({"\\": "\\\\", ";": "\\;", ",": "\\,", "\n": "\\n"})
 
 
 class Event(NamedTuple):
-    """What a person has on a day: the object's whole name, which says which event this is, its name as it is shown, the day, and the times,
-    if these are known."""
+    """What a person has on a day: the object's whole name, which says which event this is, its name as it is shown, the
+    day, and the times, if these are known."""
 
     object: str
     label: str

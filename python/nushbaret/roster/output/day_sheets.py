@@ -1,4 +1,5 @@
-"""A plan by days as the first sheets of a workbook: persons by days, week next to week, with totals; and then who is where, day by day."""
+"""A plan by days as the first sheets of a workbook: persons by days, week next to week, with totals; and then who is
+where, day by day."""
 import re
 from typing import Any, Dict, Iterator, List, NamedTuple, Optional, Sequence, Tuple
 
@@ -41,9 +42,11 @@ def add_days(book: Any, looks: Looks, report: Report, plan: NamedPlan) -> None:
 
 
 def _columns(report: Report, blocks: Sequence[Block], is_whole: bool) -> Iterator[Column]:
-    """The columns of some weeks side by side; at the end how much each person has in the whole plan, if that isn't a week's."""
+    """The columns of some weeks side by side; at the end how much each person has in the whole plan, if that isn't a
+    week's."""
     rows = blocks[0].persons
-    yield Column("", [Marked(report.roster.titles[0], ("title",)), *(Marked(row.name, ("title",)) for row in rows), Marked(TOTAL, ("title",))])
+    yield Column("", [Marked(report.roster.titles[0], ("title",)), *(Marked(row.name, ("title",)) for row in rows),
+                      Marked(TOTAL, ("title",))])
     for block in blocks:
         for column, day in enumerate(block.days):
             yield Column(block.caption, list(_day(block, column, day, report.options.plan_only)))
@@ -63,12 +66,14 @@ def _day(block: Block, column: int, day: Day, plan_only: bool) -> Iterator[Marke
     base = ["centre", *(mark for mark, holds in (("weekend", day.is_weekend), ("past", day.is_past)) if holds)]
     name = YEAR.sub("", day.name) if block.caption else day.name
     yield Marked(f"{day.weekday}\n{name}".strip(), ("title", "centre"))
-    yield from (_entries(row.cells[column], base, plan_only) if day.has_objects else Marked("", base) for row in block.persons)
+    yield from (_entries(row.cells[column], base, plan_only) if day.has_objects else Marked("", base)
+                for row in block.persons)
     yield Marked(block.totals[column] if day.has_objects else "", ("title", "centre"))
 
 
 def _entries(cell: Cell, base: Sequence[str], plan_only: bool) -> Marked:
-    """What a person has on a day; where that is nothing, what it had in a kept plan, or that it is free, or can have nothing there."""
+    """What a person has on a day; where that is nothing, what it had in a kept plan, or that it is free, or can have
+    nothing there."""
     marks = [*base, *(["changed"] if cell.is_changed else [])]
     if cell.entries:
         is_fixed = not plan_only and any(entry.is_fixed for entry in cell.entries)
@@ -121,7 +126,8 @@ def _line(block: Block, column: int, day: Day, labels: Sequence[str]) -> List[Ma
     """Who is at each kind of object on a day."""
     base = ("weekend",) if day.is_weekend else ()
     places = {row.label: row.places[column] for row in block.objects}
-    return [Marked(f"{day.weekday} {day.name}".strip(), ("title",)), *(_place(places.get(label), base) for label in labels)]
+    return [Marked(f"{day.weekday} {day.name}".strip(), ("title",)),
+            *(_place(places.get(label), base) for label in labels)]
 
 
 def _place(place: Optional[Place], base: Tuple[str, ...]) -> Marked:

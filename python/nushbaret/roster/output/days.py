@@ -8,15 +8,17 @@ from ..blocks import Block, Cell, Day, PersonRow, Place, blocks_of
 from ..roster import OldPlan, Roster
 from .html import classes, name, ours, scrolling
 
-# What is printed of a block: the sizes of letters, in pixels of CSS; the height that a sheet has for it, and the widths of a column of names
-# and of one of days there. A letter is about so wide, and a line so high, in parts of the size; a row has so much more.
+# What is printed of a block: the sizes of letters, in pixels of CSS; the height that a sheet has for it, and the widths
+# of a column of names and of one of days there. A letter is about so wide, and a line so high, in parts of the size; a
+# row has so much more.
 SIZES = (13.0, 12.5, 12.0, 11.5, 11.0, 10.5, 10.0, 9.5, 9.0, 8.5, 8.0, 7.5, 7.0)
 HEIGHT, NAME_WIDTH, DAY_WIDTH = 640, 150, 105
 LETTER, LINE, REST = 0.56, 1.3, 5
 MARGIN = 10
 
 STYLE = """
-.days { --name: 11em; --day: 8.5em; --total: 5.5em; table-layout: fixed; width: calc(var(--name) + var(--totals) + var(--days) * var(--day)) }
+.days { --name: 11em; --day: 8.5em; --total: 5.5em; table-layout: fixed; \
+width: calc(var(--name) + var(--totals) + var(--days) * var(--day)) }
 .days { --totals: var(--total) }
 .days.objects { --totals: 0em }
 .days col.name { width: var(--name) }
@@ -44,15 +46,16 @@ STYLE = """
 .days { --name: 8.5em; --day: 6.2em; --total: 5em }
 }
 @media print {
-.days { --name: 150px; --day: calc(735px / max(7, var(--days))); --total: 60px; font-size: calc(1px * var(--size)); break-inside: avoid }
+.days { --name: 150px; --day: calc(735px / max(7, var(--days))); --total: 60px; \
+font-size: calc(1px * var(--size)); break-inside: avoid }
 .days th[scope=row], .days thead th:first-child { position: static }
 }
 """
 
 
 class Shown(NamedTuple):
-    """What is drawn of a block: whether other blocks are there, whether it shows the plan alone, without what was given and who can have
-    nothing, and the persons and objects of pairs that break a rule."""
+    """What is drawn of a block: whether other blocks are there, whether it shows the plan alone, without what was given
+    and who can have nothing, and the persons and objects of pairs that break a rule."""
 
     is_part: bool
     plan_only: bool
@@ -61,8 +64,8 @@ class Shown(NamedTuple):
 
 def by_days(roster: Roster, plan: NamedPlan, kept: Optional[OldPlan] = None, plan_only: bool = False,
             broken: FrozenSet[Tuple[int, int]] = frozenset()) -> Iterator[str]:
-    """Tables of a plan: for each person what it has on each day, and for each kind of object who is there. Many days stand in several
-    tables. Pairs that break a rule are framed."""
+    """Tables of a plan: for each person what it has on each day, and for each kind of object who is there. Many days
+    stand in several tables. Pairs that break a rule are framed."""
     blocks = blocks_of(roster, plan, kept)
     shown = Shown(len(blocks) > 1, plan_only, broken)
     for block in blocks:
@@ -77,9 +80,10 @@ def _persons(block: Block, title: str, roster: Roster, shown: Shown) -> Iterator
     for row in block.persons:
         cells = "".join(_cell(row.person, cell, day, shown) for cell, day in zip(row.cells, block.days))
         yield f'<tr><th scope="row">{escape(row.name)}</th>{cells}<td class="total">{_total(row, shown)}</td></tr>\n'
-    totals = "".join(f'<td{classes("weekend" if day.is_weekend else "")}>{total}</td>' for total, day in zip(block.totals, block.days))
-    yield (f'<tr class="totals"><th scope="row" lang="en">total</th>{totals}<td class="total">{sum(block.totals)}</td></tr>\n'
-           "</tbody>\n</table>\n")
+    totals = "".join(f'<td{classes("weekend" if day.is_weekend else "")}>{total}</td>'
+                     for total, day in zip(block.totals, block.days))
+    yield (f'<tr class="totals"><th scope="row" lang="en">total</th>{totals}<td '
+           f'class="total">{sum(block.totals)}</td></tr>\n' "</tbody>\n</table>\n")
 
 
 def _total(row: PersonRow, shown: Shown) -> str:
@@ -100,10 +104,12 @@ def _head(block: Block, title: str, roster: Roster, shown: Shown, kind: str, siz
     """The begin of a table, up to its first row."""
     total = "" if kind else '<th scope="col" class="total" lang="en">total</th>'
     column = "" if kind else '<col class="total">'
-    heads = "".join(f'<th scope="col"{classes("weekend" if day.is_weekend else "")}>{_day(day)}</th>' for day in block.days)
-    return (f'<table{classes("days", kind)} lang="" style="--days: {len(block.days)}; --size: {size:g}">\n{_caption(block, roster, shown)}'
-            f'<colgroup><col class="name"><col class="day" span="{len(block.days)}">{column}</colgroup>\n'
-            f'<thead><tr><th scope="col">{escape(title)}</th>{heads}{total}</tr></thead>\n<tbody>\n')
+    heads = "".join(f'<th scope="col"{classes("weekend" if day.is_weekend else "")}>{_day(day)}</th>'
+                    for day in block.days)
+    return (f'<table{classes("days", kind)} lang="" style="--days: {len(block.days)}; --size: '
+            f'{size:g}">\n{_caption(block, roster, shown)}<colgroup><col class="name"><col class="day" '
+            f'span="{len(block.days)}">{column}</colgroup>\n<thead><tr><th '
+            f'scope="col">{escape(title)}</th>{heads}{total}</tr></thead>\n<tbody>\n')
 
 
 def _caption(block: Block, roster: Roster, shown: Shown) -> str:
@@ -128,7 +134,8 @@ def _cell(person: int, cell: Cell, day: Day, shown: Shown) -> str:
     if not day.has_objects:
         return '<td class="none"></td>'
     fixed = not shown.plan_only and any(entry.is_fixed for entry in cell.entries)
-    lines = [escape(entry.label) + _marks(entry.is_fixed and not shown.plan_only, entry.is_new) for entry in cell.entries]
+    lines = [escape(entry.label) + _marks(entry.is_fixed and not shown.plan_only, entry.is_new)
+             for entry in cell.entries]
     lines += [f"<s>{escape(label)}</s>" for label in cell.gone] + [ours("breaks a rule")] * is_broken
     if not cell.entries:
         lines.insert(0, ours("off") if cell.is_off and not shown.plan_only else "\u2013")
@@ -143,7 +150,8 @@ def _marks(is_fixed: bool, is_new: bool) -> str:
 def _texts(cell: Cell, shown: Shown) -> List[str]:
     """What a cell says, for its height."""
     fixed = "" if shown.plan_only else " fixed"
-    return [entry.label + (fixed if entry.is_fixed else "") + (" new" if entry.is_new else "") for entry in cell.entries] + [*cell.gone]
+    return [entry.label + (fixed if entry.is_fixed else "") + (" new" if entry.is_new else "")
+            for entry in cell.entries] + [*cell.gone]
 
 
 def _place(place: Optional[Place], day: Day) -> str:
@@ -158,7 +166,8 @@ def _size(names: Sequence[str], rows: Sequence[Sequence[Sequence[str]]], n_days:
     """The size of letters with which a table fits on a sheet of paper; the least one where none does."""
     day = DAY_WIDTH * 7 / max(n_days, 7)
     for size in SIZES:
-        lines = [max(_lines([title], size, NAME_WIDTH), *(_lines(cell, size, day) for cell in row)) for title, row in zip(names, rows)]
+        lines = [max(_lines([title], size, NAME_WIDTH), *(_lines(cell, size, day) for cell in row))
+                 for title, row in zip(names, rows)]
         if sum(count * size * LINE + REST for count in [*lines, 3, 1, 1]) <= HEIGHT:
             return size
     return SIZES[-1]

@@ -15,7 +15,8 @@ from .html import document, name, ours, scrolling
 PAGE, CALENDAR = ".html", ".ics"
 # Letters that some system forbids in the name of a file, and names that Windows keeps for itself.
 FORBIDDEN = frozenset('<>:"/\\|?*')
-RESERVED = frozenset(("con", "prn", "aux", "nul", *(f"{word}{number}" for word in ("com", "lpt") for number in range(1, 10))))
+RESERVED = frozenset(("con", "prn", "aux", "nul", *(f"{word}{number}" for word in ("com", "lpt")
+                                                    for number in range(1, 10))))
 MOST_OCTETS = 200
 
 STYLE = """
@@ -70,7 +71,8 @@ def files_of(roster: Roster, plan: NamedPlan, kept: Optional[OldPlan], folder: s
             days = [(object_, group_of(roster, object_)) for object_ in objects]
             events = [Event(roster.objects[object_], labels[object_], dates[group], times_at(roster, object_))
                       for object_, group in days if group is not None]
-            yield path + CALENDAR, calendar(title, sorted(events, key=lambda event: (event.day, event.times or (0, 0))), min(dates))
+            yield path + CALENDAR, calendar(title, sorted(events, key=lambda event: (event.day, event.times or (0, 0))),
+                                            min(dates))
 
 
 def lines_on_calendars(roster: Roster, plan: NamedPlan, folder: str) -> List[str]:
@@ -102,8 +104,8 @@ def _lines(roster: Roster, block: Block, person: int) -> Iterator[DayLine]:
     for day, cell in zip(block.days, block.persons[person].cells):
         kinds = tuple(kind for kind, holds in (("weekend", day.is_weekend), ("past", day.is_past)) if holds)
         for entry in cell.entries:
-            yield DayLine(day.name, day.weekday, escape(entry.label) + (" " + ours("new") if entry.is_new else ""), times_at(roster, entry.object),
-                       (*kinds, "changed") if entry.is_new else kinds)
+            yield DayLine(day.name, day.weekday, escape(entry.label) + (" " + ours("new") if entry.is_new else ""),
+                          times_at(roster, entry.object), (*kinds, "changed") if entry.is_new else kinds)
         for label in cell.gone:
             yield DayLine(day.name, day.weekday, f"<s>{escape(label)}</s>", None, (*kinds, "changed"))
 
@@ -113,16 +115,19 @@ def _table(roster: Roster, block: Block, lines: Sequence[DayLine], total: int, i
     caption = " to ".join(map(name, dict.fromkeys((names[0], names[-1])))) if is_part and names else ""
     title = roster.groups.title if roster.groups else ""
     has_times = any(line.times for line in lines)
-    yield '<table class="own" lang="">\n' + (f'<caption lang="en">{name(title)} {caption}</caption>\n' if caption else "")
+    yield '<table class="own" lang="">\n' + (f'<caption lang="en">{name(title)} {caption}</caption>\n' if caption
+                                             else "")
     times = '<th scope="col" lang="en">time</th>' if has_times else ""
     yield '<colgroup><col style="width: 35%"><col><col style="width: 40%"></colgroup>\n' if has_times else ""
-    yield f'<thead><tr><th scope="col">{escape(title)}</th><th scope="col">{escape(roster.titles[1])}</th>{times}</tr></thead>\n<tbody>\n'
+    yield (f'<thead><tr><th scope="col">{escape(title)}</th><th '
+           f'scope="col">{escape(roster.titles[1])}</th>{times}</tr></thead>\n<tbody>\n')
     for line in lines:
         day = (ours(line.weekday) + " " if line.weekday else "") + escape(line.day)
         time = f"<td>{line.times.shown() if line.times else ''}</td>" if has_times else ""
         kinds = f' class="{" ".join(line.kinds)}"' if line.kinds else ""
         yield f'<tr{kinds}><th scope="row">{day}</th><td>{line.label}</td>{time}</tr>\n'
-    yield f'<tr class="totals"><th scope="row" lang="en">total</th><td>{total}</td>{"<td></td>" if has_times else ""}</tr>\n</tbody>\n</table>\n'
+    yield ('<tr class="totals"><th scope="row" '
+           f'lang="en">total</th><td>{total}</td>{"<td></td>" if has_times else ""}</tr>\n</tbody>\n</table>\n')
 
 
 def _list(roster: Roster, objects: Sequence[int]) -> Iterator[str]:
@@ -131,7 +136,8 @@ def _list(roster: Roster, objects: Sequence[int]) -> Iterator[str]:
         yield _nothing(roster)
         return
     rows = "".join(f"<tr><td>{escape(roster.objects[object_])}</td></tr>\n" for object_ in objects)
-    yield from scrolling([f'<table class="own" lang="">\n<thead><tr><th scope="col">{escape(roster.titles[1])}</th></tr></thead>\n<tbody>\n{rows}'
+    yield from scrolling(['<table class="own" lang="">\n<thead><tr><th '
+                          f'scope="col">{escape(roster.titles[1])}</th></tr></thead>\n<tbody>\n{rows}'
                           "</tbody>\n</table>\n"])
 
 
@@ -140,7 +146,8 @@ def _nothing(roster: Roster) -> str:
 
 
 def file_names(names: Sequence[str]) -> List[str]:
-    """Names of files for names, without ends: they differ also where a system ignores case, and none leads to another folder."""
+    """Names of files for names, without ends: they differ also where a system ignores case, and none leads to another
+    folder."""
     taken: Set[str] = set()
     numbers: Dict[str, int] = {}
     found = []

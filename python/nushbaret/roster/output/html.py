@@ -1,4 +1,5 @@
-"""What all pages have in common: their frame, colours for light and dark rooms and for paper, and names that are set apart from our words."""
+"""What all pages have in common: their frame, colours for light and dark rooms and for paper, and names that are set
+apart from our words."""
 from html import escape
 from typing import Dict, Iterable, Iterator, List, Sequence, Tuple
 
@@ -10,12 +11,12 @@ MOST_UNBROKEN = 30
 # Colours by what they are for, and those of costs from the least to the greatest, each with that of the letters on it.
 Colours = Dict[str, str]
 Shades = Sequence[Tuple[str, str]]
-LIGHT: Colours = {
-    "paper": "#ffffff", "ink": "#1b1b1b", "soft": "#595959", "line": "#cfcfcf", "weekend": "#e9edf3", "changed": "#fff3c4", "hatch": "#e4e4e4",
-    "alarm": "#b00020", "alarm-paper": "#fdecee", "own": "#d35400"}
-DARK: Colours = {
-    "paper": "#16181c", "ink": "#e8e8e8", "soft": "#b4b9c2", "line": "#4a4f58", "weekend": "#262b34", "changed": "#4a3f12", "hatch": "#2e323a",
-    "alarm": "#ff9a9a", "alarm-paper": "#3a1a1e", "own": "#ffb067"}
+LIGHT: Colours = {"paper": "#ffffff", "ink": "#1b1b1b", "soft": "#595959", "line": "#cfcfcf", "weekend": "#e9edf3",
+                  "changed": "#fff3c4", "hatch": "#e4e4e4", "alarm": "#b00020", "alarm-paper": "#fdecee",
+                  "own": "#d35400"}
+DARK: Colours = {"paper": "#16181c", "ink": "#e8e8e8", "soft": "#b4b9c2", "line": "#4a4f58", "weekend": "#262b34",
+                 "changed": "#4a3f12", "hatch": "#2e323a", "alarm": "#ff9a9a", "alarm-paper": "#3a1a1e",
+                 "own": "#ffb067"}
 _BLACK, _WHITE, _NIGHT, _PALE = "#1b1b1b", "#ffffff", "#111418", "#f2f2f2"
 LIGHT_SHADES: Shades = (
     *((colour, _BLACK) for colour in ("#f7fbff", "#e3eef9", "#cfe1f2", "#b5d4e9", "#93c3df", "#6daed5", "#4b97c9")),
@@ -37,7 +38,8 @@ th { background: var(--paper) }
 th:first-child, td:first-child { border-left-width: 1px }
 thead tr:first-child th { border-top-width: 1px }
 caption { text-align: left; font-weight: bold; padding: .3em 0 }
-td.none { background: repeating-linear-gradient(45deg, var(--paper), var(--paper) 4px, var(--hatch) 4px, var(--hatch) 6px) }
+td.none { background: \
+repeating-linear-gradient(45deg, var(--paper), var(--paper) 4px, var(--hatch) 4px, var(--hatch) 6px) }
 @media (max-width: 40em) {
 body { margin: 1em }
 }
@@ -68,11 +70,11 @@ COLOURS = (":root { color-scheme: light dark }\n" + _variables(LIGHT, LIGHT_SHAD
 
 def document(title: str, style: str, content: Iterable[str]) -> Iterator[str]:
     """A whole page without scripts or anything from elsewhere."""
-    yield (
-        '<!DOCTYPE html>\n<html lang="en">\n<head>\n<meta charset="utf-8">\n'
-        '<meta name="viewport" content="width=device-width, initial-scale=1">\n<meta name="color-scheme" content="light dark">\n'
-        "<meta http-equiv=\"Content-Security-Policy\" content=\"default-src 'none'; style-src 'unsafe-inline'\">\n"
-        f'<title lang="">{escape(title)}</title>\n<style>\n{COLOURS}{FRAME}{style}</style>\n</head>\n<body>\n<h1 lang="">{escape(title)}</h1>\n')
+    yield ('<!DOCTYPE html>\n<html lang="en">\n<head>\n<meta charset="utf-8">\n<meta name="viewport" '
+           'content="width=device-width, initial-scale=1">\n<meta name="color-scheme" content="light dark">\n'
+           "<meta http-equiv=\"Content-Security-Policy\" content=\"default-src 'none'; style-src 'unsafe-inline'\">\n"
+           f'<title lang="">{escape(title)}</title>\n<style>\n{COLOURS}{FRAME}{style}</style>\n</head>\n<body>\n<h1 '
+           f'lang="">{escape(title)}</h1>\n')
     yield from content
     yield "</body>\n</html>\n"
 

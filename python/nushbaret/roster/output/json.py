@@ -25,7 +25,8 @@ def _short(roster: Roster, short: ShortGroup, line: str) -> Content:
 
 def _pair(roster: Roster, pair: Pair, cost: str) -> Content:
     """A pair, the group of its object, where it is in one, and whether it is in the past, where there is one."""
-    found: Content = {"person": roster.persons[pair.person], "object": roster.objects[pair.object], "cost": cost, "fixed": pair.fixed}
+    found: Content = {"person": roster.persons[pair.person], "object": roster.objects[pair.object], "cost": cost,
+                      "fixed": pair.fixed}
     if roster.past:
         found["past"] = pair.object in roster.past
     if roster.groups is not None and pair.object in roster.groups.of_objects:
@@ -62,13 +63,13 @@ def _plan(report: Report, plan: NamedPlan) -> Content:
     content: Content = {"cost": text(plan.cost), "pairs": pairs(plan.pairs), **_outside(roster, plan)}
     content["rents"] = {roster.objects[number]: text(rent) for number, rent in plan.rents.items()}
     if report.fair:
-        content["fair"] = {"pair": pairs([report.fair.pair])[0] if report.fair.pair else None, "best_cost": text(report.fair.best.cost),
-                           "best_pair": pairs([report.fair.best_pair])[0]}
+        content["fair"] = {"pair": pairs([report.fair.pair])[0] if report.fair.pair else None,
+                           "best_cost": text(report.fair.best.cost), "best_pair": pairs([report.fair.best_pair])[0]}
     if options.change_cost is None and not options.fair and report.proved is None:
         content["only_one"] = plan.is_only_one
     if options.others:
-        content["swaps"] = [{"persons": _names(roster.persons, swap.persons), "objects": _names(roster.objects, swap.objects)}
-                            for swap in plan.swaps]
+        content["swaps"] = [{"persons": _names(roster.persons, swap.persons),
+                             "objects": _names(roster.objects, swap.objects)} for swap in plan.swaps]
     if plan.following:
         content["following"] = [{"cost": text(other.cost), "pairs": pairs(other.pairs)} for other in plan.following]
     if report.kept:
@@ -83,8 +84,8 @@ def _outside(roster: Roster, plan: NamedPlan) -> Content:
     had, used = Counter(pair.person for pair in plan.pairs), Counter(pair.object for pair in plan.pairs)
     content: Content = {}
     if roster.least is not None:
-        content["missing"] = [{("person", "object")[missing.side]: missing.name, "had": missing.had, "least": missing.least}
-                              for missing in missing_of(roster, plan.pairs)]
+        content["missing"] = [{("person", "object")[missing.side]: missing.name, "had": missing.had,
+                               "least": missing.least} for missing in missing_of(roster, plan.pairs)]
     content["without"] = [{"person": roster.persons[person], "had": had[person], "most": roster.tasks_of(person)}
                           for person in plan.without]
     content["unused"] = [{"object": roster.objects[object_], "had": used[object_], "most": roster.places_of(object_)}
@@ -110,6 +111,6 @@ def _comparison(report: Report, plan: NamedPlan, hand: Hand, text: Callable[[int
     content: Content = {**_broken(hand), "cost": text(sum(pair.cost for pair in hand.plan.known))}
     if hand.is_comparable:
         content["worse"] = text(worse_by(report, plan, hand.plan))
-    content["only_there"] = [{"person": roster.persons[pair.person], "object": roster.objects[pair.object], "cost": text(pair.cost)}
-                             for pair in only_there(plan, hand.plan)]
+    content["only_there"] = [{"person": roster.persons[pair.person], "object": roster.objects[pair.object],
+                              "cost": text(pair.cost)} for pair in only_there(plan, hand.plan)]
     return content

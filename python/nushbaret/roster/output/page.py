@@ -15,7 +15,8 @@ from .texts import Hand, Note, Report, broken_rules, first_lines, notes_of, pers
 MOST_CELLS = 250_000
 # Up to so many cells persons and objects that are in no pair and in no short group are drawn as well.
 MOST_WHOLE_CELLS = 20_000
-# A sheet of paper, in pixels of CSS at the size of print: its width, a letter's and a line's; the most for a person's name and an object's.
+# A sheet of paper, in pixels of CSS at the size of print: its width, a letter's and a line's; the most for a person's
+# name and an object's.
 SHEET_WIDTH = 960
 LETTER, LINE, MARGIN = 6, 13, 10
 MOST_NAME_WIDTH = 180
@@ -68,7 +69,8 @@ class Outline(NamedTuple):
 
 
 class Frame(NamedTuple):
-    """The persons and objects of a drawn matrix, in order, how many of the first are of short groups, and the groups' blocks."""
+    """The persons and objects of a drawn matrix, in order, how many of the first are of short groups, and the groups'
+    blocks."""
 
     persons: List[int]
     objects: List[int]
@@ -78,8 +80,9 @@ class Frame(NamedTuple):
 
 
 def frame_of(roster: Roster, answer: Answer) -> Frame:
-    """The short groups first, so that each one's cells stand in one block; then all others, or those in pairs where all are too many.
-    Who can have nothing at all has the whole row framed, or the whole column. Groups that share names aren't framed."""
+    """The short groups first, so that each one's cells stand in one block; then all others, or those in pairs where all
+    are too many. Who can have nothing at all has the whole row framed, or the whole column. Groups that share names
+    aren't framed."""
     persons = list(dict.fromkeys(number for short in answer.groups for number in short.persons))
     objects = list(dict.fromkeys(number for short in answer.groups for number in short.objects))
     other_persons, other_objects = _others(roster, answer, set(persons), set(objects))
@@ -115,15 +118,16 @@ def _others(roster: Roster, answer: Answer, persons: Set[int], objects: Set[int]
 
 def natural(text: str) -> List[Tuple[int, int, str]]:
     """What names are ordered by, so that S2 comes before S10."""
-    return [(0, int(part), "") if part.isdecimal() else (1, 0, part.casefold()) for part in re.findall("[0-9]{1,30}|[^0-9]+", text)]
+    return [(0, int(part), "") if part.isdecimal() else (1, 0, part.casefold())
+            for part in re.findall("[0-9]{1,30}|[^0-9]+", text)]
 
 
 def page(report: Report, title: str) -> str:
-    """The page of an answer: its sentences, the plan, who stays out, and the matrix with the chosen cells and the short groups framed; or
-    the plan alone.
+    """The page of an answer: its sentences, the plan, who stays out, and the matrix with the chosen cells and the short
+    groups framed; or the plan alone.
 
-    Of a matrix of more than 20000 cells only the persons and objects of the plan and of the short groups are drawn; where even these
-    have more than 250000 cells none is, and the page says so.
+    Of a matrix of more than 20000 cells only the persons and objects of the plan and of the short groups are drawn;
+    where even these have more than 250000 cells none is, and the page says so.
     """
     content = _plan_alone(report) if report.options.plan_only else _whole(report)
     return "".join(document(title, STYLE + DAYS_STYLE + SHADES_STYLE, content))
@@ -155,8 +159,9 @@ def _compared(roster: Roster, hand: Hand) -> Iterator[str]:
     """A plan from elsewhere by days, where pairs that break rules are framed."""
     pairs = {(pair.person, pair.object): pair.cost for pair in hand.plan.known}
     pairs.update({(person, object_): 0 for person, object_, _ in hand.plan.forbidden})
-    broken = {(roster.person_numbers[person], roster.object_numbers[object_]) for own in hand.broken for person in own.persons
-              for object_ in own.objects if person in roster.person_numbers and object_ in roster.object_numbers}
+    broken = {(roster.person_numbers[person], roster.object_numbers[object_]) for own in hand.broken
+              for person in own.persons for object_ in own.objects if person in roster.person_numbers
+              and object_ in roster.object_numbers}
     plan = NamedPlan([Pair(*pair, cost, False) for pair, cost in sorted(pairs.items())], 0, [], [], {})
     yield f"<p>{words(f'{hand.plan.path}: what breaks a rule is framed')}</p>\n"
     yield from by_days(roster, plan, None, False, frozenset(broken.intersection(pairs)))
@@ -180,7 +185,8 @@ def _plan(report: Report, plan: NamedPlan) -> Iterator[str]:
         yield from _list(report.roster, plan, report.options.plan_only)
 
 
-SHADES_STYLE = "".join(f"td.s{level} {{ background: var(--s{level}); color: var(--i{level}) }}\n" for level in range(len(LIGHT_SHADES)))
+SHADES_STYLE = "".join(f"td.s{level} {{ background: var(--s{level}); color: var(--i{level}) }}\n"
+                       for level in range(len(LIGHT_SHADES)))
 
 
 def _matrix(roster: Roster, answer: Answer, frame: Frame) -> Iterator[str]:
@@ -192,35 +198,41 @@ def _matrix(roster: Roster, answer: Answer, frame: Frame) -> Iterator[str]:
     for columns, part in named_parts(roster, frame):
         yield f"<table>\n<thead>{part}<tr><th></th>"
         for column in columns:
-            yield _heading("col", f"<span>{escape(roster.objects[frame.objects[column]])}</span>", column < frame.short_objects)
+            yield _heading("col", f"<span>{escape(roster.objects[frame.objects[column]])}</span>",
+                           column < frame.short_objects)
         yield "</tr></thead>\n<tbody>\n"
         for row, person in enumerate(frame.persons):
             yield "<tr>" + _heading("row", escape(roster.persons[person]), row < frame.short_persons)
-            yield from (_cell(roster, costs[person].get(frame.objects[column]), chosen.get((person, frame.objects[column])), span,
-                              edges.get((row, column), ())) for column in columns)
+            yield from (_cell(roster, costs[person].get(frame.objects[column]),
+                              chosen.get((person, frame.objects[column])), span, edges.get((row, column), ()))
+                        for column in columns)
             yield "</tr>\n"
         yield "</tbody>\n</table>"
     yield "</div>\n"
-    yield "<p>Stronger colours cost more, hatched cells are forbidden; the plan's are outlined, the fixed ones twice.</p>\n"
+    yield ("<p>Stronger colours cost more, hatched cells are forbidden; the plan's are outlined, the fixed ones "
+           "twice.</p>\n")
     if len(frame.persons) < len(roster.persons) or len(frame.objects) < len(roster.objects):
         yield "<p>Who and what is in no pair isn't drawn.</p>\n"
 
 
 def named_parts(roster: Roster, frame: Frame) -> List[Tuple[range, str]]:
-    """The columns in parts that each fit on a sheet of paper, with a line that names each part there, if there are several."""
+    """The columns in parts that each fit on a sheet of paper, with a line that names each part there, if there are
+    several."""
     parts = _parts(roster, frame)
     if len(parts) < 2:
         return [(part, "") for part in parts]
     names = [(roster.objects[frame.objects[part[0]]], roster.objects[frame.objects[part[-1]]]) for part in parts]
-    return [(part, f'<tr class="part"><th colspan="{len(part) + 1}" lang="en">{name(first)} to {name(last)} (part {number} of {len(parts)})</th></tr>')
-            for number, (part, (first, last)) in enumerate(zip(parts, names), 1)]
+    return [(part, f'<tr class="part"><th colspan="{len(part) + 1}" lang="en">{name(first)} to {name(last)} (part '
+             f'{number} of {len(parts)})</th></tr>') for number, (part, (first, last)) in enumerate(zip(parts, names),
+                                                                                                    1)]
 
 
 def _parts(roster: Roster, frame: Frame) -> List[range]:
     """As many columns at a time as fit on a sheet next to the names of persons; in parts of about one width."""
     names = max(len(roster.persons[person]) for person in frame.persons)
     room = SHEET_WIDTH - MARGIN - min(LETTER * names, MOST_NAME_WIDTH)
-    cost = MARGIN + LETTER * max(len(roster.shown(cost)) for cost in (min(roster.costs, default=0), max(roster.costs, default=0)))
+    cost = MARGIN + LETTER * max(len(roster.shown(cost))
+                                 for cost in (min(roster.costs, default=0), max(roster.costs, default=0)))
     lines = [-(-LETTER * len(roster.objects[object_]) // MOST_HEADING_HEIGHT) for object_ in frame.objects]
     widths = [max(cost, LINE * count + 4) for count in lines]
     parts = _filled(widths, room)
@@ -256,14 +268,16 @@ def _edges(frame: Frame) -> Dict[Tuple[int, int], List[str]]:
     edges: Dict[Tuple[int, int], List[str]] = {}
     for block in frame.blocks:
         rows, columns = range(block.top, block.bottom), range(block.left, block.right)
-        sides = (("top", rows[:1], columns), ("bottom", rows[-1:], columns), ("left", rows, columns[:1]), ("right", rows, columns[-1:]))
+        sides = (("top", rows[:1], columns), ("bottom", rows[-1:], columns), ("left", rows, columns[:1]),
+                 ("right", rows, columns[-1:]))
         for side, its_rows, its_columns in sides:
             for cell in product(its_rows, its_columns):
                 edges.setdefault(cell, []).append(side)
     return edges
 
 
-def _cell(roster: Roster, cost: Optional[int], fixed: Optional[bool], span: Tuple[int, int], edges: Sequence[str]) -> str:
+def _cell(roster: Roster, cost: Optional[int], fixed: Optional[bool], span: Tuple[int, int],
+          edges: Sequence[str]) -> str:
     if cost is None:
         return f'<td class="{" ".join(["none", *edges])}"></td>'
     level = (cost - span[0]) * len(LIGHT_SHADES) // (span[1] - span[0] + 1)
@@ -276,7 +290,8 @@ def _cell(roster: Roster, cost: Optional[int], fixed: Optional[bool], span: Tupl
 
 
 def _list(roster: Roster, plan: NamedPlan, plan_only: bool) -> Iterator[str]:
-    """The plan: a row for each person with all of its own, and then, if any object may have several, for each object."""
+    """The plan: a row for each person with all of its own, and then, if any object may have several, for each
+    object."""
     width = 2 if plan_only else 3
     own: Dict[int, List[Tuple[str, str]]] = {}
     for pair in plan.pairs:
@@ -285,7 +300,8 @@ def _list(roster: Roster, plan: NamedPlan, plan_only: bool) -> Iterator[str]:
         [[roster.persons[person]], *zip(*pairs)][:width] for person, pairs in own.items()]))
     at = persons_at(roster, plan)
     if at:
-        yield from scrolling(_table([roster.titles[1], roster.titles[0]], [[[roster.objects[object_]], who] for object_, who in at]))
+        yield from scrolling(_table([roster.titles[1], roster.titles[0]],
+                                    [[[roster.objects[object_]], who] for object_, who in at]))
 
 
 def _table(titles: Sequence[str], rows: List[List[Sequence[str]]]) -> Iterator[str]:

@@ -20,14 +20,17 @@ def first_lines(roster: Roster, plan: Optional[NamedPlan], proved: Proved, maxim
 def reason_lines(proved: Proved) -> List[str]:
     """The sentences that can't hold together."""
     around = "around the past, " if proved.is_around_past else ""
-    rest = "together they can't hold:" if proved.is_minimal else "together they can't hold, and maybe fewer of them can't:"
-    return [f"{around}no plan keeps these rules, proved: {rest}", *("  " + sentence_of(reason) for reason in proved.reasons)]
+    rest = ("together they can't hold:" if proved.is_minimal
+            else "together they can't hold, and maybe fewer of them can't:")
+    return [f"{around}no plan keeps these rules, proved: {rest}",
+            *("  " + sentence_of(reason) for reason in proved.reasons)]
 
 
 def sentence_of(reason: Reason) -> str:
     """A sentence with those that it is about, the first of many."""
     more = len(reason.about) - MOST_NAMES
-    names = joined(reason.about[:MOST_NAMES]) + (f" and {more} others" if more > 1 else f" and {more} other" if more > 0 else "")
+    names = joined(reason.about[:MOST_NAMES]) + (f" and {more} others" if more > 1 else f" and {more} other" if more > 0
+                                                 else "")
     return f"{reason.sentence} ({names})" if reason.about else reason.sentence
 
 
@@ -39,7 +42,8 @@ def _missing_lines(proved: Proved) -> List[str]:
         return [f"{proved.missing} missing in all, proved: no plan that keeps the rules misses less"]
     if proved.least_missing is None:
         return [f"{proved.missing} missing in all"]
-    return [f"{proved.missing} missing in all, proved: no plan that keeps the rules misses less than {proved.least_missing}"]
+    return [f"{proved.missing} missing in all, proved: no plan that keeps the rules misses less than "
+            f"{proved.least_missing}"]
 
 
 def _cost_line(roster: Roster, plan: NamedPlan, proved: Proved, maximize: bool) -> str:
@@ -71,9 +75,11 @@ def halves(roster: Roster, count: int) -> str:
 
 def even_lines(roster: Roster, proved: Proved, maximize: bool) -> List[str]:
     """How even counts are, and what a plan without the rules of evenness would cost."""
-    lines = [f"{even.sentence}: {even.least}" + (f" to {even.most}" if even.most > even.least else " each") for even in proved.even]
+    lines = [f"{even.sentence}: {even.least}" + (f" to {even.most}" if even.most > even.least else " each")
+             for even in proved.even]
     if any(even.most - even.least > 1 for even in proved.even):
-        lines.append("proved: no plan that keeps the rules is more even" if proved.is_most_even else "a more even plan may exist")
+        lines.append("proved: no plan that keeps the rules is more even" if proved.is_most_even
+                     else "a more even plan may exist")
     other = proved.otherwise
     if other is not None and proved.otherwise_cost is not None:
         cost = f"{roster.titles[2]} {roster.shown(proved.otherwise_cost)}"
@@ -83,7 +89,8 @@ def even_lines(roster: Roster, proved: Proved, maximize: bool) -> List[str]:
 
 def _otherwise(roster: Roster, cost: str, other: Proved, maximize: bool) -> str:
     if other.kind == BEST:
-        return f"{'greatest' if maximize else 'least'} {cost}, proved: no plan that keeps the other rules {'has more' if maximize else 'costs less'}"
+        return (f"{'greatest' if maximize else 'least'} {cost}, proved: no plan that keeps the other rules "
+                f"{'has more' if maximize else 'costs less'}")
     return cost if other.better is None else f"{cost}, proved: no plan is more than {better_text(roster, other)} better"
 
 

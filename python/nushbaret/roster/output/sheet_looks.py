@@ -12,8 +12,8 @@ WARNING, SOFT = "FFB00020", "FF666666"
 
 
 # The letters of a cell by the first of these marks that it has.
-FONTS = {"title": {"bold": True}, "missing": {"bold": True, "color": WARNING}, "fixed": {"bold": True}, "gone": {"strike": True, "color": SOFT},
-         "past": {"italic": True, "color": SOFT}, "soft": {"color": SOFT}}
+FONTS = {"title": {"bold": True}, "missing": {"bold": True, "color": WARNING}, "fixed": {"bold": True},
+         "gone": {"strike": True, "color": SOFT}, "past": {"italic": True, "color": SOFT}, "soft": {"color": SOFT}}
 
 
 class Marked(NamedTuple):
@@ -29,7 +29,8 @@ class Looks:
     def __init__(self, styles: Any) -> None:
         side = styles.Side("thin", color=LINE)
         self._border = styles.Border(side, side, side, side)
-        self._left, self._centre = (styles.Alignment(vertical="top", horizontal=side, wrap_text=True) for side in ("left", "center"))
+        self._left, self._centre = (styles.Alignment(vertical="top", horizontal=side, wrap_text=True)
+                                    for side in ("left", "center"))
         self._fills = {mark: styles.PatternFill("solid", fgColor=colour)
                        for mark, colour in (("title", TITLE), ("weekend", WEEKEND), ("changed", CHANGED))}
         self._fonts = {mark: styles.Font(FONT, 11, **words) for mark, words in FONTS.items()}
@@ -55,8 +56,8 @@ def put_text(cell: Any, text: str) -> None:
 
 
 def set_widths(sheet: Any, top: int, columns: Sequence[Sequence[Marked]]) -> None:
-    """Makes columns as wide as their texts, those after the first alike unless they have numbers, and lines as high as theirs. `top` is
-    the line of the first cells."""
+    """Makes columns as wide as their texts, those after the first alike unless they have numbers, and lines as high as
+    theirs. `top` is the line of the first cells."""
     widest = [min(WIDEST, max(NARROWEST, *map(_width, cells))) for cells in columns]
     alike = max((width for width, cells in zip(widest[1:], columns[1:]) if not _has_numbers(cells)), default=NARROWEST)
     widths = [widest[0], *(width if _has_numbers(cells) else alike for width, cells in zip(widest[1:], columns[1:]))]

@@ -30,8 +30,8 @@ class Hand(NamedTuple):
 
 
 class Report(NamedTuple):
-    """All that is said of a run: what was asked for, the answer, the plans that were read, what fairness costs, and what was proved of a
-    roster with rules."""
+    """All that is said of a run: what was asked for, the answer, the plans that were read, what fairness costs, and
+    what was proved of a roster with rules."""
 
     options: Options
     roster: Roster
@@ -56,13 +56,16 @@ class Note(NamedTuple):
 
 
 def read_lines(path: str, roster: Roster, on_terminal: bool) -> List[str]:
-    """What standard error says of a roster: on a terminal how much was read and how names count, and always which names are hardly two."""
+    """What standard error says of a roster: on a terminal how much was read and how names count, and always which names
+    are hardly two."""
     lines = []
     if on_terminal:
-        persons, objects = counted(len(roster.persons), roster.titles[0]), counted(len(roster.objects), roster.titles[1])
+        persons, objects = counted(len(roster.persons), roster.titles[0]), counted(len(roster.objects),
+                                                                                   roster.titles[1])
         lines.append(f"{persons}, {objects}, {counted(len(roster.costs), 'pair')}{_rule(roster)}")
     groups = alike(roster.persons) + alike(roster.objects)
-    lines += [f"{path}: {', '.join(map(quoted, group))} differ in case or spaces alone" for group in groups[:MOST_NAMES_SHOWN]]
+    lines += [f"{path}: {', '.join(map(quoted, group))} differ in case or spaces alone"
+              for group in groups[:MOST_NAMES_SHOWN]]
     if len(groups) > MOST_NAMES_SHOWN:
         lines.append(f"{path}: and {len(groups) - MOST_NAMES_SHOWN} more of these names")
     return lines
@@ -74,20 +77,23 @@ def with_marks(report: Report) -> Report:
     if groups is not None:
         groups = groups._replace(title=_title(groups.title), names=list(map(marked, groups.names)))
     if kept is not None:
-        kept = kept._replace(named=[pair._replace(person=marked(pair.person), object=marked(pair.object)) for pair in kept.named],
-                             gone=list(map(marked, kept.gone)))
+        kept = kept._replace(named=[pair._replace(person=marked(pair.person), object=marked(pair.object))
+                                    for pair in kept.named], gone=list(map(marked, kept.gone)))
     if hand is not None:
-        hand = hand._replace(broken=[broken._replace(sentence=with_names_marked(broken.sentence, (*broken.persons, *broken.objects)))
+        hand = hand._replace(broken=[broken._replace(sentence=with_names_marked(broken.sentence,
+                                                                                (*broken.persons, *broken.objects)))
                                      for broken in hand.broken])
     proved = report.proved
     if proved is not None:
         named = [*report.roster.persons, *report.roster.objects]
         proved = proved._replace(reasons=[reason._replace(sentence=with_names_marked(reason.sentence, named),
-                                                          about=list(map(marked, reason.about))) for reason in proved.reasons])
+                                                          about=list(map(marked, reason.about)))
+                                          for reason in proved.reasons])
     persons, objects = list(map(marked, report.roster.persons)), list(map(marked, report.roster.objects))
     person, object_, cost = map(_title, report.roster.titles)
-    roster = report.roster._replace(persons=persons, objects=objects, groups=groups, person_numbers=_numbers_of(persons),
-                                    object_numbers=_numbers_of(objects), titles=(person, object_, cost))
+    roster = report.roster._replace(persons=persons, objects=objects, groups=groups,
+                                    person_numbers=_numbers_of(persons), object_numbers=_numbers_of(objects),
+                                    titles=(person, object_, cost))
     return report._replace(roster=roster, kept=kept, hand=hand, proved=proved)
 
 
@@ -104,11 +110,13 @@ def _rule(roster: Roster) -> str:
     """Which rule decides, where names may count several times."""
     if not roster.ruled:
         return ""
-    return "; single counts: the side with the smaller sum takes all" if roster.least is None else "; bounds: each name's counts are kept"
+    return ("; single counts: the side with the smaller sum takes all" if roster.least is None
+            else "; bounds: each name's counts are kept")
 
 
 def forgotten_line(roster: Roster, counts: Counts, side: int) -> Optional[str]:
-    """What standard error says of the persons (side 0) or the objects that have no line in a file of counts; None where all have one."""
+    """What standard error says of the persons (side 0) or the objects that have no line in a file of counts; None where
+    all have one."""
     names = roster.objects if side else roster.persons
     numbers = [number for number in range(len(names)) if number not in counts.bounds]
     if not numbers:
@@ -141,7 +149,8 @@ def first_lines(report: Report) -> List[str]:
     if answer.plan is not None:
         chosen = sum(not pair.fixed for pair in answer.plan.pairs)
         if roster.rounded:
-            lines.append(f"costs were rounded: another plan may be better for the exact ones, by {roster.shown(chosen)} at most")
+            lines.append("costs were rounded: another plan may be better for the exact ones, by "
+                         f"{roster.shown(chosen)} at most")
     return lines
 
 
@@ -157,7 +166,8 @@ def printed(report: Report) -> List[str]:
     plan, notes = report.answer.plan, broken_rules(report.hand)
     lines: List[str] = []
     if plan is not None:
-        lines = rows_of(report.roster, plan) + [f"{out.how}: {joined(out.names)}" for out in left_out(report.roster, plan)]
+        lines = rows_of(report.roster, plan) + [f"{out.how}: {joined(out.names)}"
+                                                for out in left_out(report.roster, plan)]
         notes = notes_of(report, plan)
     for note in notes:
         lines += [note.line, *("  " + detail for detail in note.details)]
@@ -172,7 +182,8 @@ def notes_of(report: Report, plan: NamedPlan) -> List[Note]:
     if options.plans > 1:
         notes += [_difference(report, plan, other, f"plan {number}") for number, other in enumerate(plan.following, 2)]
     if options.rents:
-        notes += [Note(f"rent of {roster.objects[number]}: {roster.shown(rent)}") for number, rent in plan.rents.items()]
+        notes += [Note(f"rent of {roster.objects[number]}: {roster.shown(rent)}")
+                  for number, rent in plan.rents.items()]
     notes += [changes(roster, plan, report.kept)] if report.kept else []
     return notes + broken_rules(report.hand) + ([compared(report, plan, report.hand)] if report.hand else [])
 
@@ -190,8 +201,10 @@ def rows_of(roster: Roster, plan: NamedPlan) -> List[str]:
     for pair in plan.pairs:
         text = f"{roster.objects[pair.object]}, {roster.shown(pair.cost)}{_why_fixed(roster, pair)}"
         own.setdefault(pair.person, []).append(text)
-    lines = [f"{roster.persons[person]}{_times(roster, len(texts))}: {'; '.join(texts)}" for person, texts in own.items()]
-    return lines + [f"at {roster.objects[object_]}{_times(roster, len(who))}: {joined(who)}" for object_, who in persons_at(roster, plan)]
+    lines = [f"{roster.persons[person]}{_times(roster, len(texts))}: {'; '.join(texts)}"
+             for person, texts in own.items()]
+    return lines + [f"at {roster.objects[object_]}{_times(roster, len(who))}: {joined(who)}"
+                    for object_, who in persons_at(roster, plan)]
 
 
 def _why_fixed(roster: Roster, pair: Pair) -> str:
@@ -199,7 +212,8 @@ def _why_fixed(roster: Roster, pair: Pair) -> str:
 
 
 def persons_at(roster: Roster, plan: NamedPlan) -> List[Tuple[int, List[str]]]:
-    """Who is at each object that is in a pair, in the roster's order, or the groups'; nothing where no object may have several."""
+    """Who is at each object that is in a pair, in the roster's order, or the groups'; nothing where no object may have
+    several."""
     if all(roster.places_of(object_) <= 1 for object_ in range(len(roster.objects))):
         return []
     who: Dict[int, List[str]] = {}
@@ -249,12 +263,14 @@ def _difference(report: Report, plan: NamedPlan, other: NamedPlan, name: str, ma
     """Another plan: its cost, and where it differs."""
     roster = report.roster
     more = abs(other.cost - plan.cost)
-    cost = f"{roster.shown(other.cost)}, " + (f"{roster.shown(more)} {'less' if report.options.max else 'more'}" if more else "as good")
+    cost = f"{roster.shown(other.cost)}, " + (f"{roster.shown(more)} {'less' if report.options.max else 'more'}" if more
+                                              else "as good")
     return Note(f"{name}{mark}{cost}", _there(roster, plan, other.pairs))
 
 
 def _there(roster: Roster, plan: NamedPlan, pairs: Sequence[Pair]) -> List[str]:
-    """What each person has in another plan that it hasn't in the plan; that it has nothing there; and where names count, what it hasn't."""
+    """What each person has in another plan that it hasn't in the plan; that it has nothing there; and where names
+    count, what it hasn't."""
     own, others = ({(pair.person, pair.object) for pair in those} for those in (plan.pairs, pairs))
     some = {person for person, _ in others}
     lines: Dict[int, List[str]] = {}
@@ -273,7 +289,8 @@ def changes(roster: Roster, plan: NamedPlan, kept: OldPlan) -> Note:
     """How many pairs come and go from an earlier plan, and whose; and what can't be any more."""
     found = changes_of(roster, plan, kept)
     counts = [counted(len(found.comes), "pair") + _comes(found.comes)] if found.comes else []
-    counts += [(str(len(found.goes)) if counts else counted(len(found.goes), "pair")) + _goes(found.goes)] if found.goes else []
+    counts += [(str(len(found.goes)) if counts else counted(len(found.goes), "pair"))
+               + _goes(found.goes)] if found.goes else []
     details = [f"{own.person}: {'; '.join(_words_of(own))}" for own in by_person(roster, found)]
     return Note(f"{kept.path}: {', '.join(counts) or 'no pair changes'}", details + _lost_lines(found.lost))
 
@@ -305,7 +322,8 @@ def broken_rules(hand: Optional[Hand]) -> List[Note]:
     if hand is None or not hand.broken:
         return []
     count = len(hand.broken)
-    return [Note(f"{hand.plan.path}: breaks {count} rule{'' if count == 1 else 's'}", [broken.sentence for broken in hand.broken])]
+    return [Note(f"{hand.plan.path}: breaks {count} rule{'' if count == 1 else 's'}",
+                 [broken.sentence for broken in hand.broken])]
 
 
 def worse_by(report: Report, plan: NamedPlan, hand: OldPlan) -> int:
@@ -321,22 +339,26 @@ def only_there(plan: NamedPlan, hand: OldPlan) -> List[PlanLine]:
 
 
 def compared(report: Report, plan: NamedPlan, hand: Hand) -> Note:
-    """By how much a plan from elsewhere is worse than the best, or better as far as it breaks rules, and where the two differ."""
+    """By how much a plan from elsewhere is worse than the best, or better as far as it breaks rules, and where the two
+    differ."""
     roster, own = report.roster, hand.plan
     cost = sum(pair.cost for pair in own.known)
     more = cost - plan.cost
     size = f"{roster.shown(abs(more))} {'more' if more > 0 else 'less'} than" if more else "as good as"
-    of_pairs = f" for {counted(len(own.known), 'pair')} that the roster allows" if len(own.known) < len(own.named) else ""
+    of_pairs = (f" for {counted(len(own.known), 'pair')} that the roster allows" if len(own.known) < len(own.named)
+                else "")
     rest = "" if hand.is_comparable or hand.best_lack else ", which breaks none"
     rest = ", which misses less" if hand.lack > hand.best_lack > 0 else rest
     best = "the best" if report.proved is None or report.proved.better == 0 else "this plan"
-    return Note(f"{own.path}: {roster.shown(cost)}{of_pairs}, {size} {best}{rest}", [
-        f"there {roster.persons[pair.person]}: {roster.objects[pair.object]}, {roster.shown(pair.cost)}" for pair in only_there(plan, own)])
+    return Note(f"{own.path}: {roster.shown(cost)}{of_pairs}, {size} {best}{rest}",
+                [f"there {roster.persons[pair.person]}: {roster.objects[pair.object]}, {roster.shown(pair.cost)}"
+                 for pair in only_there(plan, own)])
 
 
 def as_csv(roster: Roster, plan: NamedPlan, kept: Optional[OldPlan] = None) -> str:
-    """The pairs as a roster of lines, with the titles, the separator and the decimal mark of the roster that was read. With an earlier plan
-    one more column says which pairs come, and which go or aren't possible now: these stand in lines without a cost."""
+    """The pairs as a roster of lines, with the titles, the separator and the decimal mark of the roster that was read.
+    With an earlier plan one more column says which pairs come, and which go or aren't possible now: these stand in
+    lines without a cost."""
     text = io.StringIO()
     text.write("\ufeff" if roster.has_bom else "")
     writer = csv.writer(text, delimiter=roster.separator, lineterminator="\n")
@@ -358,7 +380,8 @@ def _lines_with_changes(roster: Roster, plan: NamedPlan, kept: OldPlan) -> List[
     new = set(found.comes)
     lines: List[Tuple[int, Tuple[str, ...]]] = [(pair.person, (*line, COMES if pair in new else ""))
                                                 for pair, line in zip(plan.pairs, _lines_of(roster, plan))]
-    lines += [(pair.person, (roster.persons[pair.person], roster.objects[pair.object], "", GOES)) for pair in found.goes]
+    lines += [(pair.person, (roster.persons[pair.person], roster.objects[pair.object], "", GOES))
+              for pair in found.goes]
     lost = ((pair.person, pair.object, "", NOT_POSSIBLE) for pair in found.lost)
     return [*(line for _, line in sorted(lines, key=lambda those: those[0])), *lost]
 

@@ -1,4 +1,5 @@
-"""A plan as an Excel workbook, by openpyxl: by days where there are groups, the pairs, who stays out, and the matrix."""
+"""A plan as an Excel workbook, by openpyxl: by days where there are groups, the pairs, who stays out, and the
+matrix."""
 import io
 from decimal import Decimal
 from typing import Any, List
@@ -77,7 +78,8 @@ def _write_matrix(sheet: Any, report: Report, plan: NamedPlan, styles: Any) -> N
         _put(sheet, 1, 1, f"The matrix has more than {MOST_CELLS} cells and isn't drawn.")
         return
     fills = {colour: styles.PatternFill("solid", fgColor=colour) for colour in (OWN, SHORT, FORBIDDEN)}
-    bold, chosen, costs = styles.Font(FONT, 11, bold=True), {(pair.person, pair.object) for pair in plan.pairs}, costs_by_person(roster)
+    bold, chosen, costs = styles.Font(FONT, 11, bold=True), {(pair.person, pair.object)
+                                                             for pair in plan.pairs}, costs_by_person(roster)
     _put_row(sheet, 1, [roster.titles[0], *(roster.objects[object_] for object_ in frame.objects)])
     for row, person in enumerate(frame.persons, 2):
         _put(sheet, row, 1, roster.persons[person])
@@ -99,7 +101,8 @@ def _write_matrix(sheet: Any, report: Report, plan: NamedPlan, styles: Any) -> N
 def _fit_matrix(sheet: Any, styles: Any, objects: int) -> None:
     """Stands the names of objects upright, above columns as wide as costs."""
     sizes = [[len(str(value)) for value in cells if value is not None] for cells in sheet.iter_cols(values_only=True)]
-    upright, widest = styles.Alignment(textRotation=90), max((size for column in sizes[1:] for size in column[1:]), default=1)
+    upright, widest = styles.Alignment(textRotation=90), max((size for column in sizes[1:] for size in column[1:]),
+                                                             default=1)
     for column in range(2, objects + 2):
         sheet.cell(1, column).alignment = upright
         sheet.column_dimensions[letter(column)].width = widest + 3
