@@ -1,10 +1,6 @@
 """Drawn rosters with rules: the roster, its calendar and its rules, for tests that compare two ways to read them."""
-import sys
-import pathlib
 from array import array
 from datetime import date, timedelta
-
-sys.path.insert(0, str(pathlib.Path(__file__).resolve().parents[2] / "python"))
 
 from nushbaret.roster.month import Before, month_of
 from nushbaret.roster.roster import Earlier, Groups, PlanLine, Roster

@@ -1,12 +1,8 @@
 """The tables of days that pages and workbooks draw: weeks, totals, days off, what is fixed and what changed."""
-import pathlib
 import random
-import sys
 import unittest
 from collections import Counter
 from datetime import date, timedelta
-
-sys.path.insert(0, str(pathlib.Path(__file__).resolve().parents[2] / "python"))
 
 from nushbaret.roster.answer import Pair, NamedPlan
 from nushbaret.roster.blocks import blocks_of

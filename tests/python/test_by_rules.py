@@ -1,12 +1,8 @@
 """Small rosters with rules next to a search of all plans, in which the second reader judges; and the reasons where no
 plan keeps them."""
 import itertools
-import pathlib
 import random
-import sys
 import unittest
-
-sys.path.insert(0, str(pathlib.Path(__file__).resolve().parents[2] / "python"))
 
 from drawn_rules import SHAPES, drawn_lines, roster_of, with_earlier, with_past
 from optional import np, optimize

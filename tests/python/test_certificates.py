@@ -3,12 +3,9 @@ import ctypes
 import itertools
 import pathlib
 import random
-import sys
 import tempfile
 import unittest
 from unittest import mock
-
-sys.path.insert(0, str(pathlib.Path(__file__).resolve().parents[2] / "python"))
 
 from nushbaret.rows import certificates as files, library
 from nushbaret.rows.check import MOST_DEPTH, shows, shows_here

@@ -1,11 +1,7 @@
 """The command with bounds and groups: what is printed, written and drawn, and what is refused."""
 import json
-import pathlib
-import sys
 import unittest
 from unittest import mock
-
-sys.path.insert(0, str(pathlib.Path(__file__).resolve().parents[2] / "python"))
 
 from nushbaret.counts import nodes
 from test_command import OTHERS, Runs, without_names

@@ -14,10 +14,7 @@ from test_command import SQUARE, TOP, Runs
 
 from nushbaret.roster.output.page import _filled
 
-try:
-    import openpyxl
-except ImportError:
-    openpyxl = None
+from optional import openpyxl
 
 # The command as it runs where processes don't end by signals; what it needs is loaded before.
 INTERRUPTED_ON_WINDOWS = """import sys

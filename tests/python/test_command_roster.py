@@ -2,7 +2,6 @@
 import contextlib
 import datetime
 import os
-import pathlib
 import random
 import sys
 import tempfile
@@ -10,16 +9,11 @@ import unittest
 from array import array
 from unittest import mock
 
-sys.path.insert(0, str(pathlib.Path(__file__).resolve().parents[2] / "python"))
-
 from nushbaret.roster import roster as _roster
 from nushbaret.roster.roster import alike, form_of, read_plan, read_roster
 from nushbaret.roster.sheets import RosterFault, Sheet
 
-try:
-    import openpyxl
-except ImportError:
-    openpyxl = None
+from optional import openpyxl
 
 LINES = "nurse,shift,hours\nAda,early,2.50\nAda,late,4.00\nBen,early,3.25\n"
 MATRIX = "nurse,early,late,night\nAda,1,2,\nBen,,5,-6\n"

@@ -2,12 +2,9 @@
 import contextlib
 import io
 import json
-import pathlib
 import sys
 import unittest
 from unittest import mock
-
-sys.path.insert(0, str(pathlib.Path(__file__).resolve().parents[2] / "python"))
 
 from optional import np, optimize
 from test_command import Runs, Terminal

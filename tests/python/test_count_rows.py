@@ -1,12 +1,8 @@
 """Rows of counts and groups, and the leaves that show best plans and shortages, compared with searches and with a check
 in fractions."""
-import pathlib
 import random
-import sys
 import unittest
 from unittest import mock
-
-sys.path.insert(0, str(pathlib.Path(__file__).resolve().parents[2] / "python"))
 
 import nushbaret
 from nushbaret.counts import count_rows as rows, planned as counts

@@ -1,14 +1,10 @@
 """Counts from-to with groups, compared with searches through all plans; and what is refused."""
-import pathlib
 import pickle
 import random
-import sys
 import unittest
 from decimal import Decimal
 from fractions import Fraction
 from unittest import mock
-
-sys.path.insert(0, str(pathlib.Path(__file__).resolve().parents[2] / "python"))
 
 import nushbaret
 from nushbaret.counts import nodes
@@ -17,14 +13,7 @@ from nushbaret.counts.nodes import Bounds, Counted
 
 import drawn
 
-try:
-    import numpy
-except ImportError:
-    numpy = None
-try:
-    import pandas
-except ImportError:
-    pandas = None
+from optional import np as numpy, pd as pandas
 
 CASES = 1500
 SMALL = 300

@@ -1,11 +1,7 @@
 """Names that are dates, and those that aren't."""
-import pathlib
 import random
-import sys
 import unittest
 from datetime import date, timedelta
-
-sys.path.insert(0, str(pathlib.Path(__file__).resolve().parents[2] / "python"))
 
 from nushbaret.roster.dates import DAY_NAMES, dates_of, has_weekday, is_weekend_name, monday_of, order_by_date
 

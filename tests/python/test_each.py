@@ -2,21 +2,15 @@
 import os
 import pathlib
 import re
-import sys
 import unittest
 from datetime import date, datetime, time, timedelta
-
-sys.path.insert(0, str(pathlib.Path(__file__).resolve().parents[2] / "python"))
 
 from nushbaret.roster.output.calendar import Event, calendar
 from nushbaret.roster.output.each import file_names
 from nushbaret.roster.times import Times
 from test_command import Runs, parsed, without_names
 
-try:
-    import openpyxl
-except ImportError:
-    openpyxl = None
+from optional import openpyxl
 
 ROSTER = ("nurse,shift,points\nAda,early Mon,1\nAda,night Tue,2\nAda,early Wed,9\nBen,early Mon,5\nBen,early "
           "Wed,1\nBen,night Tue,7\nCleo,office,1\n")

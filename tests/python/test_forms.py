@@ -11,16 +11,9 @@ from nushbaret.costs import problem as _problem
 from nushbaret.lap import levels, library
 from drawn import drawing
 
-try:
-    import numpy as np
-    from nushbaret.costs import printing
-    from nushbaret.lap import small
-except ImportError:
-    np = None
-try:
-    import pandas
-except ImportError:
-    pandas = None
+from nushbaret.costs import printing
+from nushbaret.lap import small
+from optional import np, pd as pandas
 
 FLOATS = ("f8", "f4", "f2")
 WHOLE = ("i8", "i4", "i2", "i1", "u4", "u2", "u1", "?")

@@ -1,12 +1,8 @@
 """A month's changes: what comes and goes, the past, plans from elsewhere and names without a line, compared with
 searches through all plans."""
 import json
-import pathlib
 import random
-import sys
 import unittest
-
-sys.path.insert(0, str(pathlib.Path(__file__).resolve().parents[2] / "python"))
 
 import drawn
 from test_command import TOP, Runs, Terminal, without_names

@@ -12,8 +12,6 @@ import unittest
 from datetime import date, timedelta
 from unittest import mock
 
-sys.path.insert(0, str(pathlib.Path(__file__).resolve().parents[2] / "python"))
-
 from nushbaret.roster.output import days, each, html as _html, page
 from nushbaret.roster.output.days import SIZES, _size
 from nushbaret.roster.names import BEGIN, END, Piece, joined, marked, pieces, without_marks

@@ -1,14 +1,10 @@
 """Rosters with rules from Python: plans next to a search of all, own rows, and what is refused."""
 import datetime
 import os
-import pathlib
-import sys
 import tempfile
 import unittest
 from decimal import Decimal
 from fractions import Fraction
-
-sys.path.insert(0, str(pathlib.Path(__file__).resolve().parents[2] / "python"))
 
 import nushbaret
 from optional import np, optimize

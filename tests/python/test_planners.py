@@ -1,12 +1,8 @@
 """Places and tasks, kept plans and groups that are short, compared with slow searches through all there is."""
 import itertools
-import pathlib
 import random
-import sys
 import unittest
 from array import array
-
-sys.path.insert(0, str(pathlib.Path(__file__).resolve().parents[2] / "python"))
 
 from nushbaret.roster.answer import Request, answer_of
 from nushbaret.roster.by_counts import answer_by_counts

@@ -2,15 +2,11 @@
 sentence by itself."""
 import itertools
 import json
-import pathlib
 import random
 import re
-import sys
 import unittest
 from array import array
 from unittest import mock
-
-sys.path.insert(0, str(pathlib.Path(__file__).resolve().parents[2] / "python"))
 
 from nushbaret.roster import sentences
 from nushbaret.roster.answer import Request, sentence

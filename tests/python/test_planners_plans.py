@@ -1,11 +1,7 @@
 """The next plans, and fair ones, compared with a search through all plans: with counts, groups and bounds, and
 without."""
 import math
-import pathlib
-import sys
 import unittest
-
-sys.path.insert(0, str(pathlib.Path(__file__).resolve().parents[2] / "python"))
 
 from nushbaret.roster.answer import Request, answer_of
 from nushbaret.roster.by_counts import answer_by_counts

@@ -1,13 +1,9 @@
 """Decision diagrams, prices and trees of drawn rows, held against searches of all plans."""
 import itertools
-import pathlib
 import random
-import sys
 import time
 import unittest
 from unittest import mock
-
-sys.path.insert(0, str(pathlib.Path(__file__).resolve().parents[2] / "python"))
 
 from nushbaret.rows.check import shows_here
 from nushbaret.rows.model import Certificate, Limits, Model, flat

@@ -9,8 +9,6 @@ import time
 import unittest
 from unittest import mock
 
-sys.path.insert(0, str(pathlib.Path(__file__).resolve().parents[2] / "python"))
-
 from nushbaret.rows import finding
 from nushbaret.rows.check import shows
 from nushbaret.rows.model import Model, Row

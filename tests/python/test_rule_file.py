@@ -1,13 +1,9 @@
 """Files of rules: what is read, and what is refused with its line, its column and the nearest word; and the
 calendar."""
 import datetime
-import pathlib
 import random
-import sys
 import unittest
 from fractions import Fraction
-
-sys.path.insert(0, str(pathlib.Path(__file__).resolve().parents[2] / "python"))
 
 from drawn_rules import roster_of
 from nushbaret.roster.month import Before, month_of

@@ -1,12 +1,8 @@
 """The rows that say rules, next to the second reader, which looks at days and kinds: both accept and refuse the same
 plans."""
-import pathlib
 import random
-import sys
 import unittest
 from collections import Counter
-
-sys.path.insert(0, str(pathlib.Path(__file__).resolve().parents[2] / "python"))
 
 from drawn_rules import SHAPES, drawn_case
 from nushbaret.roster.roster import PlanLine

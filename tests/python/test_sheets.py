@@ -14,10 +14,7 @@ from nushbaret.roster.dates import spellings
 from nushbaret.roster.encodings import LETTERS, MARKS
 from nushbaret.roster.sheets import heading_of
 
-try:
-    import openpyxl
-except ImportError:
-    openpyxl = None
+from optional import openpyxl
 
 WARD = {"Roster": [["nurse", "shift", "hours"], ["Ada", "early", 2], ["Ada", "late", 1], ["Ben", "early", 1],
                    ["Ben", "late", 3]], "Places": [["shift", "places"], ["early", 1], ["late", 1]],

@@ -11,11 +11,8 @@ from nushbaret.api import solve
 from nushbaret.lap import levels
 from drawn import KINDS, best, doubles, drawing, exactly, hungarian, proves
 
-try:
-    import numpy as np
-    from nushbaret.lap import small as _small
-except ImportError:
-    np = None
+from nushbaret.lap import small as _small
+from optional import np
 
 
 def _tied(draw):

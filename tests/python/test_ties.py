@@ -7,10 +7,7 @@ import nushbaret
 from nushbaret.lap import levels, ties
 from drawn import drawing, exactly, hungarian, proves
 
-try:
-    import numpy as np
-except ImportError:
-    np = None
+from optional import np
 
 # Costs of a matrix, from the row, the column and a draw.
 KINDS = {"rows": lambda draw, row, column: 1 / (row + 3), "columns": lambda draw, row, column: 1 / (column + 3),

@@ -2,11 +2,7 @@
 past."""
 import importlib.util
 import json
-import pathlib
-import sys
 import unittest
-
-sys.path.insert(0, str(pathlib.Path(__file__).resolve().parents[2] / "python"))
 
 from optional import np, optimize, sparse
 from test_command import TOP, Runs

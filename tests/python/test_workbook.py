@@ -7,10 +7,7 @@ from test_command import Runs
 
 from nushbaret.roster.output import day_sheets
 
-try:
-    import openpyxl
-except ImportError:
-    openpyxl = None
+from optional import openpyxl
 
 FIRST = datetime.date(2027, 3, 1)
 WORDS = ("r.csv", "--groups", "g.csv", "--places", "p.csv", "--tasks", "t.csv")
