@@ -71,7 +71,8 @@ def wait_for(run, ends):
     """Waits for a gate, and notes its status, its minutes by the clock and those of processor time."""
     begun = time.time()
     _, status, usage = os.wait4(run.pid, 0)
-    ends[run.pid] = os.waitstatus_to_exitcode(status), (time.time() - begun) / 60, (usage.ru_utime + usage.ru_stime) / 60
+    ends[run.pid] = os.waitstatus_to_exitcode(status), (time.time() - begun) / 60, (usage.ru_utime
+                                                                                    + usage.ru_stime) / 60
 
 
 def whole_of(seen, end):

@@ -24,7 +24,8 @@ def build(**programs):
     os.makedirs(OUT, exist_ok=True)
     for name, program in programs.items():
         source = os.path.join(HERE, "plain", name + ".rs")
-        subprocess.run(["rustc", "--edition", "2024", "-O", "-C", "target-cpu=x86-64-v2", "-o", program, source], check=True)
+        subprocess.run(["rustc", "--edition", "2024", "-O", "-C", "target-cpu=x86-64-v2", "-o", program, source],
+                       check=True)
     subprocess.run(["cc", "-O1", "-o", PEAK, os.path.join(HERE, "peak.c")], check=True)
 
 
@@ -47,7 +48,8 @@ class Run:
         front = ["taskset", "-c", processors] if processors else []
         with open(stdin) as file:
             start = time.monotonic()
-            ran = subprocess.run([*front, PEAK, peak, program, *words], stdin=file, stdout=subprocess.PIPE, stderr=subprocess.PIPE)
+            ran = subprocess.run([*front, PEAK, peak, program, *words], stdin=file, stdout=subprocess.PIPE,
+                                 stderr=subprocess.PIPE)
             self.clock = time.monotonic() - start
         assert ran.returncode == wanted, (program, words, ran.returncode)
         with open(peak) as file:
@@ -68,7 +70,8 @@ def fastest(programs, stdin, wanted, processors=None, repeats=REPEATS):
 
 
 def line(what, ran, note=""):
-    print(f"{what:32} {ran.clock:8.3f} s, {ran.processor:8.3f} s of processors, {ran.memory:7.1f} MB  {note}", flush=True)
+    print(f"{what:32} {ran.clock:8.3f} s, {ran.processor:8.3f} s of processors, {ran.memory:7.1f} MB  {note}",
+          flush=True)
 
 
 def reading():
@@ -137,10 +140,12 @@ def solving(n, greatest):
 def reading_sparse():
     """The last person lists nothing, so that after one bid of each other person the answer stands."""
     n, pairs = 8192, 820
-    path = problem("reading_sparse.txt", str(n), str(pairs), "1", "999999", "7", str(n - 1), maker="make_sparse_problem.py")
+    path = problem("reading_sparse.txt", str(n), str(pairs), "1", "999999", "7", str(n - 1),
+                   maker="make_sparse_problem.py")
     size = os.path.getsize(path) / 1e6
     triples = (n - 1) * pairs
-    print(f"reading sparse: n = {n}, {size:.1f} MB of text, {triples / 1e6:.1f} million triples; rows built, and one bid for each person")
+    print(f"reading sparse: n = {n}, {size:.1f} MB of text, {triples / 1e6:.1f} million triples; rows built, and one "
+          "bid for each person")
     programs = [
         ("auction_cli solve --sparse", PROGRAM, ["solve", "--sparse"]),
         ("plain Rust", PLAIN, ["solve", "sparse"]),

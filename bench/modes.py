@@ -24,7 +24,8 @@ def compared(what, path, wanted=0, words=(), repeats=3, refresh="1"):
     for workers in ("1", "2", "4"):
         chosen = ["--mode", "workers", "--workers", workers, "--refresh", refresh]
         programs.append((f"  {workers} workers", PROGRAM, ["solve", *chosen, *words]))
-        programs.append((f"  {workers} workers, plain, 64 bits", PLAIN_WORKERS, [workers, refresh, "narrow", "counts", *plain]))
+        programs.append((f"  {workers} workers, plain, 64 bits", PLAIN_WORKERS,
+                         [workers, refresh, "narrow", "counts", *plain]))
     best = fastest(programs, path, wanted, repeats=repeats)
     costs = {answer(ran.printed)[0] for ran in best.values()}
     assert len(costs) == 1, costs
@@ -43,7 +44,8 @@ def modes():
         compared(f"n = {n}, costs 1..10", path)
         scipy_beside(path)
     n = 1000
-    rows = (" ".join(str(1000000 if j == 0 else 1 + (i * 7919 + j * 104729) % 1000) for j in range(n)) + "\n" for i in range(n))
+    rows = (" ".join(str(1000000 if j == 0 else 1 + (i * 7919 + j * 104729) % 1000) for j in range(n)) + "\n"
+            for i in range(n))
     compared(f"n = {n}, one dear column", written("dear.txt", [f"{n}\n", *rows]))
     path = problem("solving_sparse.txt", "8192", "10", "1", "1000", "5", maker="make_sparse_problem.py")
     compared("n = 8192, 10 pairs a person, sparse", path, words=["--sparse"])

@@ -1,7 +1,7 @@
 #!/usr/bin/env python3
-"""Times the command for a month of 100 nurses and 93 shifts, 18 to 20 tasks and 18 to 22 places each, with one shift a day and without
-that rule; and for a ward of 28 nurses and 84 shifts of 28 days, a new plan, a nurse who is sick from day 12, and a plan compared: processor
-time and peak memory. PACKAGE=.. names another folder of the package."""
+"""Times the command for a month of 100 nurses and 93 shifts, 18 to 20 tasks and 18 to 22 places each, with one shift a
+day and without that rule; and for a ward of 28 nurses and 84 shifts of 28 days, a new plan, a nurse who is sick from
+day 12, and a plan compared: processor time and peak memory. PACKAGE=.. names another folder of the package."""
 import os
 import random
 import sys
@@ -26,19 +26,18 @@ def tables():
 
 
 def ward():
-    """The files of the ward, where four pairs in five are allowed: two to four nurses a shift, a day off after five, and one is sick."""
+    """The files of the ward, where four pairs in five are allowed: two to four nurses a shift, a day off after five,
+    and one is sick."""
     draw = random.Random(2)
     nurses = [f"nurse {number}" for number in range(1, 29)]
     shifts = [f"{shift} {day}" for day in range(1, 29) for shift in ("early", "late", "night")]
     pairs = [(nurse, shift, draw.randint(1, 9)) for nurse in nurses for shift in shifts if draw.random() < 0.8]
     tasks = [(nurse, 8, 14) for nurse in nurses]
-    return {
-        "ward.csv": [("nurse", "shift", "dislike"), *pairs],
-        "ward_tasks.csv": [("nurse", "least", "most"), *tasks],
-        "ward_sick.csv": [("nurse", "least", "most"), ("nurse 1", 0, 0), *tasks[1:]],
-        "ward_places.csv": [("shift", "least", "most"), *((shift, 2, 4) if shift[0] != "n" else (shift, 2, 2) for shift in shifts)],
-        "ward_days.csv": [("shift", "day"), *((shift, shift.split()[1]) for shift in shifts)],
-    }
+    return {"ward.csv": [("nurse", "shift", "dislike"), *pairs], "ward_tasks.csv": [("nurse", "least", "most"), *tasks],
+            "ward_sick.csv": [("nurse", "least", "most"), ("nurse 1", 0, 0), *tasks[1:]],
+            "ward_places.csv": [("shift", "least", "most"),
+                                *((shift, 2, 4) if shift[0] != "n" else (shift, 2, 2) for shift in shifts)],
+            "ward_days.csv": [("shift", "day"), *((shift, shift.split()[1]) for shift in shifts)]}
 
 
 def run(words):
@@ -66,7 +65,8 @@ def main():
         rules = ["ward.csv", "--places", "ward_places.csv", "--groups", "ward_days.csv", "--tasks"]
         for what, more in (("a ward", ["ward_tasks.csv", "--output", "plan.csv", "--output", "plan.html"]),
                            ("one is sick", ["ward_sick.csv", "--keep", "plan.csv"]),
-                           ("one is sick, and changes cost", ["ward_sick.csv", "--keep", "plan.csv", "--change-cost", "3"])):
+                           ("one is sick, and changes cost",
+                            ["ward_sick.csv", "--keep", "plan.csv", "--change-cost", "3"])):
             print("{}: {:.2f} s, {:.0f} MB".format(what, *min(run(rules + more + ["--force"]) for _ in range(3))))
 
 

@@ -1,15 +1,16 @@
 #!/usr/bin/env python3
 """Measures Nushbaret next to other solvers of the assignment problem, on the same inputs, in one run.
 
-bench/peers.py [PROGRAM] at the top of the repository, after `rt run` built the program and c/build.sh the library. Of the
-others it takes those that it finds, and says which: SciPy where python3 has it, LEMON and dlib where c++ finds their headers
-(in Debian python3-scipy, liblemon-dev, libdlib-dev). It writes its inputs below bench/out. Solvers take turns, and of each
-the least of three times counts; all find the same cost, or it stops. It prints two tables of seconds, of processor time and
-by the clock: of a whole run, reading and printing included, and in brackets of solving alone, when the costs lie in memory. It
-also draws the first table, as bench/out/peers.svg; bench/peers.svg is a copy of one.
+bench/peers.py [PROGRAM] at the top of the repository, after `rt run` built the program and c/build.sh the library. Of
+the others it takes those that it finds, and says which: SciPy where python3 has it, LEMON and dlib where c++ finds
+their headers (in Debian python3-scipy, liblemon-dev, libdlib-dev). It writes its inputs below bench/out. Solvers take
+turns, and of each the least of three times counts; all find the same cost, or it stops. It prints two tables of
+seconds, of processor time and by the clock: of a whole run, reading and printing included, and in brackets of solving
+alone, when the costs lie in memory. It also draws the first table, as bench/out/peers.svg; bench/peers.svg is a copy of
+one.
 
-A third table has rectangles, costs 1..10^6, from Python, next to SciPy: processor time of solving alone, and by how much the
-first call in a process raises its peak of memory. bench/peers.py rectangles prints this table alone.
+A third table has rectangles, costs 1..10^6, from Python, next to SciPy: processor time of solving alone, and by how
+much the first call in a process raises its peak of memory. bench/peers.py rectangles prints this table alone.
 """
 import os
 import resource
@@ -43,8 +44,8 @@ PROBLEMS = [
     ("sparse, n = 8192, 10 pairs a person", ["make_sparse_problem.py", "8192", "10", "1", "1000", "5"], True),
 ]
 # rows, columns, and how many pairs a row lists; None for all
-RECTANGLES = [(80, 3000, None), (20, 8000, None), (80, 8000, None), (1000, 2000, None), (1000, 1100, None), (3000, 80, None),
-              (500, 4000, 10)]
+RECTANGLES = [(80, 3000, None), (20, 8000, None), (80, 8000, None), (1000, 2000, None), (1000, 1100, None),
+              (3000, 80, None), (500, 4000, 10)]
 
 
 def built(name, *flags):
@@ -148,7 +149,8 @@ class Rectangle:
             return
         columns = numpy.concatenate([draw.choice(n_columns, pairs, replace=False) for _ in range(n_rows)])
         rows = numpy.repeat(numpy.arange(n_rows), pairs)
-        self.matrix = sparse.csr_matrix((draw.integers(1, 10**6, len(rows), endpoint=True), (rows, columns)), (n_rows, n_columns))
+        self.matrix = sparse.csr_matrix((draw.integers(1, 10**6, len(rows), endpoint=True), (rows, columns)),
+                                        (n_rows, n_columns))
 
 
 def by_call(costs):
@@ -178,7 +180,8 @@ def tell_memory(place, name):
 
 def memory(place, name):
     """What a process of its own reports of its memory; empty where the system can't."""
-    ran = subprocess.run([sys.executable, os.path.abspath(__file__), "memory", str(place), name], stdout=subprocess.PIPE, stderr=subprocess.DEVNULL)
+    ran = subprocess.run([sys.executable, os.path.abspath(__file__), "memory", str(place), name],
+                         stdout=subprocess.PIPE, stderr=subprocess.DEVNULL)
     return ran.stdout.decode().strip()
 
 
@@ -198,7 +201,8 @@ def rectangles():
         assert len(answers) == 1, (n_rows, n_columns, answers)
         own, theirs = (times[name].least["alone_processor"] for name in calls)
         taken = " | ".join(memory(place, name) for name in calls)
-        yield f"| {n_rows}, {n_columns}, {pairs or n_columns} | {own:.4f} | {theirs:.4f} | {own / theirs:.2f} | {taken} |"
+        yield (f"| {n_rows}, {n_columns}, {pairs or n_columns} | {own:.4f} | {theirs:.4f} | {own / theirs:.2f} | "
+               f"{taken} |")
 
 
 def solvers(is_sparse, lemon, dlib):
@@ -210,10 +214,12 @@ def solvers(is_sparse, lemon, dlib):
              ("program, 1 worker", whole_run([*program, "--mode", "workers", "--workers", "1"])),
              ("program, 4 workers", whole_run([*program, "--mode", "workers", "--workers", "4"]))]
     if scipy:
-        found += [("library for C, from Python", solve_alone(by_library)), ("SciPy, sparse", solve_alone(by_sparse_scipy))]
+        found += [("library for C, from Python", solve_alone(by_library)),
+                  ("SciPy, sparse", solve_alone(by_sparse_scipy))]
         found += [] if is_sparse else [("SciPy, dense", solve_alone(by_scipy))]
     if lemon:
-        found += [("LEMON, cost scaling", whole_run([lemon, "scaling", kind])), ("LEMON, network simplex", whole_run([lemon, "simplex", kind]))]
+        found += [("LEMON, cost scaling", whole_run([lemon, "scaling", kind])),
+                  ("LEMON, network simplex", whole_run([lemon, "simplex", kind]))]
     if dlib and not is_sparse:
         found += [("dlib", whole_run([dlib]))]
     return found
@@ -233,7 +239,8 @@ def measure(what, path, is_sparse, lemon, dlib):
 def table(measured, measure):
     """A line a solver, a column a problem."""
     names = list(dict.fromkeys(name for times in measured.values() for name in times))
-    yield "| seconds " + ("of processor time" if measure == "processor" else "by the clock") + " | " + " | ".join(measured) + " |"
+    yield "| seconds " + ("of processor time" if measure == "processor"
+                          else "by the clock") + " | " + " | ".join(measured) + " |"
     yield "|---" * (len(measured) + 1) + "|"
     for name in names:
         shown = [times[name].shown(measure) if name in times else "" for times in measured.values()]
@@ -242,10 +249,10 @@ def table(measured, measure):
 
 def draw(measured, foot):
     """The picture of processor times."""
-    problems = [(what, {name: tuple(times.least.get(kind) for kind in ("whole_processor", "alone_processor")) for name, times in rows.items()})
-                for what, rows in measured.items()]
-    heading = ("Seconds of processor time, the least of three, on a scale of powers of ten. In outline: whole runs, with reading and printing; "
-               "filled: solving alone")
+    problems = [(what, {name: tuple(times.least.get(kind) for kind in ("whole_processor", "alone_processor"))
+                        for name, times in rows.items()}) for what, rows in measured.items()]
+    heading = ("Seconds of processor time, the least of three, on a scale of powers of ten. In outline: whole runs, "
+               "with reading and printing; filled: solving alone")
     with open(os.path.join(OUT, "peers.svg"), "w") as file:
         file.write(picture(heading, problems, foot))
 

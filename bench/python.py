@@ -1,12 +1,12 @@
 #!/usr/bin/env python3
-"""Times the Python package, next to the bare call of the library and, where it is there, SciPy: seconds of processor time, the least
-of three or ten runs in turns. Needs c/out/libnushbaret.so; PYTHONPATH=python."""
+"""Times the Python package, next to the bare call of the library and, where it is there, SciPy: seconds of processor
+time, the least of three or ten runs in turns. Needs c/out/libnushbaret.so; PYTHONPATH=python."""
 import random
 import time
 from array import array
 
 import nushbaret
-from nushbaret import _library as library
+from nushbaret.lap import library
 
 try:
     import numpy as np
@@ -49,7 +49,8 @@ def compare(what, n, m, most, count, times=3):
         whole, reals = np.array(rows), np.array(rows, float)
         calls += [("linear_sum_assignment, int64", lambda: nushbaret.linear_sum_assignment(whole)),
                   ("linear_sum_assignment, float64", lambda: nushbaret.linear_sum_assignment(reals)),
-                  ("SciPy, int64", lambda: linear_sum_assignment(whole)), ("SciPy, float64", lambda: linear_sum_assignment(reals))]
+                  ("SciPy, int64", lambda: linear_sum_assignment(whole)),
+                  ("SciPy, float64", lambda: linear_sum_assignment(reals))]
     measure(what, [(name, lambda call=call: [call() for _ in range(count)]) for name, call in calls], times)
 
 
@@ -61,7 +62,8 @@ def plans():
     costs = drawn(1000, 1000, 10**6)[1]
     if np:
         costs = np.array(costs)
-    measure("n = 1000", [("solve", lambda: nushbaret.solve(costs)), ("bottleneck", lambda: nushbaret.bottleneck(costs))])
+    measure("n = 1000", [("solve", lambda: nushbaret.solve(costs)),
+                         ("bottleneck", lambda: nushbaret.bottleneck(costs))])
 
 
 compare("1000 problems of n = 8", 8, 8, 100, 1000, 10)

@@ -1,5 +1,6 @@
 #!/usr/bin/env python3
-"""Measures reading alone, of texts that are refused at their end, by `auction_cli solve` next to plain Rust, in one run.
+"""Measures reading alone, of texts that are refused at their end, by `auction_cli solve` next to plain Rust, in one
+run.
 
 Run it at the top of the repository after `rt run` in crates/auction_cli: bench/reading.py [PROGRAM..]. It writes its
 inputs below bench/out and needs rustc and cc. Programs take turns, and of each the least processor time counts.

@@ -1,9 +1,9 @@
 #!/usr/bin/env python3
-"""Times the command for rosters over large files next to an older one: processor time and peak memory as shares of the old one's,
-each the least of some runs in turns. `roster.py OLD [RUNS]`, where OLD is a checkout with a built library."""
+"""Times the command for rosters over large files next to an older one: processor time and peak memory as shares of the
+old one's, each the least of some runs in turns. `roster.py OLD [RUNS]`, where OLD is a checkout with a built
+library."""
 import os
 import random
-import resource
 import sys
 import tempfile
 
@@ -27,8 +27,9 @@ def pairs(size, count):
         yield f"nurse {pair // size},shift {pair % size},{draw.randrange(10**4)}"
 
 
-FILES = (("3000 x 3000", matrix(3000)), ("1500 x 1500", matrix(1500)), ("1500 x 1500, two decimal places", matrix(1500, 2)),
-         ("lines of a million pairs", pairs(2000, 10**6)), ("30 x 30", matrix(30)))
+FILES = (("3000 x 3000", matrix(3000)), ("1500 x 1500", matrix(1500)),
+         ("1500 x 1500, two decimal places", matrix(1500, 2)), ("lines of a million pairs", pairs(2000, 10**6)),
+         ("30 x 30", matrix(30)))
 
 
 def run(checkout, path):
@@ -54,7 +55,8 @@ def main(old, runs=3):
                 file.writelines(line + "\n" for line in lines)
             found = [(run(old, path), run(TOP, path)) for _ in range(runs)]
             before, now = ([min(values) for values in zip(*side)] for side in zip(*found))
-            print(f"{what}: {now[0]:.2f} s, {now[1]:.0f} MB; shares {now[0] / before[0]:.2f} and {now[1] / before[1]:.2f}", flush=True)
+            print(f"{what}: {now[0]:.2f} s, {now[1]:.0f} MB; shares {now[0] / before[0]:.2f} and "
+                  f"{now[1] / before[1]:.2f}", flush=True)
 
 
 if __name__ == "__main__":

@@ -1,8 +1,8 @@
 #!/usr/bin/env python3
 """Compares rounds on all processors with rounds on one, idle and with as many busy loops as there are processors.
 
-Run it at the top of the repository after `rt run` built the program: bench/steady.py [PROGRAM [idle|busy]].
-It writes its inputs below bench/out and needs rustc and cc. Runs on all processors and on one take turns, five of each, and the
+Run it at the top of the repository after `rt run` built the program: bench/steady.py [PROGRAM [idle|busy]]. It writes
+its inputs below bench/out and needs rustc and cc. Runs on all processors and on one take turns, five of each, and the
 least times count. A ratio above 1.2 is marked (1.35 where the run on one processor takes less than 0.2 s).
 """
 import os
@@ -59,13 +59,14 @@ def least(path, words, wanted):
 
 def measure(load):
     loops = [subprocess.Popen([sys.executable, "-c", "while True: pass"]) for _ in range(load)]
-    print(f"with {load} busy loops beside")
+    print(f"with {load} busy loops at the same time")
     try:
         for name, path, words, wanted in kinds():
             spread, alone, processor = least(path, words, wanted)
             allowed = 1.35 if alone < 0.2 else 1.2
             note = "  MORE THAN ALLOWED" if spread > allowed * alone else ""
-            print(f"  {name:28} {spread:8.3f} s, on one processor {alone:8.3f} s, ratio {spread / alone:5.2f}, {processor:8.3f} s of processors{note}", flush=True)
+            print(f"  {name:28} {spread:8.3f} s, on one processor {alone:8.3f} s, ratio {spread / alone:5.2f}, "
+                  f"{processor:8.3f} s of processors{note}", flush=True)
     finally:
         for loop in loops:
             loop.kill()

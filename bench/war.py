@@ -1,8 +1,9 @@
 #!/usr/bin/env python3
-"""Measures a war of prices: three persons and three objects, all costs equal, from the first prices 0, 0 and 5 * 10^6. One person
-waits at a time, so that all workers but one have no work, however many there are.
+"""Measures a war of prices: three persons and three objects, all costs equal, from the first prices 0, 0 and 5 * 10^6.
+One person waits at a time, so that all workers but one have no work, however many there are.
 
-Run it at the top of the repository after `rt run` built the program: bench/war.py [PROGRAM]. Runs take turns; the least times count.
+Run it at the top of the repository after `rt run` built the program: bench/war.py [PROGRAM]. Runs take turns; the least
+times count.
 """
 import os
 
@@ -17,7 +18,8 @@ def war():
     path = written("war.txt", ["3\n"] + ["1 1 1\n"] * 3)
     report = Run(PROGRAM, ["solve", "--prices"], path, 0, None).printed.decode().splitlines()
     lines = [line for line in report if not line.startswith("price")]
-    return path, written("war_report.txt", [line + "\n" for line in [*lines, "price 1 0", "price 2 0", "price 3 5000000"]])
+    return path, written("war_report.txt", [line + "\n"
+                                            for line in [*lines, "price 1 0", "price 2 0", "price 3 5000000"]])
 
 
 def main():

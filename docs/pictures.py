@@ -1,6 +1,6 @@
 #!/usr/bin/env python3
-"""Makes the picture of a week's page that README.md shows: docs/pictures.py [PICTURE]. Needs Chromium, and the library (c/build.sh, or an
-installed nushbaret)."""
+"""Makes the picture of a week's page that README.md shows: docs/pictures.py [PICTURE]. Needs Chromium, and the library
+(c/build.sh, or an installed nushbaret)."""
 import os
 import pathlib
 import re
@@ -23,8 +23,10 @@ def run(page, *words):
     browser = next(filter(None, map(shutil.which, BROWSERS)), None)
     if browser is None:
         sys.exit(f"none of {', '.join(BROWSERS)} is installed")
-    words = ["--headless", "--no-sandbox", "--disable-gpu", "--hide-scrollbars", "--blink-settings=preferredColorScheme=1", *words]
-    return subprocess.run([browser, *words, page.as_uri()], stdout=subprocess.PIPE, stderr=subprocess.DEVNULL, check=True).stdout.decode()
+    words = ["--headless", "--no-sandbox", "--disable-gpu", "--hide-scrollbars",
+             "--blink-settings=preferredColorScheme=1", *words]
+    return subprocess.run([browser, *words, page.as_uri()], stdout=subprocess.PIPE, stderr=subprocess.DEVNULL,
+                          check=True).stdout.decode()
 
 
 def height(page):
@@ -39,9 +41,11 @@ def main():
     picture = pathlib.Path(sys.argv[1]) if len(sys.argv) > 1 else PICTURE
     with tempfile.TemporaryDirectory() as folder:
         page = pathlib.Path(folder) / "week.html"
-        environment = {**os.environ, "PYTHONPATH": os.pathsep.join(filter(None, (str(TOP / "python"), os.environ.get("PYTHONPATH"))))}
-        subprocess.run([sys.executable, "-m", "nushbaret", *WEEK, "--html", str(page)], cwd=TOP / "examples", env=environment,
-                       stdout=subprocess.DEVNULL, check=True)
+        environment = {**os.environ, "PYTHONPATH": os.pathsep.join(filter(None,
+                                                                          (str(TOP / "python"),
+                                                                           os.environ.get("PYTHONPATH"))))}
+        subprocess.run([sys.executable, "-m", "nushbaret", *WEEK, "--html", str(page)], cwd=TOP / "examples",
+                       env=environment, stdout=subprocess.DEVNULL, check=True)
         run(page, f"--window-size={WIDTH},{height(page)}", f"--screenshot={picture.resolve()}")
 
 

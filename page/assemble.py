@@ -3,8 +3,8 @@
 
     page/assemble.py MODULE.wasm > nushbaret.html
 
-Each script is a module of this folder and all that it imports, in one function, so no two may use a name at the top. The page's policy
-allows just these scripts and this style, by their sums, and no connection.
+Each script is a module of this folder and all that it imports, in one function, so no two may use a name at the top.
+The page's policy allows just these scripts and this style, by their sums, and no connection.
 """
 import base64
 import hashlib
@@ -18,8 +18,8 @@ TOP = HERE.parent
 sys.path.insert(0, str(TOP / "python"))
 sys.dont_write_bytecode = True
 
-from nushbaret._html import COLOURS, FRAME  # noqa: E402
-from nushbaret._page import SHADES_STYLE, STYLE  # noqa: E402
+from nushbaret.roster.output.html import COLOURS, FRAME  # noqa: E402
+from nushbaret.roster.output.page import SHADES_STYLE, STYLE  # noqa: E402
 
 IMPORT = re.compile(r'^import \{[^}]*\} from "\./([a-z]+)\.mjs";\n', re.M)
 NAMED = re.compile(r"^(?:export )?(?:async )?(?:function\*?|const|let|class) (\w+)", re.M)
@@ -75,8 +75,8 @@ def page(module: bytes) -> str:
     """The page with a module."""
     main = script("main")
     style = COLOURS + FRAME + STYLE + SHADES_STYLE + (HERE / "page.css").read_text(encoding="utf-8")
-    policy = (f"default-src 'none'; script-src {sum_of(main)} 'wasm-unsafe-eval'; style-src {sum_of(style)}; worker-src blob:; "
-              "base-uri 'none'; form-action 'none'")
+    policy = (f"default-src 'none'; script-src {sum_of(main)} 'wasm-unsafe-eval'; style-src {sum_of(style)}; "
+              "worker-src blob:; " "base-uri 'none'; form-action 'none'")
     text = (HERE / "page.html").read_text(encoding="utf-8")
     for place, content in (("POLICY", policy), ("STYLE", style), ("MOST", defined("NUSHBARET_MOST_PERSONS")),
                            ("VERSION", defined("NUSHBARET_VERSION")), ("WORKER", script("worker")), ("MAIN", main),

@@ -1,5 +1,5 @@
-"""The build backend of the package: packs it, the shared library that c/build.sh made, the guide to rosters and the manual's page into a
-wheel. It needs nothing but Python, so that installing needs no network. Windows has no manual."""
+"""The build backend of the package: packs it, the shared library that c/build.sh made, the guide to rosters and the
+manual's page into a wheel. It needs nothing but Python, so that installing needs no network. Windows has no manual."""
 import base64
 import hashlib
 import io
@@ -23,8 +23,8 @@ NAMES = {place.name for place, _ in LIBRARIES.values()}
 DAY = (2020, 1, 1, 0, 0, 0)
 # What the wheel's tag says of the machine; release/make.sh sets it to what its library is looked at for.
 PLATFORM = sysconfig.get_platform()
-# The page that describes the package, those of rosters and of their rules, and the folder of examples: where the archive of sources has
-# each, and in a checkout.
+# The page that describes the package, those of rosters and of their rules, and the folder of examples: where the
+# archive of sources has each, and in a checkout.
 DESCRIPTIONS = (TOP / "PYTHON.md", TOP.parent / "docs" / "PYTHON.md")
 GUIDES = (TOP / "ROSTERS.md", TOP.parent / "docs" / "ROSTERS.md")
 RULES = (TOP / "RULES.md", TOP.parent / "docs" / "RULES.md")
@@ -54,8 +54,8 @@ def _library():
     """The library for the machine that the wheel is for."""
     found = next((library for kind, library in LIBRARIES.items() if re.fullmatch(kind, PLATFORM)), None)
     if found is None:
-        raise SystemExit(f"nushbaret runs on Linux for x86-64 and for 64-bit ARM, and on Windows for x86-64, and this is {PLATFORM}: "
-                         "use a Linux container there")
+        raise SystemExit("nushbaret runs on Linux for x86-64 and for 64-bit ARM, and on Windows for x86-64, and this "
+                         f"is {PLATFORM}: " "use a Linux container there")
     place, script = found
     for file in (PACKAGE / place.name, place):
         if file.exists():
@@ -69,15 +69,18 @@ def _tag():
 
 
 def _metadata():
-    fields = [("Metadata-Version", "2.1"), ("Name", "nushbaret"), ("Version", VERSION), ("Summary", _text("description")),
-              ("Keywords", ",".join(_listed("keywords"))), ("License", "MIT OR Apache-2.0"), ("Requires-Python", _text("requires-python")),
+    fields = [("Metadata-Version", "2.1"), ("Name", "nushbaret"), ("Version", VERSION),
+              ("Summary", _text("description")), ("Keywords", ",".join(_listed("keywords"))),
+              ("License", "MIT OR Apache-2.0"), ("Requires-Python", _text("requires-python")),
               *(("Classifier", text) for text in _listed("classifiers")), ("Provides-Extra", "rules"),
-              *(("Requires-Dist", f"{text}; extra == 'rules'") for text in _listed("rules")), ("Description-Content-Type", "text/markdown")]
+              *(("Requires-Dist", f"{text}; extra == 'rules'") for text in _listed("rules")),
+              ("Description-Content-Type", "text/markdown")]
     return "".join(f"{name}: {text}\n" for name, text in fields) + "\n" + _description()
 
 
 def _description():
-    """The page that describes the package. Its links lead to pages that a reader of the metadata doesn't have, so their texts alone stay."""
+    """The page that describes the package. Its links lead to pages that a reader of the metadata doesn't have, so their
+    texts alone stay."""
     for file in DESCRIPTIONS:
         if file.exists():
             return re.sub(r"\[([^][]+)\]\((?!https?:)[^()]*\)", r"\1", file.read_text(encoding="utf-8"))
@@ -127,7 +130,8 @@ def _info():
 
 def _sources():
     """The files of the package, without the library and what Python keeps of its own."""
-    return sorted(file for file in PACKAGE.rglob("*") if file.is_file() and "__pycache__" not in file.parts and file.name not in NAMES)
+    return sorted(file for file in PACKAGE.rglob("*") if file.is_file() and "__pycache__" not in file.parts
+                  and file.name not in NAMES)
 
 
 def _licenses():
@@ -190,7 +194,8 @@ def build_editable(wheel_directory, config_settings=None, metadata_directory=Non
 def build_sdist(sdist_directory, config_settings=None):
     """The sources with the library next to them, so that a wheel can be made of them alone."""
     front = f"nushbaret-{VERSION}"
-    files = {name: TOP / name for name in ("pyproject.toml", "nushbaret_build.py", "nushbaret_guide.py", "nushbaret_manual.py")}
+    files = {name: TOP / name for name in ("pyproject.toml", "nushbaret_build.py", "nushbaret_guide.py",
+                                           "nushbaret_manual.py")}
     files.update({file.name: file for file in (*DESCRIPTIONS, *GUIDES, *RULES) if file.exists()})
     files.update({f"examples/{file.name}": file for file in _examples()})
     files.update({file.name: file for file in _licenses()})

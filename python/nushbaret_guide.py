@@ -1,5 +1,5 @@
-"""The guide to rosters as it is installed: the texts of docs/ROSTERS.md and docs/RULES.md for a command on the path, and the same as a page
-of HTML."""
+"""The guide to rosters as it is installed: the texts of docs/ROSTERS.md and docs/RULES.md for a command on the path,
+and the same as a page of HTML."""
 import re
 from html import escape
 from typing import Dict, Iterator, List, Tuple
@@ -44,7 +44,8 @@ def guide_page(text: str) -> str:
     """A text with headings, paragraphs, lists and indented code as a page."""
     title = text.partition("\n")[0].lstrip("# ")
     body = "\n".join(_block(kind, lines) for kind, lines in _blocks(text.split("\n")))
-    return ('<!DOCTYPE html>\n<html lang="en">\n<head>\n<meta charset="utf-8">\n<meta name="viewport" content="width=device-width">\n'
+    return ('<!DOCTYPE html>\n<html lang="en">\n<head>\n<meta charset="utf-8">\n<meta name="viewport" '
+            'content="width=device-width">\n'
             f"<title>{escape(title)}</title>\n<style>{STYLE}</style>\n</head>\n<body>\n{body}\n</body>\n</html>\n")
 
 
@@ -53,7 +54,8 @@ def _blocks(lines: List[str]) -> Iterator[Tuple[str, List[str]]]:
     held: List[str] = []
     before = ""
     for line in [*lines, "#"]:
-        kind = "code" if line.startswith("    ") and before != "list" else "blank" if not line.strip() else _kind(line, before)
+        kind = ("code" if line.startswith("    ") and before != "list" else "blank" if not line.strip()
+                else _kind(line, before))
         if kind == "blank" and before in ("code", "list"):
             held.append("")
             continue
@@ -101,7 +103,8 @@ def _table(lines: List[str]) -> str:
 def _inline(text: str) -> str:
     """Words with code, links within the page, and stress."""
     parts = re.split("(`[^`]+`)", " ".join(text.split()))
-    return "".join(f"<code>{escape(part[1:-1])}</code>" if part.startswith("`") else _marked(escape(part)) for part in parts)
+    return "".join(f"<code>{escape(part[1:-1])}</code>" if part.startswith("`") else _marked(escape(part))
+                   for part in parts)
 
 
 def _marked(text: str) -> str:

@@ -1,9 +1,10 @@
-"""The manual's page of the command, nushbaret(1), made of its table of options; and how a page of the manual is written."""
+"""The manual's page of the command, nushbaret(1), made of its table of options; and how a page of the manual is
+written."""
 import textwrap
 from typing import Iterable, Iterator, List, NamedTuple, Tuple
 
-from nushbaret import _words as words
-from nushbaret._library import VERSION
+from nushbaret.roster import words
+from nushbaret.lap.library import VERSION
 
 # The variables that the command looks at.
 VARIABLES = [("NUSHBARET_DEBUG", "If it is set, a fault of the command itself shows where it comes from.")]
@@ -23,8 +24,9 @@ The plan, also written for next week, and next week's plan with the fewest chang
 
 
 class Entry(NamedTuple):
-    """A command, an option or an argument, as a help lists it: its short name if any, its name, what its value is called, and its text;
-    the words that the value may be, whether it is a file, and whether the option may stand several times."""
+    """A command, an option or an argument, as a help lists it: its short name if any, its name, what its value is
+    called, and its text; the words that the value may be, whether it is a file, and whether the option may stand
+    several times."""
 
     short: str
     name: str
@@ -80,7 +82,8 @@ def option_lines(entries: Iterable[Entry]) -> Iterator[str]:
 def _examples() -> Iterator[str]:
     """The examples: each block as it stands, or filled."""
     for block in EXAMPLES.strip("\n").split("\n\n"):
-        yield from verbatim(textwrap.indent(textwrap.dedent(block), "    ")) if block.startswith(" ") else (".PP", escaped(block))
+        yield from (verbatim(textwrap.indent(textwrap.dedent(block), "    ")) if block.startswith(" ")
+                    else (".PP", escaped(block)))
 
 
 def command_page() -> str:
@@ -88,7 +91,8 @@ def command_page() -> str:
     lines = heading(words.NAME, 1, VERSION)
     lines += [".SH NAME", f"{words.NAME} \\- {escaped(words.SUMMARY[0].lower() + words.SUMMARY[1:].rstrip('.'))}"]
     lines += [".SH SYNOPSIS", f"\\fB{words.NAME}\\fR [\\fIOPTION\\fR].. \\fI{ARGUMENT.name}\\fR"]
-    lines += [".SH DESCRIPTION", escaped(words.SUMMARY), *option_lines([ARGUMENT]), ".SH OPTIONS", *option_lines(GENERAL)]
+    lines += [".SH DESCRIPTION", escaped(words.SUMMARY), *option_lines([ARGUMENT]), ".SH OPTIONS",
+              *option_lines(GENERAL)]
     for section in words.SECTIONS:
         lines += [f'.SS "{escaped(section)}"', *option_lines(option_entries(section))]
     lines += [".SH EXIT STATUS", escaped(words.STATUSES), ".SH ENVIRONMENT"]

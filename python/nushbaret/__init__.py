@@ -4,45 +4,54 @@
     result = nushbaret.solve([[1, 2], [3, 5]])
     result.columns, result.cost, result.column_duals
 
-`solve` takes a matrix, `solve_sparse` listed pairs, and `linear_sum_assignment` is SciPy's call. `assign_counts` plans where rows and
-columns count several times, and `plan_roster` where there are rules, such as of rest, weeks and weekends; for it SciPy finds, and a check
-in whole numbers proves. `k_best` yields plans from the best on, and `bottleneck` makes the worst pair as good as possible. `check` and
-`compare` judge plans from elsewhere. Plans are best for the costs as given, of any size. Nushbaret's proved library solves all costs
-that are up to 10**12 multiples of one unit, and proves the plan; for any others it solves rounded ones, level by level. What this
-package adds is tested, not proved: how costs are read, levels, dummies where some stay out, and the order of plans.
+`solve` takes a matrix, `solve_sparse` listed pairs, and `linear_sum_assignment` is SciPy's call. `assign_counts` plans
+where rows and columns count several times, and `plan_roster` where there are rules, such as of rest, weeks and
+weekends; for it SciPy finds, and a check in whole numbers proves. `k_best` yields plans from the best on, and
+`bottleneck` makes the worst pair as good as possible. `check` and `compare` judge plans from elsewhere. Plans are best
+for the costs as given, of any size. Nushbaret's proved library solves all costs that are up to 10**12 multiples of one
+unit, and proves the plan; for any others it solves rounded ones, level by level. What this package adds is tested, not
+proved: how costs are read, levels, dummies where some stay out, and the order of plans.
 """
 import importlib
+import os
 from typing import TYPE_CHECKING, Any, List
 
 if TYPE_CHECKING:
-    from ._bottleneck import bottleneck
-    from ._checking import Comparison, Verdict, check, compare
-    from ._counts import CountsInfeasible, CountsResult, assign_counts
-    from ._infeasible import Infeasible, Shortage
-    from ._library import GREATEST_COST, MOST_PERSONS, VERSION as __version__, LibraryNotFound
-    from ._plan_roster import RosterPlan, plan_roster
-    from ._plans import k_best
-    from ._result import Plan, Result
-    from ._solving import linear_sum_assignment, solve, solve_sparse
+    from .api.bottleneck import bottleneck
+    from .api.check import Comparison, check, compare
+    from .api.counts import CountsInfeasible, CountsResult, assign_counts
+    from .api.infeasible import Infeasible, Shortage
+    from .api.plans import k_best
+    from .api.results import Plan, Result
+    from .api.rosters import RosterPlan, plan_roster
+    from .api.solve import linear_sum_assignment, solve, solve_sparse
+    from .api.verdicts import Verdict
+    from .costs.limits import GREATEST_COST, MOST_PERSONS
+    from .lap.library import VERSION as __version__, LibraryNotFound
 
-__all__ = [
-    "GREATEST_COST", "MOST_PERSONS", "Comparison", "CountsInfeasible", "CountsResult", "Infeasible", "LibraryNotFound", "Plan", "Result",
-    "RosterPlan", "Shortage", "Verdict", "__version__", "assign_counts", "bottleneck", "check", "compare", "k_best",
-    "linear_sum_assignment", "plan_roster", "solve", "solve_sparse",
-]
+__all__ = ["GREATEST_COST", "MOST_PERSONS", "Comparison", "CountsInfeasible", "CountsResult", "Infeasible",
+           "LibraryNotFound", "Plan", "Result", "RosterPlan", "Shortage", "Verdict", "__version__", "assign_counts",
+           "bottleneck", "check", "compare", "k_best", "linear_sum_assignment", "plan_roster", "solve", "solve_sparse"]
 
-# The module of each name. It is loaded when the name is first used, so that the command can set what Ctrl-C does before that.
+# The module of each name. It is loaded when the name is first used, so that the command can set what Ctrl-C does before
+# that.
 _MODULES = {
-    "_bottleneck": ("bottleneck",),
-    "_checking": ("Comparison", "Verdict", "check", "compare"),
-    "_counts": ("CountsInfeasible", "CountsResult", "assign_counts"),
-    "_infeasible": ("Infeasible", "Shortage"),
-    "_library": ("GREATEST_COST", "MOST_PERSONS", "VERSION", "LibraryNotFound"),
-    "_plan_roster": ("RosterPlan", "plan_roster"),
-    "_plans": ("k_best",),
-    "_result": ("Plan", "Result"),
-    "_solving": ("linear_sum_assignment", "solve", "solve_sparse"),
+    "api.bottleneck": ("bottleneck",),
+    "api.check": ("Comparison", "check", "compare"),
+    "api.counts": ("CountsInfeasible", "CountsResult", "assign_counts"),
+    "api.infeasible": ("Infeasible", "Shortage"),
+    "api.plans": ("k_best",),
+    "api.results": ("Plan", "Result"),
+    "api.rosters": ("RosterPlan", "plan_roster"),
+    "api.solve": ("linear_sum_assignment", "solve", "solve_sparse"),
+    "api.verdicts": ("Verdict",),
+    "costs.limits": ("GREATEST_COST", "MOST_PERSONS"),
+    "lap.library": ("VERSION", "LibraryNotFound"),
 }
+
+
+# Where pickles of older releases find their classes.
+__path__.append(os.path.join(__path__[0], "pickled"))
 
 
 def __getattr__(name: str) -> Any:

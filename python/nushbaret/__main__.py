@@ -5,8 +5,9 @@ import sys
 
 def main() -> int:
     """Runs the command over the words of the process."""
-    # Ctrl-C ends the process at once, also where the library solves, and without a traceback. Only while files are written it raises.
-    # On Windows, where no process ends by signals, it raises everywhere, and the status is that of a shell of Linux.
+    # Ctrl-C ends the process at once, also where the library solves, and without a traceback. Only while files are
+    # written it raises. On Windows, where no process ends by signals, it raises everywhere, and the status is that of a
+    # shell of Linux.
     if sys.platform != "win32" and signal.getsignal(signal.SIGINT) is signal.default_int_handler:
         signal.signal(signal.SIGINT, signal.SIG_DFL)
     try:
@@ -16,7 +17,7 @@ def main() -> int:
 
 
 def _run() -> int:
-    from ._command import DEVICE, main as run
+    from .roster.command import DEVICE, main as run
     try:
         return run()
     except Exception:

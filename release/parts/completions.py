@@ -106,7 +106,8 @@ def _bash_words(name, described):
 
 def bash(name, top, commands):
     """The script for bash."""
-    valued = {entry.name: entry for described in (top, *commands.values()) for entry in described.options if entry.value}
+    valued = {entry.name: entry for described in (top, *commands.values()) for entry in described.options
+              if entry.value}
     values = [_bash_value(name, valued[option]) for option in sorted(valued)]
     if not commands:
         return _filled(BASH, VALUES=values, PLACE=["    " + _bash_words(name, top)], NAME=[name])
@@ -161,7 +162,8 @@ def zsh(name, top, commands):
     words = [line for command, described in commands.items() for line in _zsh_after(command, described)]
     words.append(f"                help) _values command {' '.join(commands)} ;;")
     body = _filled(ZSH_COMMANDS, OPTIONS=[f"        {_zsh_option(entry)} \\" for entry in top.options], WORDS=words,
-                   COMMANDS=[f"                '{_zsh_text(entry.name)}:{_zsh_text(entry.text)}'" for entry in top.commands])
+                   COMMANDS=[f"                '{_zsh_text(entry.name)}:{_zsh_text(entry.text)}'"
+                             for entry in top.commands])
     return _filled(ZSH, BODY=[body], NAME=[name])
 
 
@@ -195,7 +197,8 @@ def fish(name, top, commands):
         condition = f"__fish_seen_subcommand_from {command}"
         lines += [_fish_option(name, condition, entry) for entry in described.options]
         lines += [_fish(name, condition, "-F") for _ in described.arguments]
-    lines += [_fish(name, "__fish_seen_subcommand_from help", f"-a {_fish_text(' '.join(commands))}")] if commands else []
+    lines += [_fish(name, "__fish_seen_subcommand_from help",
+                    f"-a {_fish_text(' '.join(commands))}")] if commands else []
     return "\n".join([*lines, ""])
 
 

@@ -28,7 +28,8 @@ class Help(NamedTuple):
 
 def printed_by(program, *words):
     """What the program prints."""
-    return subprocess.run([program, *words], stdin=subprocess.DEVNULL, capture_output=True, text=True, check=True).stdout
+    return subprocess.run([program, *words], stdin=subprocess.DEVNULL, capture_output=True, text=True,
+                          check=True).stdout
 
 
 def _choices(text):
@@ -51,7 +52,8 @@ def _entries(block):
             entries[-1] = entries[-1]._replace(text=f"{entries[-1].text} {line.strip()}".strip())
         else:
             raise SystemExit(f"help that isn't understood: {line!r}")
-    return [entry._replace(choices=_choices(entry.text), is_file=any(file in entry for file in FILES)) for entry in entries]
+    return [entry._replace(choices=_choices(entry.text), is_file=any(file in entry for file in FILES))
+            for entry in entries]
 
 
 def read_help(program, *command):

@@ -1,8 +1,8 @@
-"""The manual's pages, made of the roster command's options, of the header for C, and of the program's help, where a program is named:
-manual.py HEADER VERSION FOLDER [PROGRAM].
+"""The manual's pages, made of the roster command's options, of the header for C, and of the program's help, where a
+program is named: manual.py HEADER VERSION FOLDER [PROGRAM].
 
-FOLDER/man1 gets the page of the roster command and that of the program, FOLDER/man3 one of the header, nushbaret.3, and one of each of its
-calls.
+FOLDER/man1 gets the page of the roster command and that of the program, FOLDER/man3 one of the header, nushbaret.3, and
+one of each of its calls.
 """
 import pathlib
 import re
@@ -29,7 +29,8 @@ def paragraph(block):
 def blocks_of(comment):
     """The paragraphs of a comment, without what all its lines are indented by."""
     first, _, others = comment.strip("\n").partition("\n")
-    return [block for block in re.split(r"\n\s*\n", f"{first.strip()}\n{textwrap.dedent(others)}".strip()) if block.strip()]
+    return [block for block in re.split(r"\n\s*\n", f"{first.strip()}\n{textwrap.dedent(others)}".strip())
+            if block.strip()]
 
 
 def notes_lines(notes):
@@ -52,7 +53,8 @@ def program_page(program, version):
     lines += [line for entry in top.commands for line in (".TP", f"\\fB{entry.name}\\fR", escaped(entry.text))]
     lines += notes_lines(top.notes)
     for name, described in commands.items():
-        lines += [f".SH {name.upper()}", escaped(described.about), *option_lines([*described.arguments, *described.options])]
+        lines += [f".SH {name.upper()}", escaped(described.about),
+                  *option_lines([*described.arguments, *described.options])]
         lines += notes_lines(described.notes)
     return "\n".join([*lines, ".SH SEE ALSO", "\\fBnushbaret\\fR(1), \\fBnushbaret\\fR(3)", ""])
 
@@ -86,7 +88,8 @@ def call_page(group, names, version):
     """The page of a call, and of those that differ from it by little."""
     here = names_of(group)
     lines = heading(here[0], 3, version)
-    lines += [".SH NAME", f"{', '.join(here)} \\- {summary_of(group[0].comment)}", ".SH SYNOPSIS", ".nf", "#include <nushbaret.h>"]
+    lines += [".SH NAME", f"{', '.join(here)} \\- {summary_of(group[0].comment)}", ".SH SYNOPSIS", ".nf",
+              "#include <nushbaret.h>"]
     lines += [line for part in group for code in part.calls().values() for line in ("", escaped(code))]
     lines += [".fi", ".SH DESCRIPTION"]
     for part in group:
@@ -101,7 +104,8 @@ def header_page(parts, names, version):
     first, *blocks = blocks_of(parts[0].comment)
     summary = " ".join(first.split()).rpartition(": ")[2].rstrip(".")
     lines = heading("nushbaret", 3, version)
-    lines += [".SH NAME", f"nushbaret \\- {escaped(summary)}", ".SH SYNOPSIS", "#include <nushbaret.h>", ".SH DESCRIPTION"]
+    lines += [".SH NAME", f"nushbaret \\- {escaped(summary)}", ".SH SYNOPSIS", "#include <nushbaret.h>",
+              ".SH DESCRIPTION"]
     for block in blocks:
         lines += [f'.SH "{escaped(block)}"'] if re.fullmatch(r"[A-Z ,+]+", block) else paragraph(block)
     lines.append('.SH "LIMITS, CODES AND STRUCTS"')

@@ -1,7 +1,7 @@
 #!/usr/bin/env python3
-"""Compares the header for C, the names that the built library shows, and the crates: signatures, structs, codes, version and
-SONAME. Prints what differs and ends with 1 then. Needs the built library (c/build.sh): tests/door/header.py [FOLDER], where it isn't in
-c/out."""
+"""Compares the header for C, the names that the built library shows, and the crates: signatures, structs, codes,
+version and SONAME. Prints what differs and ends with 1 then. Needs the built library (c/build.sh): tests/door/header.py
+[FOLDER], where it isn't in c/out."""
 import pathlib
 import re
 import subprocess
@@ -18,8 +18,9 @@ NUMBERS = {"u8": "uint8_t", "u32": "uint32_t", "u64": "uint64_t", "usize": "size
            "Record": "struct nushbaret_record", "Info": "struct nushbaret_info",
            "RowsInfo": "struct nushbaret_rows_info"}
 # What a code's variant is called in the header, where that isn't its own name.
-CALLED = {"Verdict::Length": "ANSWER_LENGTH", "Verdict::PriceRange": "PRICE_RANGE", "HallVerdict::Range": "HALL_RANGE", "HallVerdict::Order": "HALL_ORDER",
-          "HallVerdict::Missing": "HALL_MISSING", "HallVerdict::Extra": "HALL_EXTRA", "HallVerdict::Count": "HALL_COUNT"}
+CALLED = {"Verdict::Length": "ANSWER_LENGTH", "Verdict::PriceRange": "PRICE_RANGE", "HallVerdict::Range": "HALL_RANGE",
+          "HallVerdict::Order": "HALL_ORDER", "HallVerdict::Missing": "HALL_MISSING",
+          "HallVerdict::Extra": "HALL_EXTRA", "HallVerdict::Count": "HALL_COUNT"}
 # What a parameter is called in the header, where the crate can't call it so: clauses have the word for other things.
 PARAMETERS = {"progress": "record"}
 BUILT = pathlib.Path(sys.argv[1]) if sys.argv[1:] else TOP / "c/out"
@@ -59,14 +60,16 @@ def header_calls():
 def crate_codes():
     for file in ["end.rt", "check.rt"]:
         text = (LISTS / file).read_text()
-        for kind, variant, number in re.findall(r"(Fault|End|HallVerdict|Verdict)::(\w+)(?:\([^)]*\))?\)? => (?:\{[^}]*?\n\s*)?(\d+)[,\n]", text):
+        for kind, variant, number in re.findall(r"(Fault|End|HallVerdict|Verdict)::(\w+)(?:\([^)]*\))?\)? => "
+                                                r"(?:\{[^}]*?\n\s*)?(\d+)[,\n]", text):
             if variant != "Yes":
                 yield CALLED.get(f"{kind}::{variant}", variant.upper()), int(number)
 
 
 def row_codes():
     """The codes of rows: `Shown` and `Costs` have one."""
-    called = {"NotShown": "NOT_SHOWN", "TooGreat": "TOO_GREAT", "TooDeep": "TOO_DEEP", "RowVariable": "ROW_VARIABLE", "PlanNumber": "PLAN_NUMBER"}
+    called = {"NotShown": "NOT_SHOWN", "TooGreat": "TOO_GREAT", "TooDeep": "TOO_DEEP", "RowVariable": "ROW_VARIABLE",
+              "PlanNumber": "PLAN_NUMBER"}
     for variant, number in re.findall(r"(?:Fault|Answer)::(\w+)(?:\(_\))? => (\d+),", ROWS.read_text()):
         yield "SHOWN" if variant == "Costs" else called.get(variant, variant.upper()), int(number)
 
@@ -86,16 +89,21 @@ calls, declared = dict(crate_calls()), dict(header_calls())
 compare("calls", sorted(declared), sorted(calls))
 for name in sorted(calls.keys() & declared.keys()):
     compare(name, declared[name], calls[name])
-compare("codes", dict(sorted((name, int(code)) for name, code in re.findall(r"NUSHBARET_(?!ROWS_)(\w+) = (\d+)", HEADER))), dict(sorted(crate_codes())))
-compare("codes of rows", dict(sorted((name, int(code)) for name, code in re.findall(r"NUSHBARET_ROWS_(\w+) = (\d+)", HEADER))), dict(sorted(row_codes())))
+compare("codes", dict(sorted((name, int(code)) for name, code in re.findall(r"NUSHBARET_(?!ROWS_)(\w+) = (\d+)",
+                                                                            HEADER))), dict(sorted(crate_codes())))
+compare("codes of rows", dict(sorted((name, int(code))
+                                     for name, code in re.findall(r"NUSHBARET_ROWS_(\w+) = (\d+)", HEADER))),
+        dict(sorted(row_codes())))
 compare("nushbaret_rows_info", fields("nushbaret_rows_info"), crate_fields(ROWS, "RowsInfo"))
 compare("nushbaret_record", fields("nushbaret_record"), crate_fields(SOLVER / "record.rt", "Record"))
 compare("nushbaret_info", fields("nushbaret_info"), crate_fields(LISTS / "info.rt", "Info"))
-for crate, name, named in [("cost_lists", "MOST_PERSONS", "GREATEST_NUMBER"), ("assign_core", "GREATEST_COST", "GREATEST_COST"),
+for crate, name, named in [("cost_lists", "MOST_PERSONS", "GREATEST_NUMBER"),
+                           ("assign_core", "GREATEST_COST", "GREATEST_COST"),
                            ("cost_lists", "GREATEST_PRICE", "GREATEST_PRICE")]:
     text = (TOP / "crates" / crate / "src/numbers.rt").read_text().replace("_", "")
     value = re.search(rf"{named.replace('_', '')}: \w+ = (\d+)(?: << (\d+))?", text)
-    compare(name, int(re.search(rf"NUSHBARET_{name} (?:INT64_C\()?(\d+)", HEADER)[1]), int(value[1]) << int(value[2] or 0))
+    compare(name, int(re.search(rf"NUSHBARET_{name} (?:INT64_C\()?(\d+)", HEADER)[1]),
+            int(value[1]) << int(value[2] or 0))
 judged = (LISTS / "judge.rt").read_text()
 for name in ["MIN", "MAX"]:
     number = re.search(rf"#define NUSHBARET_{name} (\d+)u", HEADER)[1]
@@ -105,13 +113,16 @@ compare("version of the header", re.search(r'NUSHBARET_VERSION "(.*)"', HEADER)[
 for file in TOP.glob("crates/*/src/*.rt"):
     for found in re.findall(r'VERSION: &str = "(.*)"', file.read_text()):
         compare(f"version of {file.parent.parent.name}", found, version)
-soname = re.search(r"SONAME.*\[(.*)\]", subprocess.run(["readelf", "-d", BUILT / "libnushbaret.so"], capture_output=True, text=True, check=True).stdout)
+soname = re.search(r"SONAME.*\[(.*)\]", subprocess.run(["readelf", "-d", BUILT / "libnushbaret.so"],
+                                                       capture_output=True, text=True, check=True).stdout)
 compare("SONAME", soname and soname[1], f"libnushbaret.so.{version.split('.')[0]}")
 mapped = re.findall(r"^\s+(nushbaret_\w+);", (TOP / "c/exports.map").read_text(), flags=re.M)
 compare("exports.map", sorted(mapped), sorted(calls))
-shown = subprocess.run(["nm", "-D", "--defined-only", BUILT / "libnushbaret.so"], capture_output=True, text=True, check=True).stdout
+shown = subprocess.run(["nm", "-D", "--defined-only", BUILT / "libnushbaret.so"], capture_output=True, text=True,
+                       check=True).stdout
 compare("the shared library's names", sorted(line.split()[-1] for line in shown.splitlines()), sorted(calls))
-shown = subprocess.run(["nm", "-g", "--defined-only", BUILT / "libnushbaret.a"], capture_output=True, text=True, check=True).stdout
+shown = subprocess.run(["nm", "-g", "--defined-only", BUILT / "libnushbaret.a"], capture_output=True, text=True,
+                       check=True).stdout
 compare("the archive's names", sorted(line.split()[-1] for line in shown.splitlines() if " " in line), sorted(calls))
 for line in differ:
     print(line)

@@ -1,14 +1,16 @@
 #!/usr/bin/env python3
-"""Calls nushbaret_rows over the shared library: a table of rows, plans and trees with each code, and 2,000 drawn ones, each against a plain
-slow program that reads the definitions and, where a tree is shown, looks at all plans. tests/door/rows.py LIBRARY"""
+"""Calls nushbaret_rows over the shared library: a table of rows, plans and trees with each code, and 2,000 drawn ones,
+each against a plain slow program that reads the definitions and, where a tree is shown, looks at all plans.
+tests/door/rows.py LIBRARY"""
 import ctypes
 import itertools
 import random
 import sys
-from ctypes import POINTER, c_int32, c_int64, c_size_t, c_uint32, c_uint64, c_uint8
+from ctypes import c_int32, c_int64, c_size_t, c_uint32, c_uint64, c_uint8
 
 MIN, MAX = -2**63, 2**63 - 1
-SHOWN, NOT_SHOWN, TOO_GREAT, TOO_DEEP, SHAPE, ROW, VARIABLE, LENGTH, START, ROW_VARIABLE, PLAN_NUMBER, BROKEN, COST = range(13)
+(SHOWN, NOT_SHOWN, TOO_GREAT, TOO_DEEP, SHAPE, ROW, VARIABLE, LENGTH, START, ROW_VARIABLE, PLAN_NUMBER, BROKEN,
+ COST) = range(13)
 KINDS = [c_size_t, c_uint32, c_int64, c_int64, c_int64, c_uint8, c_int64]
 
 
@@ -90,10 +92,12 @@ def first(of, wrong):
 
 def list_fault(n, starts, variables, coefficients, least, most, plan):
     count = len(starts) - 1
-    if count < 0 or len(coefficients) != len(variables) or len(least) != count or len(most) != count or plan and (len(plan) != n or count == 0):
+    if (count < 0 or len(coefficients) != len(variables) or len(least) != count or len(most) != count or plan
+        and (len(plan) != n or count == 0)):
         raise Stop(LENGTH, None)
-    for code, of, wrong in [(START, starts, lambda k, s: s < (starts[k - 1] if k else 0) or k == 0 and s or k == count and s != len(variables)),
-                            (ROW_VARIABLE, variables, lambda k, v: v >= n), (PLAN_NUMBER, plan, lambda k, x: x > 1)]:
+    for code, of, wrong in [(START, starts, lambda k, s: s < (starts[k - 1] if k else 0) or k == 0 and s or k == count
+                             and s != len(variables)), (ROW_VARIABLE, variables, lambda k, v: v >= n),
+                            (PLAN_NUMBER, plan, lambda k, x: x > 1)]:
         place = first(of, wrong)
         if place is not None:
             raise Stop(code, place)
@@ -116,7 +120,8 @@ def expected(n, starts, variables, coefficients, least, most, plan, tree):
             raise Stop(SHAPE, end)
     except Stop as stop:
         return stop.args[0], None, stop.args[1]
-    assert n > 12 or not any(all(meets(x, row) for row in rows) for x in itertools.product([0, 1], repeat=n)), "a plan meets rows that are shown"
+    assert n > 12 or not any(all(meets(x, row) for row in rows)
+                             for x in itertools.product([0, 1], repeat=n)), "a plan meets rows that are shown"
     return SHOWN, cost, None
 
 
@@ -148,7 +153,8 @@ def tree_of(n, rows, fixed, given):
 
 def draw(chance):
     n, count = chance.randint(1, 8), chance.randint(1, 5)
-    terms = [[(chance.randrange(n), chance.choice([-3, -2, -1, 1, 2, 3])) for _ in range(chance.randint(0, n))] for _ in range(count)]
+    terms = [[(chance.randrange(n), chance.choice([-3, -2, -1, 1, 2, 3])) for _ in range(chance.randint(0, n))]
+             for _ in range(count)]
     plan = [chance.randint(0, 1) for _ in range(n)] if chance.random() < 0.4 else []
     least, most = [], []
     for row in terms:
@@ -177,7 +183,8 @@ def spoil(chance, case):
             case[which][at] = min(MAX, max(MIN, number))
 
 
-TRIANGLE = [3, [0, 2, 4, 6, 9], [0, 1, 1, 2, 0, 2, 0, 1, 2], [1] * 6 + [-1] * 3, [MIN] * 4, [1, 1, 1, -2], [0, 1, 0], [0, 4, 0, -1, 1, -1, 2, -1, 3, -2]]
+TRIANGLE = [3, [0, 2, 4, 6, 9], [0, 1, 1, 2, 0, 2, 0, 1, 2], [1] * 6 + [-1] * 3, [MIN] * 4, [1, 1, 1, -2], [0, 1, 0],
+            [0, 4, 0, -1, 1, -1, 2, -1, 3, -2]]
 
 
 def with_list(which, value):
@@ -186,30 +193,37 @@ def with_list(which, value):
 
 def deep(splits):
     """So many splits of no terms at 0, each with a high half that shows itself: 0 is at least 1."""
-    return [1, 0, 0] * splits + [0, 4, 0, -1, 1, -1, 2, -1, 3, -2] + [number for k in reversed(range(splits)) for number in [0, 1, 4 + k, 1]]
+    return [1, 0, 0] * splits + [0, 4, 0, -1, 1, -1, 2, -1, 3,
+                                 -2] + [number for k in reversed(range(splits)) for number in [0, 1, 4 + k, 1]]
 
 
-TABLE = [
-    (TRIANGLE, (SHOWN, -1, None)), (with_list(6, []), (SHOWN, None, None)), (with_list(7, [0, 0]), (NOT_SHOWN, None, 0)),
-    (with_list(7, [0, 4, 0, -1, 1, -1, 2, -1, 3, -1]), (NOT_SHOWN, None, 0)), (with_list(7, [0, 1, 0, 1]), (NOT_SHOWN, None, 0)),
-    (with_list(7, [0, 1, 0, MIN]), (NOT_SHOWN, None, 0)), (with_list(7, [0, 4, 0, 1, 1, 1, 2, 1, 3, 1]), (NOT_SHOWN, None, 0)),
-    ([1, [0, 3], [0, 0, 0], [MIN, MIN, MIN], [MIN], [-1], [], [0, 1, 0, MIN]], (TOO_GREAT, None, 0)),
-    ([1, [0, 1], [0], [MIN], [MIN], [MIN], [], [0, 1, 0, MIN]], (TOO_GREAT, None, 0)),
-    ([1, [0, 1], [0], [MIN], [MIN], [-1], [], [0, 1, 0, MIN]], (NOT_SHOWN, None, 0)),
-    (with_list(7, deep(1000)), (SHOWN, -1, None)), (with_list(7, deep(1001)), (TOO_DEEP, None, 3000)),
-    (with_list(7, []), (SHAPE, None, 0)), (with_list(7, [0]), (SHAPE, None, 0)), (with_list(7, [2, 0]), (SHAPE, None, 0)),
-    (with_list(7, [0, -1]), (SHAPE, None, 0)), (with_list(7, [0, MIN]), (SHAPE, None, 0)), (with_list(7, [0, MAX]), (SHAPE, None, 0)),
-    (with_list(7, [1, 0, 0]), (SHAPE, None, 3)), (with_list(7, [1, 0, MAX, 0, 0, 0, 0]), (SHAPE, None, 0)), (with_list(7, TRIANGLE[7] + [0]), (SHAPE, None, 10)),
-    (with_list(7, [0, 1, 4, 0]), (ROW, None, 2)), (with_list(7, [0, 2, 0, 1, -1, 0]), (ROW, None, 4)), (with_list(7, [1, 2, 0, 0, 1, 3, 1]), (VARIABLE, None, 5)),
-    (with_list(1, []), (LENGTH, None, None)), (with_list(3, [1]), (LENGTH, None, None)), (with_list(4, [1]), (LENGTH, None, None)),
-    (with_list(5, []), (LENGTH, None, None)), (with_list(6, [0]), (LENGTH, None, None)), ([2, [0], [], [], [], [], [0, 1], [0, 0]], (LENGTH, None, None)),
-    (with_list(1, [1, 2, 4, 6, 9]), (START, None, 0)), (with_list(1, [0, 4, 2, 6, 9]), (START, None, 2)), (with_list(1, [0, 2, 4, 6, 8]), (START, None, 4)),
-    (with_list(1, [0, 2, 4, 2**64 - 1, 9]), (START, None, 4)), (with_list(2, [0, 1, 1, 3, 0, 2, 0, 1, 2]), (ROW_VARIABLE, None, 3)),
-    (with_list(6, [0, 1, 2]), (PLAN_NUMBER, None, 2)), (with_list(6, [0, 1, 1]), (BROKEN, None, 1)),
-    ([2, [0, 2], [0, 1], [MAX, 1], [MIN], [0], [1, 1], [0, 0]], (COST, None, None)),
-    ([2, [0, 2], [0, 1], [2, 2], [1], [1], [], [1, 2, 0, 0, 1, 1, 1, 0, 2, 0, 1, 1, -2, 0, 2, 0, -1, 1, 2]], (SHOWN, None, None)),
-    ([0, [0], [], [], [], [], [], [0, 0]], (NOT_SHOWN, None, 0)), ([0, [0, 0], [], [], [1], [MAX], [], [0, 1, 0, 1]], (SHOWN, None, None)),
-]
+TABLE = [(TRIANGLE, (SHOWN, -1, None)), (with_list(6, []), (SHOWN, None, None)),
+         (with_list(7, [0, 0]), (NOT_SHOWN, None, 0)),
+         (with_list(7, [0, 4, 0, -1, 1, -1, 2, -1, 3, -1]), (NOT_SHOWN, None, 0)),
+         (with_list(7, [0, 1, 0, 1]), (NOT_SHOWN, None, 0)), (with_list(7, [0, 1, 0, MIN]), (NOT_SHOWN, None, 0)),
+         (with_list(7, [0, 4, 0, 1, 1, 1, 2, 1, 3, 1]), (NOT_SHOWN, None, 0)),
+         ([1, [0, 3], [0, 0, 0], [MIN, MIN, MIN], [MIN], [-1], [], [0, 1, 0, MIN]], (TOO_GREAT, None, 0)),
+         ([1, [0, 1], [0], [MIN], [MIN], [MIN], [], [0, 1, 0, MIN]], (TOO_GREAT, None, 0)),
+         ([1, [0, 1], [0], [MIN], [MIN], [-1], [], [0, 1, 0, MIN]], (NOT_SHOWN, None, 0)),
+         (with_list(7, deep(1000)), (SHOWN, -1, None)), (with_list(7, deep(1001)), (TOO_DEEP, None, 3000)),
+         (with_list(7, []), (SHAPE, None, 0)), (with_list(7, [0]), (SHAPE, None, 0)),
+         (with_list(7, [2, 0]), (SHAPE, None, 0)), (with_list(7, [0, -1]), (SHAPE, None, 0)),
+         (with_list(7, [0, MIN]), (SHAPE, None, 0)), (with_list(7, [0, MAX]), (SHAPE, None, 0)),
+         (with_list(7, [1, 0, 0]), (SHAPE, None, 3)), (with_list(7, [1, 0, MAX, 0, 0, 0, 0]), (SHAPE, None, 0)),
+         (with_list(7, TRIANGLE[7] + [0]), (SHAPE, None, 10)), (with_list(7, [0, 1, 4, 0]), (ROW, None, 2)),
+         (with_list(7, [0, 2, 0, 1, -1, 0]), (ROW, None, 4)),
+         (with_list(7, [1, 2, 0, 0, 1, 3, 1]), (VARIABLE, None, 5)), (with_list(1, []), (LENGTH, None, None)),
+         (with_list(3, [1]), (LENGTH, None, None)), (with_list(4, [1]), (LENGTH, None, None)),
+         (with_list(5, []), (LENGTH, None, None)), (with_list(6, [0]), (LENGTH, None, None)),
+         ([2, [0], [], [], [], [], [0, 1], [0, 0]], (LENGTH, None, None)),
+         (with_list(1, [1, 2, 4, 6, 9]), (START, None, 0)), (with_list(1, [0, 4, 2, 6, 9]), (START, None, 2)),
+         (with_list(1, [0, 2, 4, 6, 8]), (START, None, 4)), (with_list(1, [0, 2, 4, 2**64 - 1, 9]), (START, None, 4)),
+         (with_list(2, [0, 1, 1, 3, 0, 2, 0, 1, 2]), (ROW_VARIABLE, None, 3)),
+         (with_list(6, [0, 1, 2]), (PLAN_NUMBER, None, 2)), (with_list(6, [0, 1, 1]), (BROKEN, None, 1)),
+         ([2, [0, 2], [0, 1], [MAX, 1], [MIN], [0], [1, 1], [0, 0]], (COST, None, None)),
+         ([2, [0, 2], [0, 1], [2, 2], [1], [1], [], [1, 2, 0, 0, 1, 1, 1, 0, 2, 0, 1, 1, -2, 0, 2, 0, -1, 1, 2]],
+          (SHOWN, None, None)), ([0, [0], [], [], [], [], [], [0, 0]], (NOT_SHOWN, None, 0)),
+         ([0, [0, 0], [], [], [1], [MAX], [], [0, 1, 0, 1]], (SHOWN, None, None))]
 
 
 def main():

@@ -24,27 +24,28 @@ declare void @llvm.trap() #0
 attributes #0 = { "probe-stack"="inline-asm" "stack-probe-size"="3072" "target-cpu"="x86-64-v2" }
 '''
 # What the module has then, on each platform.
-WANTED = {
-    "wasm32": ('target triple = "wasm32-unknown-unknown"', "%parts.pair.1 = load ptr, ptr %parts.pair.at, align 8", "i64 8",
-               "%numbers = load { i64, i64 }", "ptrtoint ptr %second to i64", "define internal { i64, i64 } @rattle_alloc", "@malloc(i32)"),
-    "windows": ('target triple = "x86_64-w64-windows-gnu"', "%pair = load { i8, ptr }, ptr %place, align 8", 'uwtable "target-cpu"="x86-64-v2"',
-                "ptrtoaddr ptr %second to i64", "define internal { i64, i64 } @rattle_alloc", "@malloc(i64)"),
-}
+WANTED = {"wasm32": ('target triple = "wasm32-unknown-unknown"', "%parts.pair.1 = load ptr, ptr %parts.pair.at, align "
+                     "8", "i64 8", "%numbers = load { i64, i64 }", "ptrtoint ptr %second to i64",
+                     "define internal { i64, i64 } @rattle_alloc", "@malloc(i32)"),
+          "windows": ('target triple = "x86_64-w64-windows-gnu"', "%pair = load { i8, ptr }, ptr %place, align 8",
+                      'uwtable "target-cpu"="x86-64-v2"', "ptrtoaddr ptr %second to i64",
+                      "define internal { i64, i64 } @rattle_alloc", "@malloc(i64)")}
 # What is changed in the module, and what is said of it; the last ones only where addresses have 32 bits.
-REFUSED = (
-    ('declare void @llvm.trap() #0', 'declare i32 @getpid() #0', "calls of C that aren't the heap's: getpid"),
-    ('declare void @llvm.trap() #0', 'declare void @llvm.x86.sse2.pause() #0', "of x86-64 alone: llvm.x86.sse2.pause"),
-    ('declare void @llvm.trap() #0', '@own = internal thread_local global i64 0', "of x86-64 alone: thread_local"),
-    ('declare void @llvm.trap() #0', '@own = global i64 0, section ".init_array"', 'of x86-64 alone: section ".init_array"'),
-    ('declare void @llvm.trap() #0', 'module asm "nop"', 'of x86-64 alone: module asm "nop"'),
-    ('ret i64 %address', 'call void asm sideeffect "pause", ""()\n  ret i64 %address', 'of x86-64 alone: asm sideeffect "pause"'),
-    ('"target-cpu"="x86-64-v2"', '"target-cpu"="x86-64-v3"', "the functions' attributes aren't those of x86-64 Linux"),
-    ('target triple', '; target triple', "0 lines like ^target triple = .*, where there must be one"),
-)
-REFUSED_NARROW = (
-    ('{ i8, ptr }, ptr %place, align 8', '[2 x ptr], ptr %place, align 8', "another way to read or write several values at once: "),
-    ('load { i8, ptr }, ptr %place', 'load { float, ptr }, ptr %place', "a pair of other types: "),
-)
+REFUSED = (('declare void @llvm.trap() #0', 'declare i32 @getpid() #0', "calls of C that aren't the heap's: getpid"),
+           ('declare void @llvm.trap() #0', 'declare void @llvm.x86.sse2.pause() #0',
+            "of x86-64 alone: llvm.x86.sse2.pause"), ('declare void @llvm.trap() #0', '@own = internal thread_local '
+                                                      'global i64 0', "of x86-64 alone: thread_local"),
+           ('declare void @llvm.trap() #0', '@own = global i64 0, section ".init_array"',
+            'of x86-64 alone: section ".init_array"'),
+           ('declare void @llvm.trap() #0', 'module asm "nop"', 'of x86-64 alone: module asm "nop"'),
+           ('ret i64 %address', 'call void asm sideeffect "pause", ""()\n  ret i64 %address',
+            'of x86-64 alone: asm sideeffect "pause"'),
+           ('"target-cpu"="x86-64-v2"', '"target-cpu"="x86-64-v3"', "the functions' attributes aren't those of x86-64 "
+            "Linux"), ('target triple', '; target triple', "0 lines like ^target triple = .*, where there must be "
+                       "one"),)
+REFUSED_NARROW = (('{ i8, ptr }, ptr %place, align 8', '[2 x ptr], ptr %place, align 8', "another way to read or write "
+                   "several values at once: "), ('load { i8, ptr }, ptr %place', 'load { float, ptr }, ptr %place',
+                                                 "a pair of other types: "),)
 
 CASES = (("wasm32", REFUSED + REFUSED_NARROW), ("windows", REFUSED))
 
@@ -53,7 +54,8 @@ def retargeted(text: str, platform: str) -> "subprocess.CompletedProcess[str]":
     with tempfile.NamedTemporaryFile("w", suffix=".ll") as file:
         file.write(text)
         file.flush()
-        return subprocess.run([sys.executable, str(TOP / "c/retarget.py"), file.name, platform], capture_output=True, text=True)
+        return subprocess.run([sys.executable, str(TOP / "c/retarget.py"), file.name, platform], capture_output=True,
+                              text=True)
 
 
 def lacking(platform: str) -> "list[str]":

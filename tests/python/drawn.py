@@ -8,7 +8,8 @@ from fractions import Fraction
 
 def matrix(draw, n_rows, n_columns, span, share=1.0):
     """Costs from -span to span; a pair is allowed with the chance `share`, and else None."""
-    return [[draw.randint(-span, span) if draw.random() < share else None for _ in range(n_columns)] for _ in range(n_rows)]
+    return [[draw.randint(-span, span) if draw.random() < share else None for _ in range(n_columns)]
+            for _ in range(n_rows)]
 
 
 def plans(costs, served):
@@ -66,12 +67,14 @@ def doubles(draw, n_rows, n_columns, kind, share=1.0):
 def exactly(costs, printed):
     """Costs as fractions; floats are what they are, or the decimals that they print as."""
     def of(cost):
-        return None if cost is None else Fraction(Decimal(repr(cost))) if printed and isinstance(cost, float) else Fraction(cost)
+        return (None if cost is None else Fraction(Decimal(repr(cost))) if printed and isinstance(cost, float)
+                else Fraction(cost))
     return [[of(cost) for cost in row] for row in costs]
 
 
 def hungarian(costs, maximize):
-    """The best sum of a matrix of fractions, in which every pair is allowed: Kuhn's method by shortest paths, in whole numbers."""
+    """The best sum of a matrix of fractions, in which every pair is allowed: Kuhn's method by shortest paths, in whole
+    numbers."""
     unit = 1
     for row in costs:
         for cost in row:
@@ -115,7 +118,8 @@ def _augment(whole, row, rows, columns, owner):
 
 
 def proves(costs, result, maximize):
-    """Whether the duals alone, looked at here and not by the library, prove the plan best among those of as many pairs."""
+    """Whether the duals alone, looked at here and not by the library, prove the plan best among those of as many
+    pairs."""
     sign = -1 if maximize else 1
     rows, columns = ([sign * Fraction(dual) for dual in duals] for duals in (result.row_duals, result.column_duals))
     own = set(zip(map(int, result.rows), map(int, result.columns)))
@@ -123,7 +127,8 @@ def proves(costs, result, maximize):
              for row, held in enumerate(costs) for column, cost in enumerate(held) if cost is not None}
     if min(slack.values(), default=0) < 0 or any(slack[pair] for pair in own):
         return False
-    out_rows, out_columns = [rows[row] for row in result.unmatched_rows], [columns[column] for column in result.unmatched_columns]
+    out_rows, out_columns = [rows[row] for row in result.unmatched_rows], [columns[column]
+                                                                           for column in result.unmatched_columns]
     both = sum(rows[row] for row, _ in own) + sum(columns[column] for _, column in own)
     if both != sign * Fraction(result.cost):
         return False
@@ -149,7 +154,8 @@ def groups(draw, number):
 
 
 def plans_by_counts(costs, row_bounds, column_bounds, own_groups):
-    """All plans that pass no greatest count and keep groups: by how much they miss least counts, their sum, and their pairs."""
+    """All plans that pass no greatest count and keep groups: by how much they miss least counts, their sum, and their
+    pairs."""
     columns = range(len(column_bounds))
     choices = []
     for row, (_, most) in zip(costs, row_bounds):

@@ -1,15 +1,11 @@
 """Drawn rosters with rules: the roster, its calendar and its rules, for tests that compare two ways to read them."""
-import sys
-import pathlib
 from array import array
 from datetime import date, timedelta
 
-sys.path.insert(0, str(pathlib.Path(__file__).resolve().parents[2] / "python"))
-
-from nushbaret._month import Before, month_of
-from nushbaret._roster import Earlier, Groups, PlanLine, Roster
-from nushbaret._rule_file import Line, rules_of
-from nushbaret._times import Times
+from nushbaret.roster.month import Before, month_of
+from nushbaret.roster.roster import Earlier, Groups, PlanLine, Roster
+from nushbaret.roster.rule_file import RuleLine, rules_of
+from nushbaret.roster.times import Times
 
 KINDS = ("Early", "Late", "Night")
 NAMES = ("Ada", "Ben", "Cleo", "Dan", "Eve", "Finn")
@@ -35,7 +31,7 @@ SHAPES = (
     ("apart", lambda r: r.choice(("", "yes")), 2),
     ("together", lambda r: "", 2),
 )
-HOURS = (Line("hours of", "Early 7.7", "", 2), Line("hours of", "Night 9,5", "", 3))
+HOURS = (RuleLine("hours of", "Early 7.7", "", 2), RuleLine("hours of", "Night 9,5", "", 3))
 
 
 def roster_of(r, n_persons, n_days, are_dates, share=0.85):
@@ -51,16 +47,19 @@ def roster_of(r, n_persons, n_days, are_dates, share=0.85):
     pairs = [(person, object_) for person in range(n_persons) for object_ in range(len(objects)) if r.random() < share]
     persons = list(NAMES[:n_persons])
     numbers = [{name: number for number, name in enumerate(names)} for names in (persons, objects)]
-    roster = Roster(persons, objects, *numbers, array("H", (person for person, _ in pairs)), array("H", (object_ for _, object_ in pairs)),
-                    array("q", (r.randint(0, 9) for _ in pairs)), 0, ("nurse", "shift", "cost"), ",", False, by_persons=True)
+    roster = Roster(persons, objects, *numbers, array("H", (person for person, _ in pairs)),
+                    array("H", (object_ for _, object_ in pairs)), array("q", (r.randint(0, 9) for _ in pairs)), 0,
+                    ("nurse", "shift", "cost"), ",", False, by_persons=True)
     return roster._replace(groups=Groups("day", names, of_objects, times, kinds, True)), first
 
 
 def with_earlier(r, roster, first, are_dates):
     """The roster with up to five days before its first one, and what was worked on them."""
-    names = [(first - timedelta(back)).isoformat() if are_dates else f"earlier {-back}" for back in range(r.randint(1, 5), 0, -1)]
+    names = [(first - timedelta(back)).isoformat() if are_dates else f"earlier {-back}"
+             for back in range(r.randint(1, 5), 0, -1)]
     earlier = [Earlier(f"{kind} {name}", name, kind, Times(14 * 60, 22 * 60), 2) for name in names for kind in KINDS]
-    pairs = [(person, f"{r.choice(KINDS)} {name}", 2) for person in roster.persons for name in names if r.random() < 0.6]
+    pairs = [(person, f"{r.choice(KINDS)} {name}", 2) for person in roster.persons for name in names
+             if r.random() < 0.6]
     return roster._replace(groups=roster.groups._replace(earlier=tuple(earlier))), Before("before.csv", pairs)
 
 
@@ -68,7 +67,8 @@ def with_past(r, roster):
     """The roster with the first days past, and the pairs of the past."""
     cut = r.randint(1, max(1, len(roster.groups.names) // 2))
     past = frozenset(object_ for object_, group in roster.groups.of_objects.items() if group < cut)
-    allowed = sorted(roster.costs_of({(person, object_) for person in range(len(roster.persons)) for object_ in past}).items())
+    allowed = sorted(roster.costs_of({(person, object_) for person in range(len(roster.persons))
+                                      for object_ in past}).items())
     taken = {}
     for (person, object_), cost in r.sample(allowed, len(allowed)):
         if r.random() < 0.6:
@@ -82,7 +82,7 @@ def drawn_lines(r, persons, count, shapes=SHAPES):
     for number in range(count):
         rule, value, least = r.choice(shapes)
         some = r.sample(persons, r.randint(least, len(persons))) if least or r.random() < 0.3 else []
-        lines.append(Line(rule, value(r), ", ".join(some), number + 4))
+        lines.append(RuleLine(rule, value(r), ", ".join(some), number + 4))
     return [*HOURS, *lines]
 
 
@@ -98,6 +98,6 @@ def drawn_case(r, n_persons, n_days, n_rules, shapes=SHAPES):
     month = month_of(roster, roster.groups, "g.csv", before)
     lines = drawn_lines(r, roster.persons, n_rules, shapes)
     if r.random() < 0.3:
-        lines.insert(2, Line("holiday", r.choice(roster.groups.names), "", 3))
+        lines.insert(2, RuleLine("holiday", r.choice(roster.groups.names), "", 3))
     rules = rules_of("rules.csv", lines, roster, month)
     return roster, month._replace(holidays=rules.holidays), rules, past

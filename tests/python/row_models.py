@@ -1,11 +1,12 @@
-"""Drawn models of rows, searches of all their plans, a check of certificates in fractions, and finding within this process."""
+"""Drawn models of rows, searches of all their plans, a check of certificates in fractions, and finding within this
+process."""
 import itertools
 from fractions import Fraction
 
-from nushbaret import _certificates as files
-from nushbaret import _row_finding as finding
-from nushbaret import _row_worker as worker
-from nushbaret._row_model import Limits, Model, Row
+from nushbaret.rows import certificates as files
+from nushbaret.rows import finding
+from nushbaret.rows import worker
+from nushbaret.rows.model import Limits, Model, Row
 
 try:
     import scipy
@@ -14,35 +15,40 @@ except ImportError:
 
 
 def drawn_model(draw):
-    """Up to nine variables of up to three persons or nobody, up to six rows of up to five sentences; a plan may exist or not."""
+    """Up to nine variables of up to three persons or nobody, up to six rows of up to five sentences; a plan may exist
+    or not."""
     count = draw.randint(1, 9)
     rows = []
     for _ in range(draw.randint(0, 6)):
         variables = sorted(draw.sample(range(count), draw.randint(0, min(count, 5))))
         least = draw.choice((None, draw.randint(-1, 3)))
         most = draw.choice((None, (least or 0) + draw.randint(0, 2)))
-        rows.append(Row(least, tuple((variable, draw.choice((1, 1, 1, -1, 2, 3))) for variable in variables), most, f"rule {draw.randint(0, 4)}"))
+        rows.append(Row(least, tuple((variable, draw.choice((1, 1, 1, -1, 2, 3))) for variable in variables), most,
+                        f"rule {draw.randint(0, 4)}"))
     unit = draw.choice((1, 1, 2, 5))
     costs = tuple(unit * draw.randint(-4, 6) for _ in range(count))
     return Model(count, costs, tuple(rows), tuple(draw.choice((0, 1, 2, None)) for _ in range(count)))
 
 
 def drawn_month(draw, persons=3, days=5):
-    """A month: two kinds of shifts a day, one shift a day for each person, rest, at most so many days in a row and in all, hours, and how
-    many each shift needs. The sentences name the rule and the person."""
+    """A month: two kinds of shifts a day, one shift a day for each person, rest, at most so many days in a row and in
+    all, hours, and how many each shift needs. The sentences name the rule and the person."""
     place = {key: number for number, key in enumerate(itertools.product(range(persons), range(days), range(2)))}
     rows = []
     for person in range(persons):
         def ones(days_, kinds=(0, 1), person=person):
             return tuple((place[person, day, kind], 1) for day in days_ for kind in kinds)
         rows += [Row(None, ones([day]), 1, f"one shift a day ({person})", person) for day in range(days)]
-        rows += [Row(None, ones([day], [1]) + ones([day + 1], [0]), 1, f"rest ({person})", person) for day in range(days - 1)]
-        rows += [Row(None, ones(range(day, day + 3)), 2, f"days in a row: 2 ({person})", person) for day in range(days - 2)]
+        rows += [Row(None, ones([day], [1]) + ones([day + 1], [0]), 1, f"rest ({person})", person)
+                 for day in range(days - 1)]
+        rows += [Row(None, ones(range(day, day + 3)), 2, f"days in a row: 2 ({person})", person)
+                 for day in range(days - 2)]
         hours = tuple((place[person, day, kind], 77 + 18 * kind) for day in range(days) for kind in (0, 1))
         rows.append(Row(draw.randint(80, 200), hours, draw.randint(240, 330), f"hours ({person})", person))
     for day, kind in itertools.product(range(days), range(2)):
         least = draw.choice((0, 0, 1, 1, 1, 2))
-        rows.append(Row(least, tuple((place[person, day, kind], 1) for person in range(persons)), least + draw.randint(0, 1), f"{day} {kind}"))
+        rows.append(Row(least, tuple((place[person, day, kind], 1) for person in range(persons)),
+                        least + draw.randint(0, 1), f"{day} {kind}"))
     costs = tuple(draw.randint(0, 9) for _ in place)
     return Model(len(place), costs, tuple(rows), tuple(person for person, _, _ in place))
 
@@ -67,7 +73,8 @@ def cost(model, plan):
 
 
 def least_cost(model):
-    """The least cost of a month's plans, person by person: for each use of the shared rows the cheapest months; None where there is no plan."""
+    """The least cost of a month's plans, person by person: for each use of the shared rows the cheapest months; None
+    where there is no plan."""
     shared = [row for row in model.rows if row.person is None]
     cheapest = {(0,) * len(shared): 0}
     for person in sorted(set(model.persons)):
@@ -91,7 +98,8 @@ def _months(model, own, rows, shared):
     for taken in itertools.product((0, 1), repeat=len(own)):
         plan = dict(zip(own, taken))
         if all((row.least or 0) <= sum(factor * plan[variable] for variable, factor in row.terms)
-               and (row.most is None or sum(factor * plan[variable] for variable, factor in row.terms) <= row.most) for row in rows):
+               and (row.most is None or sum(factor * plan[variable] for variable, factor in row.terms) <= row.most)
+               for row in rows):
             uses = tuple(sum(factor * plan.get(variable, 0) for variable, factor in row.terms) for row in shared)
             price = sum(model.costs[variable] for variable in own if plan[variable])
             found[uses] = min(found.get(uses, 10**9), price)
@@ -112,10 +120,10 @@ class Channel(worker.Channel):
 
 def found_here(model, seconds=600):
     """What `find` returns, with the work of both processes done here, one after the other."""
-    from nushbaret import _row_bounds, _row_plans
-    search, channel = finding._Search(model), Channel()
-    _row_plans.look_for_plans(search.scaled, channel, seconds)
-    _row_bounds.look_for_bounds(search.scaled, channel, seconds)
+    from nushbaret.rows import bounds, plans
+    search, channel = finding._PlanSearch(model), Channel()
+    plans.look_for_plans(search.scaled, channel, seconds)
+    bounds.look_for_bounds(search.scaled, channel, seconds)
     for message in channel.told:
         finding._taken(search, [], message)
     return search.finding()
@@ -125,7 +133,8 @@ def found_here(model, seconds=600):
 
 
 def shows(certificate):
-    """Whether a certificate shows its claim: the tree is read by calling itself, sums are of fractions, and each weight by itself."""
+    """Whether a certificate shows its claim: the tree is read by calling itself, sums are of fractions, and each weight
+    by itself."""
     plan = certificate.plan
     if plan is not None:
         if not certificate.rows or len(plan) != certificate.variables or any(value not in (0, 1) for value in plan):
@@ -173,7 +182,8 @@ def _is_leaf(rows, pairs, variables):
 def changed(draw, certificate):
     """The certificate with one of its numbers changed: of a row, the plan or the tree."""
     lists = files.lists_of(certificate)
-    name = draw.choice(("least", "most", "coefficients", "variables", "tree", "tree", "tree", *(["plan"] if lists.plan else [])))
+    name = draw.choice(("least", "most", "coefficients", "variables", "tree", "tree", "tree",
+                        *(["plan"] if lists.plan else [])))
     values = list(getattr(lists, name))
     places = [place for place, value in enumerate(values) if value is not None]
     place = draw.choice(places or [0])

@@ -1,4 +1,5 @@
-"""Counts by names, prices by names, plans with too few pairs, greatest counts, and messages that name the argument; types for mypy."""
+"""Counts by names, prices by names, plans with too few pairs, greatest counts, and messages that name the argument;
+types for mypy."""
 import importlib.util
 import os
 import pathlib
@@ -35,12 +36,15 @@ class Refused(unittest.TestCase):
         self.refused(TypeError, "start is 5: it must be a result, or a list of prices", solve, COSTS, start=5)
         self.refused(TypeError, "start is {1}: it must be a list", solve, COSTS, start={1})
         result = solve(COSTS)
-        self.refused(TypeError, "columns is <nushbaret.Result: cost 3, 2 pairs>: it must be a list", check, COSTS, result, result.prices)
+        self.refused(TypeError, "columns is <nushbaret.Result: cost 3, 2 pairs>: it must be a list", check, COSTS,
+                     result, result.prices)
         self.refused(TypeError, "columns is 1: it must be a list", nushbaret.compare, COSTS, 1)
         self.refused(TypeError, "columns[1] is 0.0: it must be a whole number", check, COSTS, [1, 0.0], [0, 0])
-        self.refused(TypeError, "rows[0] is 'a': it must be a whole number", check, COSTS, [1, 0], [0, 0], rows=["a", 1])
+        self.refused(TypeError, "rows[0] is 'a': it must be a whole number", check, COSTS, [1, 0], [0, 0],
+                     rows=["a", 1])
         self.refused(TypeError, "rows is 1: it must be a list", check, COSTS, [1, 0], [0, 0], rows=1)
-        self.refused(TypeError, "prices is 5: it must be a list, with one value for each column", check, COSTS, [1, 0], 5)
+        self.refused(TypeError, "prices is 5: it must be a list, with one value for each column", check, COSTS, [1, 0],
+                     5)
         self.refused(TypeError, "the price of column 0 is '1'", check, COSTS, [1, 0], "12")
 
     def test_names_of_listed_pairs(self):
@@ -53,7 +57,8 @@ class Refused(unittest.TestCase):
 
     def test_no_matrix(self):
         for costs, kind in ({}, "dict"), ({0: [1]}, "dict"), (set(), "set"), (frozenset(), "frozenset"), ("", "str"):
-            for call in nushbaret.solve, nushbaret.bottleneck, lambda costs: nushbaret.assign_counts(costs, 1), lambda costs: nushbaret.k_best(costs, 1):
+            for call in (nushbaret.solve, nushbaret.bottleneck, lambda costs: nushbaret.assign_counts(costs, 1),
+                         lambda costs: nushbaret.k_best(costs, 1)):
                 self.refused(ValueError, f"expected a matrix (2-D array), got a {kind}", call, costs)
         self.assertEqual(nushbaret.solve([]).cost, 0)
 
@@ -84,13 +89,15 @@ class Counts(unittest.TestCase):
     def test_by_labels(self):
         frame = pd.DataFrame(COSTS, index=["Ada", "Ben"], columns=["early", "late"])
         wanted = [("Ada", "late"), ("Ben", "early"), ("Ben", "late")]
-        for counts in {"Ben": 2, "Ada": 1}, pd.Series({"Ben": 2, "Ada": 1}), pd.Series({"Ben": (2, 2), "Ada": 1}), [1, 2], np.array([1, 2]):
+        for counts in ({"Ben": 2, "Ada": 1}, pd.Series({"Ben": 2, "Ada": 1}), pd.Series({"Ben": (2, 2), "Ada": 1}),
+                       [1, 2], np.array([1, 2])):
             self.assertEqual(nushbaret.assign_counts(frame, counts, (0, 2)).pairs, wanted)
         shifts = pd.Series({"late": 2, "early": 1})
         self.assertEqual(nushbaret.assign_counts(frame, (0, 2), shifts).pairs, wanted)
         self.assertEqual(nushbaret.assign_counts(COSTS, pd.Series([1, 2]), (0, 2)).pairs, [(0, 1), (1, 0), (1, 1)])
         days = pd.Series({"late": "Mon", "early": "Tue"})
-        self.assertEqual(nushbaret.assign_counts(frame, (1, 2), (0, 2), days).pairs, [("Ada", "late"), ("Ben", "early")])
+        self.assertEqual(nushbaret.assign_counts(frame, (1, 2), (0, 2), days).pairs,
+                         [("Ada", "late"), ("Ben", "early")])
         self.refused("row_counts lacks the row 'Ada'", frame, pd.Series({"Ben": 2}), 1)
         self.refused("row_counts has 'Cleo', which is no row", frame, {"Ben": 2, "Ada": 1, "Cleo": 1}, 1)
         self.refused("column_counts has 0, which is no column", frame, 1, {0: 1, 1: 1})
@@ -113,9 +120,11 @@ class Counts(unittest.TestCase):
         for count in 10**8, 10**30:
             tracemalloc.start()
             for rows, columns, side in ((0, 2), count, "column"), (count, (0, 2), "row"):
-                with self.assertRaisesRegex(nushbaret.Infeasible, f"{side} 0 must have {count} .*, and can have 2") as caught:
+                with self.assertRaisesRegex(nushbaret.Infeasible, f"{side} 0 must have {count} .*, and can have "
+                                            "2") as caught:
                     nushbaret.assign_counts(COSTS, rows, columns)
-                self.assertEqual([(short.wanted, short.had) for short in caught.exception.shortages], [(count, 2), (count, 2)])
+                self.assertEqual([(short.wanted, short.had) for short in caught.exception.shortages],
+                                 [(count, 2), (count, 2)])
             partial = nushbaret.assign_counts(COSTS, (0, 2), count, partial=True)
             self.assertEqual((partial.cost, partial.missing_columns), (10, {0: count - 2, 1: count - 2}))
             self.assertEqual(nushbaret.assign_counts(COSTS, (1, count), (0, count)).cost, 3)
@@ -166,7 +175,7 @@ class OwnFaults(unittest.TestCase):
     def ran(self, fault, **more):
         """The command with a fault of its own in the solving step: its status, and what it prints."""
         code = ("import sys\nfrom unittest import mock\nfrom nushbaret import __main__\n"
-                f"with mock.patch('nushbaret._answer.solved', side_effect={fault}):\n"
+                f"with mock.patch('nushbaret.roster.answer.best_plan', side_effect={fault}):\n"
                 f"    sys.argv = ['nushbaret', {str(self.file)!r}]\n    sys.exit(__main__.main())\n")
         env = {name: value for name, value in os.environ.items() if name != "NUSHBARET_DEBUG"}
         return subprocess.run([sys.executable, "-c", code], capture_output=True, text=True, env={**env, **more})
@@ -183,7 +192,7 @@ class OwnFaults(unittest.TestCase):
     def test_refusals(self):
         """A roster that is too large for the library stays a fault of the file, with and without the variable."""
         for more in {}, {"NUSHBARET_DEBUG": "1"}:
-            ran = self.ran("__import__('nushbaret._problem')._problem.TooLarge('too many')", **more)
+            ran = self.ran("__import__('nushbaret.costs.problem').costs.problem.TooLarge('too many')", **more)
             self.assertEqual((ran.returncode, ran.stdout, ran.stderr), (3, "", f"{self.file}: too many\n"))
 
 
@@ -200,17 +209,18 @@ class Types(unittest.TestCase):
 
     @unittest.skipUnless(importlib.util.find_spec("mypy"), "mypy isn't there")
     def test_strictly(self):
-        code = ("from typing import List\nimport nushbaret\n"
-                "try:\n    nushbaret.assign_counts([[1]], 2)\n"
-                "except nushbaret.Infeasible as short:\n    wanted: List[int] = [own.wanted for own in short.shortages]\n"
-                "version: str = nushbaret.__version__\n"
-                "columns: List[int] = nushbaret.linear_sum_assignment([[1, 2], [3, 5]])[1]\n"
-                "wrong: str = nushbaret.linear_sum_assignment([[1, 2], [3, 5]])[1]\n")
+        code = ("from typing import List\nimport nushbaret\ntry:\n    nushbaret.assign_counts([[1]], 2)\nexcept "
+                "nushbaret.Infeasible as short:\n    wanted: List[int] = [own.wanted for own in "
+                "short.shortages]\nversion: str = nushbaret.__version__\ncolumns: List[int] = "
+                "nushbaret.linear_sum_assignment([[1, 2], [3, 5]])[1]\nwrong: str = "
+                "nushbaret.linear_sum_assignment([[1, 2], [3, 5]])[1]\n")
         env = {**os.environ, "MYPYPATH": str(pathlib.Path(nushbaret.__file__).resolve().parent.parent)}
         with tempfile.TemporaryDirectory() as folder:
-            ran = subprocess.run([sys.executable, "-m", "mypy", "--strict", "-c", code], capture_output=True, text=True, env=env, cwd=folder)
+            ran = subprocess.run([sys.executable, "-m", "mypy", "--strict", "-c", code], capture_output=True, text=True,
+                                 env=env, cwd=folder)
         self.assertEqual(re.findall(r"<string>:(\d+): error: (.*?) +\[", ran.stdout),
-                         [("9", 'Incompatible types in assignment (expression has type "List[int]", variable has type "str")')], ran.stdout)
+                         [("9", 'Incompatible types in assignment (expression has type "List[int]", variable has type '
+                           '"str")')], ran.stdout)
 
 
 if __name__ == "__main__":

@@ -10,7 +10,8 @@ from fractions import Fraction
 
 import nushbaret
 from drawn import drawing
-from nushbaret import _exact, _problem, _proved
+from nushbaret.costs import reading, problem as _problem
+from nushbaret.lap import proved
 from optional import np, pd
 
 LEAST, MOST = -2**63, 2**63 - 1
@@ -50,7 +51,8 @@ def counted(costs, **named):
 
 
 def ranked(costs, **named):
-    return [(Fraction(plan.cost), [*map(int, plan.rows)], [*map(int, plan.columns)]) for plan in nushbaret.k_best(costs, 4, **named)]
+    return [(Fraction(plan.cost), [*map(int, plan.rows)], [*map(int, plan.columns)])
+            for plan in nushbaret.k_best(costs, 4, **named)]
 
 
 def next_ones(costs, **named):
@@ -58,8 +60,11 @@ def next_ones(costs, **named):
     result = nushbaret.solve(costs, **named)
     after = result.next_best()
     first = int(nushbaret.solve(costs, **named).rows[0])
-    return after and Fraction(after.cost), sorted(outcome(lambda column: (Fraction(result.without(first, column).cost),), column)
-                                                  for column in range(len(costs[0]) if isinstance(costs, list) else costs.shape[1]))
+    return after and Fraction(after.cost), sorted(outcome(lambda column: (Fraction(result.without(first,
+                                                                                                  column).cost),),
+                                                          column)
+                                                  for column in range(len(costs[0]) if isinstance(costs, list)
+                                                                      else costs.shape[1]))
 
 
 def compared(costs, **named):
@@ -90,25 +95,27 @@ class Kind:
             return draw.random() < 0.5
         if self.kind in "iu":
             ends = np.iinfo(self.type)
-            return int(draw.choice([ends.min, ends.min + 1, ends.max, ends.max - 1, draw.randint(0, 9), draw.randint(0, 9), draw.randint(0, 100)]))
+            return int(draw.choice([ends.min, ends.min + 1, ends.max, ends.max - 1, draw.randint(0, 9),
+                                    draw.randint(0, 9), draw.randint(0, 100)]))
         return draw.choice([self.usual(draw), self.usual(draw), self.usual(draw), self.far(draw)])
 
     def usual(self, draw):
-        return draw.choice([draw.randint(0, 9), draw.random(), draw.randint(-99, 99) / 10, draw.randint(1000, 65000), 0.1])
+        return draw.choice([draw.randint(0, 9), draw.random(), draw.randint(-99, 99) / 10, draw.randint(1000, 65000),
+                            0.1])
 
     def far(self, draw):
         """A cell near the ends of a kind of floats, or one that forbids its pair or is none."""
         ends = np.finfo(self.type)
-        return draw.choice([ends.max, -ends.max, ends.tiny, ends.tiny / 4, ends.eps, draw.random() * ends.max, math.inf, -math.inf, math.nan,
-                            math.inf])
+        return draw.choice([ends.max, -ends.max, ends.tiny, ends.tiny / 4, ends.eps, draw.random() * ends.max, math.inf,
+                            -math.inf, math.nan, math.inf])
 
     def matrix(self, draw, height, width):
         with np.errstate(all="ignore"):
             return np.array([[self.cell(draw) for _ in range(width)] for _ in range(height)], object).astype(self.type)
 
 
-KINDS = ["bool", "int8", "uint8", "int16", "uint16", "int32", "uint32", "int64", "uint64", "float16", "float32", "float64", "longdouble",
-         ">i8", ">u8", ">f4", ">f8", "object"]
+KINDS = ["bool", "int8", "uint8", "int16", "uint16", "int32", "uint32", "int64", "uint64", "float16", "float32",
+         "float64", "longdouble", ">i8", ">u8", ">f4", ">f8", "object"]
 
 
 def meaning(cell, doubles):
@@ -131,7 +138,8 @@ def twin(costs, doubles):
 class Drawn(unittest.TestCase):
     def form(self, draw, costs):
         """The same cells in another order in memory, or in the hands of others."""
-        forms = [costs, np.asfortranarray(costs), costs[::-1].copy()[::-1], np.repeat(costs, 2, 1)[:, ::2], np.ma.array(costs)]
+        forms = [costs, np.asfortranarray(costs), costs[::-1].copy()[::-1], np.repeat(costs, 2, 1)[:, ::2],
+                 np.ma.array(costs)]
         if pd and costs.dtype.byteorder in "=|" and costs.dtype.itemsize <= 8:
             forms.append(pd.DataFrame(costs))
         form = draw.choice(forms)
@@ -148,7 +156,8 @@ class Drawn(unittest.TestCase):
         for place in np.ndindex(height, width):
             own = draw.choice(kinds)
             with np.errstate(all="ignore"):
-                costs[place] = draw.choice([own.type.newbyteorder("=").type(own.cell(draw)), Decimal("0.1"), Fraction(1, 3), None, 7])
+                costs[place] = draw.choice([own.type.newbyteorder("=").type(own.cell(draw)), Decimal("0.1"),
+                                            Fraction(1, 3), None, 7])
         return costs
 
     def test_beside_lists(self):
@@ -170,7 +179,8 @@ class Drawn(unittest.TestCase):
 
     def scipys(self, form, rows, named):
         """SciPy's call, where a float is its double."""
-        found, wanted = outcome(nushbaret.linear_sum_assignment, form, **named), outcome(nushbaret.linear_sum_assignment, rows, **named)
+        found, wanted = outcome(nushbaret.linear_sum_assignment, form,
+                                **named), outcome(nushbaret.linear_sum_assignment, rows, **named)
         if isinstance(wanted[0], str):
             self.assertEqual(found, wanted)
         else:
@@ -184,7 +194,8 @@ class Drawn(unittest.TestCase):
             mask = np.array([draw.random() < 0.3 for _ in range(costs.size)]).reshape(costs.shape)
             call, named = CALLS[turn % len(CALLS)], {"maximize": draw.random() < 0.5, "missing": "forbid"}
             rows = [[None if hidden else cell for cell, hidden in zip(*both)] for both in zip(twin(costs, False), mask)]
-            doubles = [[None if hidden else cell for cell, hidden in zip(*both)] for both in zip(twin(costs, True), mask)]
+            doubles = [[None if hidden else cell for cell, hidden in zip(*both)]
+                       for both in zip(twin(costs, True), mask)]
             with self.subTest(turn=turn, rows=rows, call=call.__name__, named=named):
                 form = np.ma.array(costs, mask=mask)
                 self.assertEqual(outcome(call, form, **named), outcome(call, rows, **named))
@@ -198,12 +209,15 @@ class Drawn(unittest.TestCase):
         for turn in range(1000):
             costs = self.drawn(draw, KINDS[turn % len(KINDS)]).ravel()
             rows, columns = ([draw.randint(0, 2) for _ in costs] for _ in range(2))
-            kinds = [draw.choice(["int8", "uint8", "int16", "uint32", "int64", "uint64", "object", ">i2"]) for _ in range(2)]
+            kinds = [draw.choice(["int8", "uint8", "int16", "uint32", "int64", "uint64", "object", ">i2"])
+                     for _ in range(2)]
             given = [np.array(numbers, kind) for numbers, kind in zip((rows, columns), kinds)]
             maximize = draw.random() < 0.5
             with self.subTest(turn=turn, costs=costs, kinds=kinds):
-                found, wanted = (outcome(lambda *lists: plan(nushbaret.solve_sparse(3, 3, *lists, maximize, partial=True, missing="forbid")), *lists)
-                                 for lists in ((*given, costs), (rows, columns, twin([costs], False)[0])))
+                found, wanted = (outcome(lambda *lists: plan(nushbaret.solve_sparse(3, 3, *lists, maximize,
+                                                                                    partial=True, missing="forbid")),
+                                         *lists) for lists in ((*given, costs),
+                                                               (rows, columns, twin([costs], False)[0])))
                 self.assertEqual(found, wanted)
 
 
@@ -214,13 +228,15 @@ class Views(unittest.TestCase):
     """Buffers, which need no NumPy."""
 
     def cells(self, draw, code, count):
-        """Numbers as a view holds them, and what they mean: a decimal of few digits is what its float of 32 bits prints as."""
+        """Numbers as a view holds them, and what they mean: a decimal of few digits is what its float of 32 bits prints
+        as."""
         if code in "fd":
             texts = [f"{draw.randint(-999999, 999999)}e{draw.randint(-30, 30)}" for _ in range(count)]
             return [float(text) for text in texts], [Decimal(text) for text in texts]
         bits = 8 * struct.calcsize(code)
         least, most = (-2**(bits - 1), 2**(bits - 1) - 1) if code.islower() else (0, 2**bits - 1)
-        numbers = [draw.choice([least, least + 1, most, most - 1, draw.randint(0, 9), draw.randint(0, 100)]) for _ in range(count)]
+        numbers = [draw.choice([least, least + 1, most, most - 1, draw.randint(0, 9), draw.randint(0, 100)])
+                   for _ in range(count)]
         return numbers, numbers
 
     def test_beside_lists(self):
@@ -244,9 +260,9 @@ class Views(unittest.TestCase):
         self.assertEqual(nushbaret.solve([tenth]).cost, Decimal("0.1"))
         self.assertEqual(nushbaret.solve((ctypes.c_float * 1 * 1)((0.1,))).cost, Decimal("0.1"))
         self.assertEqual(nushbaret.solve_sparse(1, 1, [0], [0], tenth).cost, Decimal("0.1"))
-        problem = _problem.of_matrix([[1]], _exact.manner(False))
+        problem = _problem.of_matrix([[1]], reading.manner(False))
         for prices in [tenth, memoryview(tenth)] + ([np.array(tenth), [*np.array(tenth)]] if np else []):
-            self.assertEqual(_proved.exact_prices(problem, prices), [Fraction(1, 10)])
+            self.assertEqual(proved.exact_prices(problem, prices), [Fraction(1, 10)])
         self.assertLess(0.1, exact)
         # By hand: as decimals both plans cost 0.1 + 0.1, as doubles the first one costs more.
         view = memoryview(array("f", [0.1, 0.1, 0.1, 0.1])).cast("B").cast("f", (2, 2))
@@ -261,7 +277,8 @@ class Views(unittest.TestCase):
         for form in forms:
             for maximize, wanted, other in (True, 3, LEAST + 5), (False, LEAST + 5, 3):
                 result = nushbaret.solve(form, maximize)
-                self.assertEqual((result.cost, bool(result.verify()), result.is_unique, result.next_best().cost), (wanted, True, True, other))
+                self.assertEqual((result.cost, bool(result.verify()), result.is_unique, result.next_best().cost),
+                                 (wanted, True, True, other))
                 self.assertEqual([plan.cost for plan in nushbaret.k_best(form, 9, maximize)], [wanted, other])
                 self.assertEqual(result.without(*result.pairs[0]).cost, other)
                 self.assertEqual(nushbaret.assign_counts(form, 1, 1, maximize=maximize).cost, wanted)
@@ -285,9 +302,11 @@ class Ends(unittest.TestCase):
 
     def test_bounds_beyond_64_bits(self):
         """A bound is compared as a whole number, where NumPy would compare doubles."""
-        for worst, kept, kept_greatest in (2**63, 2, 0), (2**70, 2, 0), (MOST, 2, 1), (LEAST, 1, 2), (LEAST - 1, 0, 2), (-2**70, 0, 2):
+        for worst, kept, kept_greatest in (2**63, 2, 0), (2**70, 2, 0), (MOST, 2, 1), (LEAST, 1, 2), (LEAST - 1, 0,
+                                                                                                      2), (-2**70, 0,
+                                                                                                           2):
             for maximize, wanted in (False, kept), (True, kept_greatest):
-                problem = _problem.of_matrix(np.array([[LEAST, MOST]]), _exact.manner(maximize))
+                problem = _problem.of_matrix(np.array([[LEAST, MOST]]), reading.manner(maximize))
                 self.assertEqual(len(_problem.within(problem, (worst, 1)).costs), wanted)
 
     def test_small_numbers_of_rows_and_columns(self):
@@ -312,9 +331,12 @@ class Ends(unittest.TestCase):
             nushbaret.linear_sum_assignment(np.ma.array([[1]], mask=True), missing="forbid")
 
     def test_one_meaning_of_small_floats(self):
-        """Whatever stands next to them: 65504 of 16 bits prints as 65500, 16777217 of 32 bits is 16777216, and 123456792 prints as 123456790."""
-        for kind, value, printed, exact in (("float16", 65504, 65500, 65504), ("float32", 123456789, 123456790, 123456792),
-                                            ("float32", 16777217, 16777216, 16777216), ("float32", 1e20, 10**20, 100000002004087734272),
+        """Whatever stands next to them: 65504 of 16 bits prints as 65500, 16777217 of 32 bits is 16777216, and
+        123456792 prints as 123456790."""
+        for kind, value, printed, exact in (("float16", 65504, 65500, 65504),
+                                            ("float32", 123456789, 123456790, 123456792),
+                                            ("float32", 16777217, 16777216, 16777216),
+                                            ("float32", 1e20, 10**20, 100000002004087734272),
                                             ("float16", 2049, 2048, 2048), ("float16", 2051, 2052, 2052)):
             for other in "1", "0.1":
                 costs = np.array([[value, math.inf], [math.inf, float(other)]], kind)
@@ -326,7 +348,7 @@ class Ends(unittest.TestCase):
 
     def test_all_of_16_bits(self):
         """Each float of 16 bits, and drawn ones of 32, are what NumPy prints."""
-        from nushbaret import _printing
+        from nushbaret.costs import printing
         every = np.arange(2**16, dtype=np.uint16).view(np.float16)
         bits = np.random.default_rng(60).integers(0, 2**32, 20000, dtype=np.uint64).astype(np.uint32).view(np.float32)
         near = (np.random.default_rng(61).integers(-10**6, 10**6, 20000) / 256).astype(np.float32)
@@ -334,11 +356,11 @@ class Ends(unittest.TestCase):
         for floats in every, bits, near, powers:
             floats = floats[np.isfinite(floats)]
             with np.errstate(all="ignore"):
-                found = _printing.of_array(np, floats)
+                found = printing.of_array(np, floats)
             wanted = [float(str(value)) for value in floats]
             self.assertEqual(found.tolist(), wanted)
             letter = floats.dtype.char
-            self.assertEqual([_printing.shortest(float(value), letter) for value in floats[::7]], wanted[::7])
+            self.assertEqual([printing.shortest(float(value), letter) for value in floats[::7]], wanted[::7])
 
     def test_great_long_doubles(self):
         if np.finfo(np.longdouble).max <= sys.float_info.max:
@@ -363,13 +385,15 @@ class Frames(unittest.TestCase):
 
     def test_drawn_columns(self):
         """Each column of a kind of its own, compared with lists."""
-        draw, kinds = drawing(64), [kind for kind in KINDS if kind[0] != ">" and kind != "longdouble" and kind != "object"]
+        draw, kinds = drawing(64), [kind for kind in KINDS if kind[0] != ">" and kind != "longdouble"
+                                    and kind != "object"]
         for turn in range(600):
             height, width = draw.randint(1, 3), draw.randint(1, 3)
             columns = [Kind(draw.choice(kinds)).matrix(draw, height, 1).ravel() for _ in range(width)]
             frame, call = pd.DataFrame(dict(enumerate(columns))), CALLS[turn % len(CALLS)]
             named = {"maximize": draw.random() < 0.5, "missing": draw.choice(["forbid", "refuse"])}
-            rows, doubles = ([[meaning(column[row], exactly) for column in columns] for row in range(height)] for exactly in (False, True))
+            rows, doubles = ([[meaning(column[row], exactly) for column in columns] for row in range(height)]
+                             for exactly in (False, True))
             with self.subTest(turn=turn, call=call.__name__, rows=rows, named=named):
                 self.assertEqual(outcome(call, frame, **named), outcome(call, rows, **named))
                 found, wanted = (outcome(nushbaret.linear_sum_assignment, costs, **named) for costs in (frame, doubles))
@@ -380,7 +404,8 @@ class Frames(unittest.TestCase):
 
     def test_nan_by_labels(self):
         frame = pd.DataFrame([[1, math.nan], [2, 3]], index=["Ada", "Ben"], columns=["early", "late"])
-        for form in frame, frame.astype("float32"), frame.astype(object), frame.astype("Float64"), frame.astype("Float32"):
+        for form in (frame, frame.astype("float32"), frame.astype(object), frame.astype("Float64"),
+                     frame.astype("Float32")):
             # Of pandas' own kinds SciPy's call takes no missing cell for a number.
             calls = nushbaret.solve, nushbaret.bottleneck, nushbaret.linear_sum_assignment
             for call in calls if "Float" not in str(form.dtypes.iloc[0]) else calls[:2]:

@@ -3,27 +3,26 @@ import ctypes
 import itertools
 import pathlib
 import random
-import sys
 import tempfile
 import unittest
 from unittest import mock
 
-sys.path.insert(0, str(pathlib.Path(__file__).resolve().parents[2] / "python"))
-
-from nushbaret import _certificates as files, _row_library as library
-from nushbaret._row_check import MOST_DEPTH, shows, shows_here
-from nushbaret._row_model import Certificate, Leaf, Limits, Split, flat
+from nushbaret.rows import certificates as files, library
+from nushbaret.rows.check import MOST_DEPTH, shows, shows_here
+from nushbaret.rows.model import Certificate, Leaf, Limits, Split, flat
 
 import row_models as models
 
 CHANGES = 500
 # Of each two of three variables at most one, and each earns 1: no plan earns 2.
-TRIANGLE = Certificate(3, (Limits(None, ((0, 1), (1, 1)), 1), Limits(None, ((1, 1), (2, 1)), 1), Limits(None, ((0, 1), (2, 1)), 1),
-                           Limits(None, ((0, -1), (1, -1), (2, -1)), -2)), (0, 1, 0), (0, 4, 0, -1, 1, -1, 2, -1, 3, -2))
+TRIANGLE = Certificate(3, (Limits(None, ((0, 1), (1, 1)), 1), Limits(None, ((1, 1), (2, 1)), 1),
+                           Limits(None, ((0, 1), (2, 1)), 1), Limits(None, ((0, -1), (1, -1), (2, -1)), -2)), (0, 1, 0),
+                       (0, 4, 0, -1, 1, -1, 2, -1, 3, -2))
 # 2 x + 2 y = 1, by the sum of x and y.
-EVEN = Certificate(2, (Limits(1, ((0, 2), (1, 2)), 1),), None, flat(Split(((0, 1), (1, 1)), 0, Leaf(((0, 1), (1, -2))), Leaf(((0, -1), (1, 2))))))
-TEXT = ("nushbaret rows 1\nn 3\nstarts 0 2 4 6 9\nvariables 0 1 1 2 0 2 0 1 2\ncoefficients 1 1 1 1 1 1 -1 -1 -1\nleast - - - -\n"
-        "most 1 1 1 -2\nplan 0 1 0\ntree 0 4 0 -1 1 -1 2 -1 3 -2\n")
+EVEN = Certificate(2, (Limits(1, ((0, 2), (1, 2)), 1),), None,
+                   flat(Split(((0, 1), (1, 1)), 0, Leaf(((0, 1), (1, -2))), Leaf(((0, -1), (1, 2))))))
+TEXT = ("nushbaret rows 1\nn 3\nstarts 0 2 4 6 9\nvariables 0 1 1 2 0 2 0 1 2\ncoefficients 1 1 1 1 1 1 -1 -1 "
+        "-1\nleast - - - -\nmost 1 1 1 -2\nplan 0 1 0\ntree 0 4 0 -1 1 -1 2 -1 3 -2\n")
 
 
 def grown(draw, depth):
@@ -31,7 +30,8 @@ def grown(draw, depth):
     pairs = tuple((draw.randint(0, 3), draw.randint(-2, 2)) for _ in range(draw.randint(0, 3)))
     if depth == 0 or draw.random() < 0.3:
         return Leaf(pairs)
-    return Split(tuple((min(variable, 2), factor) for variable, factor in pairs), draw.randint(-2, 2), grown(draw, depth - 1), grown(draw, depth - 1))
+    return Split(tuple((min(variable, 2), factor) for variable, factor in pairs), draw.randint(-2, 2),
+                 grown(draw, depth - 1), grown(draw, depth - 1))
 
 
 class Shown(unittest.TestCase):
@@ -47,7 +47,8 @@ class Shown(unittest.TestCase):
     def test_examples(self):
         self.assertTrue(self.agree(TRIANGLE) and self.agree(EVEN))
         self.assertFalse(self.agree(TRIANGLE._replace(plan=(0, 1, 1))) or self.agree(TRIANGLE._replace(plan=(0, 1))))
-        for tree in ((), EVEN.tree[:-1], EVEN.tree + (0,), EVEN.tree + EVEN.tree, (2, 0), (0, -1), (1, 0, 0, 0, 0), (1, 1, 0, 2, 1, 0, 0, 0, 0)):
+        for tree in ((), EVEN.tree[:-1], EVEN.tree + (0,), EVEN.tree + EVEN.tree, (2, 0), (0, -1), (1, 0, 0, 0, 0),
+                     (1, 1, 0, 2, 1, 0, 0, 0, 0)):
             self.assertFalse(self.agree(EVEN._replace(tree=tree)))
 
     def test_drawn_trees(self):
@@ -85,10 +86,13 @@ class Shown(unittest.TestCase):
 
 def call_here(n, *arguments):
     """Takes the lists as the library does, and answers by the check in fractions."""
-    kinds = (ctypes.c_size_t, ctypes.c_uint32, ctypes.c_int64, ctypes.c_int64, ctypes.c_int64, ctypes.c_uint8, ctypes.c_int64)
-    starts, variables, factors, least, most, plan, tree = (
-        list((kind * count).from_address(place)) if count else [] for kind, place, count in zip(kinds, arguments[0:14:2], arguments[1:14:2]))
-    bounds = [[None if value == none else value for value in values] for values, none in ((least, -2**63), (most, 2**63 - 1))]
+    kinds = (ctypes.c_size_t, ctypes.c_uint32, ctypes.c_int64, ctypes.c_int64, ctypes.c_int64, ctypes.c_uint8,
+             ctypes.c_int64)
+    starts, variables, factors, least, most, plan, tree = (list((kind * count).from_address(place)) if count else []
+                                                           for kind, place, count in zip(kinds, arguments[0:14:2],
+                                                                                         arguments[1:14:2]))
+    bounds = [[None if value == none else value for value in values]
+              for values, none in ((least, -2**63), (most, 2**63 - 1))]
     return int(not models.shows(files.certificate_of(files.Lists(n, starts, variables, factors, *bounds, plan, tree))))
 
 
@@ -98,7 +102,8 @@ class Library(unittest.TestCase):
     def test_lists(self):
         with mock.patch.object(library, "_rows_call", return_value=call_here):
             self.assertTrue(shows(TRIANGLE) and shows(EVEN) and library.shown_by_library(TRIANGLE))
-            self.assertFalse(library.shown_by_library(TRIANGLE._replace(plan=(1, 0, 1))) or shows(EVEN._replace(tree=(0, 0))))
+            self.assertFalse(library.shown_by_library(TRIANGLE._replace(plan=(1, 0, 1)))
+                             or shows(EVEN._replace(tree=(0, 0))))
             self.assertIs(library.shown_by_library(EVEN._replace(tree=(0, 1, 0, 2**63))), None)
             self.assertIs(library.shown_by_library(EVEN._replace(rows=(Limits(-2**63, (), None),))), None)
 
@@ -128,16 +133,20 @@ class Files(unittest.TestCase):
 
     def test_refusals(self):
         lines = TEXT.split("\n")
-        for line, instead, message in (
-                (0, "nushbaret rows 2", "line 1: it isn't 'nushbaret rows 1'"),
-                (1, "n", "line 2: one number is needed"), (1, "n -", "line 2: '-' is no whole number of 64 bits"),
-                (2, "starts 0 2 4 6 8", "the lists of rows don't fit one another"), (2, "starts 1 2 4 6 9", "the lists of rows don't fit one another"),
-                (2, "starts 0 4 2 6 9", "the lists of rows don't fit one another"),
-                (3, "variables 0 1 1 2 0 2 0 1 3", "a row names a variable that isn't there"),
-                (4, "coefficients 1 1 1 1 1 1 -1 -1 9223372036854775808", "line 5: '9223372036854775808' is no whole number of 64 bits"),
-                (5, "most - - - -", "line 6: it doesn't begin with 'least'"), (6, "most 1 1 1 x", "line 7: 'x' is no whole number of 64 bits"),
-                (7, "plan 0 1", "the plan isn't 3 times 0 or 1"), (7, "plan 0 1 2", "the plan isn't 3 times 0 or 1"),
-                (9, "more", "there must be 9 lines")):
+        for line, instead, message in ((0, "nushbaret rows 2", "line 1: it isn't 'nushbaret rows 1'"),
+                                       (1, "n", "line 2: one number is needed"),
+                                       (1, "n -", "line 2: '-' is no whole number of 64 bits"),
+                                       (2, "starts 0 2 4 6 8", "the lists of rows don't fit one another"),
+                                       (2, "starts 1 2 4 6 9", "the lists of rows don't fit one another"),
+                                       (2, "starts 0 4 2 6 9", "the lists of rows don't fit one another"),
+                                       (3, "variables 0 1 1 2 0 2 0 1 3", "a row names a variable that isn't there"),
+                                       (4, "coefficients 1 1 1 1 1 1 -1 -1 9223372036854775808",
+                                        "line 5: '9223372036854775808' is no whole number of 64 bits"),
+                                       (5, "most - - - -", "line 6: it doesn't begin with 'least'"),
+                                       (6, "most 1 1 1 x", "line 7: 'x' is no whole number of 64 bits"),
+                                       (7, "plan 0 1", "the plan isn't 3 times 0 or 1"),
+                                       (7, "plan 0 1 2", "the plan isn't 3 times 0 or 1"),
+                                       (9, "more", "there must be 9 lines")):
             with self.subTest(instead=instead), self.assertRaises(files.CertificateFault) as caught:
                 files.certificate_from("\n".join(lines[:line] + [instead] + lines[line + 1:]))
             self.assertEqual(str(caught.exception), message)

@@ -18,12 +18,13 @@ from unittest import mock
 TOP = pathlib.Path(__file__).resolve().parents[2]
 sys.path.insert(0, str(TOP / "python"))
 
-from nushbaret import _command as command, _library as library
-from nushbaret._answer import Short, listed, plural, sentence
-from nushbaret._files import OutputFault, write_file
-from nushbaret._names import without_marks
-from nushbaret._roster import read_roster
-from nushbaret._words import parser_of
+from nushbaret.lap import library
+from nushbaret.roster import command
+from nushbaret.roster.answer import ShortGroup, listed, plural, sentence
+from nushbaret.roster.files import OutputFault, write_file
+from nushbaret.roster.names import without_marks
+from nushbaret.roster.roster import read_roster
+from nushbaret.roster.words import parser_of
 
 NIGHTS = ("person,shift,hours\nAda,early,1\nBen,night,2\nBen,weekend,3\nCleo,night,2\nDan,night,1\nDan,weekend,5\n"
           "Ada,late,2\nAda,office,1\n")
@@ -94,22 +95,24 @@ class Plans(Runs):
 
     def test_vehicles_and_jobs(self):
         drawn = random.Random(12)
-        self.file("r.csv", "," + ",".join(f"job {number}" for number in range(20)) + "\n" + "".join(
-            f"vehicle {number}," + ",".join(str(drawn.randrange(100)) for _ in range(20)) + "\n" for number in range(12)))
+        self.file("r.csv", "," + ",".join(f"job {number}" for number in range(20)) + "\n"
+                  + "".join(f"vehicle {number}," + ",".join(str(drawn.randrange(100)) for _ in range(20)) + "\n"
+                            for number in range(12)))
         status, out, _ = self.run_words("r.csv")
         self.assertEqual((status, out.count("vehicle"), len(out[out.index("unused: "):].split(", "))), (0, 12, 8))
 
     def test_rounded(self):
         self.file("r.csv", ",x,y\nAda,1.25,2\nBen,1.5,1\n")
-        self.expect(0, "least cost: 2.2\ncosts were rounded: another plan may be better for the exact ones, by 0.2 at most\n"
-                    "Ada: x, 1.2\nBen: y, 1.0\n", "", "r.csv", "--round", "1")
+        self.expect(0, "least cost: 2.2\ncosts were rounded: another plan may be better for the exact ones, by 0.2 at "
+                    "most\nAda: x, 1.2\nBen: y, 1.0\n", "", "r.csv", "--round", "1")
         self.file("r.csv", ",x,y\nAda,1.5,2\nBen,1.5,1\n")
         self.expect(0, "least cost: 2.5\nAda: x, 1.5\nBen: y, 1.0\n", "", "r.csv", "--round", "1")
         self.refused(2, "not allowed with argument", "r.csv", "--round", "1", "--decimals", "1")
 
     def test_what_was_read(self):
         self.file("r.csv", "nurse,shift,hours\nAda,day,1\nada,night,2\nada,N ight,2\n")
-        alike = "r.csv: 'Ada', 'ada' differ in case or spaces alone\nr.csv: 'night', 'N ight' differ in case or spaces alone\n"
+        alike = ("r.csv: 'Ada', 'ada' differ in case or spaces alone\nr.csv: 'night', 'N ight' differ in case or "
+                 "spaces alone\n")
         out = "least hours: 3\nAda: day, 1\nada: night, 2\nunused: N ight\n" + OTHERS
         self.expect(0, out, alike, "r.csv")
         with contextlib.redirect_stdout(io.StringIO()), contextlib.redirect_stderr(Terminal()) as err:
@@ -128,10 +131,12 @@ class Plans(Runs):
     def test_fixed(self):
         self.file("r.csv", SQUARE)
         self.file("f.csv", "a,b\nAda,early\n")
-        self.expect(0, "least cost: 6\nAda: early, 4 (fixed)\nBen: late, 0\nCleo: night, 2\n", "", "r.csv", "--fixed", "f.csv")
+        self.expect(0, "least cost: 6\nAda: early, 4 (fixed)\nBen: late, 0\nCleo: night, 2\n", "", "r.csv", "--fixed",
+                    "f.csv")
         self.file("f.csv", "a,b\nAda,early\nCleo,late\nBen,night\n")
         status, out, _ = self.run_words("r.csv", "--fixed", "f.csv", "--rents", "--output", "p.html")
-        self.assertEqual((status, out.splitlines()[0], out.count("(fixed)"), out.count("rent")), (0, "least cost: 11", 3, 0))
+        self.assertEqual((status, out.splitlines()[0], out.count("(fixed)"), out.count("rent")),
+                         (0, "least cost: 11", 3, 0))
         self.file("w.csv", ",x\nAda,9\nBen,1\n")
         self.file("f.csv", "a,b\nAda,x\n")
         self.expect(0, "least cost: 9\nAda: x, 9 (fixed)\nwithout: Ben\n", "", "w.csv", "--fixed", "f.csv")
@@ -147,8 +152,9 @@ class Plans(Runs):
         status, out, _ = self.run_words("r.csv", "--compare", "h.csv", "--max")
         self.assertIn("h.csv: 6, 5 less than the best\n", out)
         self.file("h.csv", "a,b\nCleo,night\nAda,early\n")
-        self.expect(0, best + "h.csv: breaks 2 rules\n  Ben: no object, at least 1\n  late: no person, at least 1\nh.csv: 6, 1 more than the best, which breaks none\n"
-                    "  there Ada: early, 4\n", "", "r.csv", "--compare", "h.csv")
+        self.expect(0, best + "h.csv: breaks 2 rules\n  Ben: no object, at least 1\n  late: no person, at least "
+                    "1\nh.csv: 6, 1 more than the best, which breaks none\n  there Ada: early, 4\n", "", "r.csv",
+                    "--compare", "h.csv")
         self.file("f.csv", "a,b\nAda,late\n")
         self.assertIn("h.csv: breaks 2 rules\n  Ben: no object, at least 1\n  Ada, late: the fixed pair is missing\n",
                       self.run_words("r.csv", "--compare", "h.csv", "--fixed", "f.csv")[1])
@@ -164,19 +170,22 @@ class Plans(Runs):
     def test_keep(self):
         self.file("r.csv", ",x,y,z\nAda,1,1,1\nBen,1,1,1\nCleo,1,1,0\n")
         self.file("old.csv", "a,b\nAda,y\nBen,x\nEve,z\n")
-        self.expect(0, "least cost: 2\nAda: y, 1\nBen: x, 1\nCleo: z, 0\nold.csv: 1 pair comes\n  Cleo: z comes\n"
-                    "  Eve: z not possible now (gone)\n", "old.csv: the roster has no Eve\n", "r.csv", "--keep", "old.csv")
+        self.expect(0, "least cost: 2\nAda: y, 1\nBen: x, 1\nCleo: z, 0\nold.csv: 1 pair comes\n  Cleo: z comes\n  "
+                    "Eve: z not possible now (gone)\n", "old.csv: the roster has no Eve\n", "r.csv", "--keep",
+                    "old.csv")
         self.file("old.csv", "a,b\nAda,z\nBen,x\nCleo,y\n")
-        self.expect(0, "least cost: 2\nAda: y, 1\nBen: x, 1\nCleo: z, 0\nold.csv: 2 pairs come, 2 go\n  Ada: z goes; y comes\n"
-                    "  Cleo: y goes; z comes\n", "", "r.csv", "--keep", "old.csv")
+        self.expect(0, "least cost: 2\nAda: y, 1\nBen: x, 1\nCleo: z, 0\nold.csv: 2 pairs come, 2 go\n  Ada: z goes; y "
+                    "comes\n  Cleo: y goes; z comes\n", "", "r.csv", "--keep", "old.csv")
         self.expect(0, "least cost: 3\nAda: z, 1\nBen: x, 1\nCleo: y, 1\nold.csv: no pair changes\n", "",
                     "r.csv", "--keep", "old.csv", "--change-cost", "1")
         self.run_words("r.csv", "--keep", "old.csv", "--change-cost", "1", "--output", "p.json")
         self.assertIn("p.json: no pair changes", self.run_words("r.csv", "--keep", "p.json", "--change-cost", "1")[1])
         self.refused(2, "--change-cost needs --keep", "r.csv", "--change-cost", "1")
-        for cost, text in (("-1", "'-1' is no cost from 0 on"), ("x", "'x' is no cost"), ("0.5", "more decimal places than the roster's 0")):
+        for cost, text in (("-1", "'-1' is no cost from 0 on"), ("x", "'x' is no cost"),
+                           ("0.5", "more decimal places than the roster's 0")):
             self.refused(3, text, "r.csv", "--keep", "old.csv", f"--change-cost={cost}")
-        for content, text in (("a,b\nAda,x\nAda,y\n", "old.csv, line 3, column 1: 'Ada' a second time, after line 2"), ("", "an empty file")):
+        for content, text in (("a,b\nAda,x\nAda,y\n", "old.csv, line 3, column 1: 'Ada' a second time, after line 2"),
+                              ("", "an empty file")):
             self.file("old.csv", content)
             self.refused(3, text, "r.csv", "--keep", "old.csv")
         for content in ("", "{", "[]", "{}", '{"pairs": 1}', "[" * 100000):
@@ -188,7 +197,8 @@ class Plans(Runs):
         unique = "no other plan is as good: the next best is"
         for words, line, there in ((("--others",), "6, 1 more", ["there Ada: early, 4", "there Ben: late, 0"]),
                                    (("--others", "--max"), "9, 2 less", ["there Ada: late, 1", "there Cleo: early, 3"]),
-                                   (("--others", "--fixed", "f.csv"), "11, 5 more", ["there Ben: night, 5", "there Cleo: late, 2"])):
+                                   (("--others", "--fixed", "f.csv"), "11, 5 more",
+                                    ["there Ben: night, 5", "there Cleo: late, 2"])):
             self.file("f.csv", "a,b\nAda,early\n")
             lines = self.run_words("r.csv", *words)[1].splitlines()
             self.assertEqual(lines[-3:], [f"{unique} {line}", *("  " + text for text in there)])
@@ -205,23 +215,25 @@ class Plans(Runs):
         self.file("h.csv", "a,b\nAda,early\nEve,late\nCleo,night\n")
         status, out, err = self.run_words("r.csv", "--compare", "h.csv")
         self.assertEqual((status, err), (0, "h.csv: the roster has no Eve\n"))
-        self.assertIn("h.csv: breaks 3 rules\n  Eve, late: the roster has no Eve\n  Ben: no object, at least 1\n  late: no person, at least 1\n"
-                      "h.csv: 6 for 2 pairs that the roster allows, 1 more than the best, which breaks none\n  there Ada: early, 4\n", out)
+        self.assertIn("h.csv: breaks 3 rules\n  Eve, late: the roster has no Eve\n  Ben: no object, at least 1\n  "
+                      "late: no person, at least 1\nh.csv: 6 for 2 pairs that the roster allows, 1 more than the best, "
+                      "which breaks none\n  there Ada: early, 4\n", out)
 
     def test_places(self):
         self.file("r.csv", ",day,night\nAda,1,5\nBen,2,4\nCleo,3,2\nDan,1,1\n")
         self.file("c.csv", "shift,places\nnight,3\n")
-        self.expect(0, "least cost: 8\nAda: day, 1\nBen: night, 4\nCleo: night, 2\nDan: night, 1\nat day: Ada\nat night: Ben, Cleo, Dan\n",
-                    "c.csv: no line for 1 object (day): takes one\n", "r.csv", "--places", "c.csv")
+        self.expect(0, "least cost: 8\nAda: day, 1\nBen: night, 4\nCleo: night, 2\nDan: night, 1\nat day: Ada\nat "
+                    "night: Ben, Cleo, Dan\n", "c.csv: no line for 1 object (day): takes one\n", "r.csv", "--places",
+                    "c.csv")
         self.file("c.csv", "shift,places\nnight,3\nday,1\n")
         self.file("t.csv", "nurse,tasks\nAda,2\nDan,0\nBen,1\nCleo,1\n")
-        self.expect(0, "least cost: 12\nAda: day, 1; night, 5\nBen: night, 4\nCleo: night, 2\nat day: Ada\nat night: Ada, Ben, Cleo\n", "",
-                    "r.csv", "--places", "c.csv", "--tasks", "t.csv")
+        self.expect(0, "least cost: 12\nAda: day, 1; night, 5\nBen: night, 4\nCleo: night, 2\nat day: Ada\nat night: "
+                    "Ada, Ben, Cleo\n", "", "r.csv", "--places", "c.csv", "--tasks", "t.csv")
         self.file("t.csv", "nurse,tasks\nAda,3\nBen,0\nCleo,0\nDan,0\n")
-        self.expect(1, "Ada must take 3 objects, and can take at most 2: once at each object (day, night): allow others, or let this person "
-                    "take one fewer\n"
-                    "least cost of 2 pairs: 6\nAda: day, 1; night, 5\nat day: Ada\nat night: Ada\nwithout: Ada (2 of 3)\nunused: night (1 of 3)\n", "",
-                    "r.csv", "--places", "c.csv", "--tasks", "t.csv", "--as-many-as-can")
+        self.expect(1, "Ada must take 3 objects, and can take at most 2: once at each object (day, night): allow "
+                    "others, or let this person take one fewer\nleast cost of 2 pairs: 6\nAda: day, 1; night, 5\nat "
+                    "day: Ada\nat night: Ada\nwithout: Ada (2 of 3)\nunused: night (1 of 3)\n", "", "r.csv", "--places",
+                    "c.csv", "--tasks", "t.csv", "--as-many-as-can")
         self.file("f.csv", "a,b\nAda,night\nBen,night\n")
         self.assertIn("Ada: night, 5 (fixed)", self.run_words("r.csv", "--places", "c.csv", "--fixed", "f.csv")[1])
         self.refused(2, "not with --places", "r.csv", "--places", "c.csv", "--rents")
@@ -231,7 +243,8 @@ class Plans(Runs):
         with mock.patch("sys.stdin", io.TextIOWrapper(io.BytesIO(text.encode()))):
             self.expect(0, "least cost: 12.5\nAda: y, 10.0\nBen: x, 2.5\n", "", "-")
         with mock.patch("sys.stdin", io.TextIOWrapper(io.BytesIO(b",x\nAda,-\n"))):
-            self.refused(3, "standard input, line 2, column 2: '-' is no number; what forbids a pair is an empty cell", "-")
+            self.refused(3, "standard input, line 2, column 2: '-' is no number; what forbids a pair is an empty cell",
+                         "-")
         self.file("r.csv", SQUARE)
         self.refused(2, "only the roster can come from standard input", "r.csv", "--fixed", "-")
         self.file("r.csv", "a,b,c,note\nAda,x,1,y\n")
@@ -248,9 +261,11 @@ class Plans(Runs):
                               ("a,b\nlate,4194305\n", "c.csv, line 2, column 2: '4194305' is no whole number"),
                               ("late,2\n", "c.csv, line 1, column 2: a title line must come first"),
                               ("late\n", "c.csv, line 1: each line must have a name and how many it takes"),
-                              ("a,b,c\nlate,1,x\n", "c.csv, line 2, column 3: 'x' is no whole number from 0 to 4194304"),
-                              ("a,b,c\nlate,2,1\n", "c.csv, line 2, column 3: at least 2 and at most 1: the second number can't be less"),
-                              ("a,b\nlate,1,2,3\n", "c.csv, line 2: 4 cells, where a name and one or two numbers are needed")):
+                              ("a,b,c\nlate,1,x\n", "c.csv, line 2, column 3: 'x' is no whole number from 0 to "
+                               "4194304"), ("a,b,c\nlate,2,1\n", "c.csv, line 2, column 3: at least 2 and at most 1: "
+                                            "the second number can't be less"),
+                              ("a,b\nlate,1,2,3\n", "c.csv, line 2: 4 cells, where a name and one or two numbers are "
+                               "needed")):
             self.file("c.csv", content)
             self.refused(3, text, "r.csv", "--places", "c.csv")
         self.file("c.csv", "a,b\nlate,1\n")
@@ -262,8 +277,8 @@ class Plans(Runs):
         drawn = random.Random(27)
         for case in range(60):
             persons, objects = drawn.randint(1, 5), drawn.randint(1, 5)
-            pairs = {(person, object_): drawn.randint(-300, 300) for person in range(persons) for object_ in range(objects)
-                     if drawn.random() < 0.7}
+            pairs = {(person, object_): drawn.randint(-300, 300) for person in range(persons)
+                     for object_ in range(objects) if drawn.random() < 0.7}
             rows = [[f"p{person}"] + ["" if (person, object_) not in pairs else f"{pairs[person, object_] / 100:.2f}"
                                       for object_ in range(objects)] for person in range(persons)]
             text = io.StringIO()
@@ -274,7 +289,8 @@ class Plans(Runs):
 
     def compare_with_search(self, persons, objects, pairs):
         count, best = fullest(persons, objects, pairs)
-        status, out, err = self.run_words("r.csv", "--decimals", "2", "--as-many-as-can", "--output", "p.json", "--force")
+        status, out, err = self.run_words("r.csv", "--decimals", "2", "--as-many-as-can", "--output", "p.json",
+                                          "--force")
         self.assertEqual((status, err), (0 if count == min(persons, objects) else 1, ""))
         plan = json.loads(self.read("p.json"))
         self.assertEqual((len(plan["pairs"]), round(float(plan["cost"]) * 100)), (count, best))
@@ -328,19 +344,18 @@ class NoPlans(Runs):
 
     def test_every_group(self):
         self.file("r.csv", ",a,b,c,d,e\nAda,1,,,,\nBen,1,,,,\nCleo,,1,,,\nDan,,1,,,\nEve,,,1,1,1\n")
-        self.expect(1, "2 people (Ada, Ben) can take only 1 object between them (a): allow one of them another, or leave one out\n"
-                    "2 people (Cleo, Dan) can take only 1 object between them (b): allow one of them another, or leave one out\n", "", "r.csv")
+        self.expect(1, "2 people (Ada, Ben) can take only 1 object between them (a): allow one of them another, or "
+                    "leave one out\n2 people (Cleo, Dan) can take only 1 object between them (b): allow one of them "
+                    "another, or leave one out\n", "", "r.csv")
 
     def test_other_shortages(self):
-        cases = [
-            (",x,y\nAda,1,2\nBen,,\n", "1 person (Ben) can take no object: allow one, or leave this person out"),
-            (",x,y\nAda,1,\nBen,1,\nCleo,,\n", "1 object (y) can go to no person: allow it to somebody, or leave it open"),
-            (",x,y,z\nAda,1,,\nBen,1,,\nCleo,,1,1\n", "2 people (Ada, Ben) can take only 1 object between them (x): "
-             "allow one of them another, or leave one out"),
-            (",x,y,z\nAda,1,1,\nBen,1,1,\nCleo,,,1\nDan,,,1\n", None),
-            (",x,y\nAda,1,1\nBen,,\nCleo,,\n", "2 objects (x, y) can go to only 1 person between them (Ada): "
-             "allow one of them to another, or leave one open"),
-        ]
+        cases = [(",x,y\nAda,1,2\nBen,,\n", "1 person (Ben) can take no object: allow one, or leave this person out"),
+                 (",x,y\nAda,1,\nBen,1,\nCleo,,\n", "1 object (y) can go to no person: allow it to somebody, or leave "
+                  "it open"), (",x,y,z\nAda,1,,\nBen,1,,\nCleo,,1,1\n", "2 people (Ada, Ben) can take only 1 object "
+                               "between them (x): allow one of them another, or leave one out"),
+                 (",x,y,z\nAda,1,1,\nBen,1,1,\nCleo,,,1\nDan,,,1\n", None),
+                 (",x,y\nAda,1,1\nBen,,\nCleo,,\n", "2 objects (x, y) can go to only 1 person between them (Ada): "
+                  "allow one of them to another, or leave one open")]
         for content, wanted in cases:
             with self.subTest(wanted=wanted):
                 self.file("r.csv", content)
@@ -350,11 +365,12 @@ class NoPlans(Runs):
     def test_sentences_of_larger_groups(self):
         self.file("r.csv", ",x,y\nAda,1,1\nBen,1,1\n")
         roster = read_roster("r.csv", None, None, False)
-        for short, wanted in (
-                (Short([0, 1], [], False, 2, 0), "2 people (Ada, Ben) can take no object: allow each one, or leave them out"),
-                (Short([], [0, 1], True, 2, 0), "2 objects (x, y) can go to no person: allow each to somebody, or leave them open"),
-                (Short([0, 1, 1], [0], False, 3, 1), "3 people (Ada, Ben, Ben) can take only 1 object between them (x): "
-                 "allow 2 of them another, or leave 2 out")):
+        for short, wanted in ((ShortGroup([0, 1], [], False, 2, 0), "2 people (Ada, Ben) can take no object: allow "
+                               "each one, or leave them out"),
+                              (ShortGroup([], [0, 1], True, 2, 0), "2 objects (x, y) can go to no person: allow each "
+                               "to somebody, or leave them open"),
+                              (ShortGroup([0, 1, 1], [0], False, 3, 1), "3 people (Ada, Ben, Ben) can take only 1 "
+                               "object between them (x): allow 2 of them another, or leave 2 out")):
             self.assertEqual(without_marks(sentence(roster, short, False)), wanted)
 
     def test_fixed_pairs_leave_too_little(self):
@@ -377,7 +393,8 @@ class NoPlans(Runs):
             "persons": ["Ben", "Cleo", "Dan"], "objects": ["night", "weekend"], "sentence": SENTENCE}]})
 
     def test_plurals(self):
-        words = {"shift": "shifts", "shifts": "shifts", "day": "days", "person": "people", "Schicht": "Schicht", "Pflegekraft": "Pflegekraft"}
+        words = {"shift": "shifts", "shifts": "shifts", "day": "days", "person": "people", "Schicht": "Schicht",
+                 "Pflegekraft": "Pflegekraft"}
         self.assertEqual({word: plural(word) for word in words}, words)
 
 
@@ -399,7 +416,8 @@ class SilentFailures(Runs):
 
     def test_nobody_is_made_up(self):
         self.file("r.csv", "who,what,cost\nAda,early,1\nBen,early,2\nAda,late,5\nAda,night,1\nBen,late,1\n")
-        self.expect(0, "least cost: 2\nAda: early, 1\nBen: late, 1\nunused: night\n" + OTHERS, "", "r.csv", "--decimals", "0")
+        self.expect(0, "least cost: 2\nAda: early, 1\nBen: late, 1\nunused: night\n" + OTHERS, "", "r.csv",
+                    "--decimals", "0")
 
     def test_two_rosters_in_a_folder(self):
         self.file("a.csv", "who,what,cost\nAda,early,1\n")
@@ -457,7 +475,8 @@ class Outputs(Runs):
 
     def test_nothing_is_written_on_a_refusal(self):
         self.file("bad.csv", SQUARE + "Dan,1,x,3\n")
-        self.refused(3, "bad.csv, line 5, column 3: 'x' is no number", "bad.csv", "--output", "p.csv", "--html", "p.html")
+        self.refused(3, "bad.csv, line 5, column 3: 'x' is no number", "bad.csv", "--output", "p.csv", "--html",
+                     "p.html")
 
     def test_json_has_points(self):
         self.file("r.csv", "a;b;c\nAda;x;2,5\n")
@@ -499,11 +518,13 @@ class Outputs(Runs):
         self.run_words("r.csv", "--html", "p.html", "--force")
         page = parsed(self.read("p.html"))
         self.assertEqual((page.short, len(page.cells)), (["a", "b", "Ada", "Ben", "Cleo"], 9))
-        for content, wanted in ((",a,b\nAda,1,1\nBen,,\n", (["Ben"], [0, 1])), (",a,b\nAda,1,\nBen,1,\nCleo,1,\n", (["b"], [0]))):
+        for content, wanted in ((",a,b\nAda,1,1\nBen,,\n", (["Ben"], [0, 1])),
+                                (",a,b\nAda,1,\nBen,1,\nCleo,1,\n", (["b"], [0]))):
             self.file("r.csv", content)
             self.run_words("r.csv", "--html", "p.html", "--force")
             page = parsed(self.read("p.html"))
-            self.assertEqual((page.short, [place for place, (_, kinds) in enumerate(page.cells) if "top" in kinds]), wanted)
+            self.assertEqual((page.short, [place for place, (_, kinds) in enumerate(page.cells) if "top" in kinds]),
+                             wanted)
 
     def test_page_of_places(self):
         self.file("r.csv", "nurse,shift,hours\nAda,S10,1\nAda,S2,2\nBen,S2,4\nBen,S1,9\n")
@@ -515,7 +536,8 @@ class Outputs(Runs):
                          ["Ada", "S10S2", "12", "Ben", "S2", "4", "S10", "Ada", "S2", "AdaBen"])
         self.assertIn("<td>S10<br>S2</td><td>1<br>2</td>", self.read("p.html"))
         self.assertEqual([cell for cell, _ in page.cells[10:]], ["", "2", "1", "9", "4", ""])
-        self.assertIn("<details><summary>unused: 1 shift</summary><p>S1</p></details>", without_names(self.read("p.html")))
+        self.assertIn("<details><summary>unused: 1 shift</summary><p>S1</p></details>",
+                      without_names(self.read("p.html")))
 
     def test_wide_page(self):
         drawn = random.Random(3)
@@ -534,7 +556,7 @@ class Outputs(Runs):
             page = parsed(self.read("p.html"))
             self.assertEqual(len([1 for _, kinds in page.cells if "own" in kinds]), size)
             self.assertEqual(len(page.cells), size * size + 3 * size)
-        with mock.patch("nushbaret._page.MOST_CELLS", 899):
+        with mock.patch("nushbaret.roster.output.page.MOST_CELLS", 899):
             self.run_words("r.csv", "--html", "q.html")
         self.assertIn("isn't drawn", self.read("q.html"))
 
@@ -551,7 +573,8 @@ class Page(HTMLParser):
         self.tags.add(tag)
         named = dict(attributes)
         for name in named:
-            assert name in ("class", "scope", "colspan", "span", "style", "tabindex", "lang", "charset", "name", "http-equiv", "content"), name
+            assert name in ("class", "scope", "colspan", "span", "style", "tabindex", "lang", "charset", "name",
+                            "http-equiv", "content"), name
         if tag not in ("meta", "col", "br"):
             self.open.append((tag, (named.get("class") or "").split()))
         if tag == "td":
@@ -578,7 +601,8 @@ def parsed(text):
     page.close()
     assert not page.open, page.open
     assert "content=\"default-src 'none'; style-src 'unsafe-inline'\"" in text
-    assert not page.tags & {"script", "link", "img", "iframe", "object"} and "url(" not in text and "@import" not in text
+    assert not page.tags & {"script", "link", "img", "iframe",
+                            "object"} and "url(" not in text and "@import" not in text
     return page
 
 
@@ -586,16 +610,17 @@ class Statuses(Runs):
     def test_words(self):
         self.file("r.csv", SQUARE)
         hint = " (nushbaret --help lists all options)"
-        for words, line in (
-                ((), "the file of a roster is needed" + hint),
-                (("r.csv", "--lines", "--matrix"), "--matrix: not allowed with argument --lines" + hint),
-                (("r.csv", "--decimals", "7"), "--decimals: '7' is no number from 0 to 6" + hint),
-                (("r.csv", "--decimals", "x"), "--decimals: 'x' is no number from 0 to 6" + hint),
-                (("r.csv", "--output", "p.txt"), "-o/--output: 'p.txt' ends in none of .csv, .json, .html and .xlsx" + hint),
-                (("r.csv", "s.csv"), "one roster at a time, and there is also s.csv" + hint),
-                (("r.csv", "--output"), "-o/--output: expected one argument" + hint),
-                (("r.csv", "--output", "r.csv", "--force"), "r.csv is named twice, or is read too"),
-                (("r.csv", "--output", "p.csv", "--html", "./p.csv"), "./p.csv is named twice, or is read too")):
+        for words, line in (((), "the file of a roster is needed" + hint),
+                            (("r.csv", "--lines", "--matrix"), "--matrix: not allowed with argument --lines" + hint),
+                            (("r.csv", "--decimals", "7"), "--decimals: '7' is no number from 0 to 6" + hint),
+                            (("r.csv", "--decimals", "x"), "--decimals: 'x' is no number from 0 to 6" + hint),
+                            (("r.csv", "--output", "p.txt"), "-o/--output: 'p.txt' ends in none of .csv, .json, .html "
+                             "and .xlsx" + hint), (("r.csv", "s.csv"),
+                                                   "one roster at a time, and there is also s.csv" + hint),
+                            (("r.csv", "--output"), "-o/--output: expected one argument" + hint),
+                            (("r.csv", "--output", "r.csv", "--force"), "r.csv is named twice, or is read too"),
+                            (("r.csv", "--output", "p.csv", "--html", "./p.csv"),
+                             "./p.csv is named twice, or is read too")):
             with self.subTest(words=words):
                 self.expect(2, "", f"nushbaret: {line}\n", *words)
         status, out, _ = self.run_words("--help")
@@ -615,8 +640,8 @@ class Statuses(Runs):
     def test_files(self):
         self.file("r.csv", SQUARE)
         for words in (("none.csv",), (".",), ("r.csv", "--fixed", "none.csv"), ("r.csv", "--compare", "none.csv"),
-                      ("r.csv", "--keep", "none.csv"), ("r.csv", "--places", "none.csv"), ("r.csv", "--tasks", "none.csv"),
-                      ("r.csv", "--output", "none/p.csv"),
+                      ("r.csv", "--keep", "none.csv"), ("r.csv", "--places", "none.csv"),
+                      ("r.csv", "--tasks", "none.csv"), ("r.csv", "--output", "none/p.csv"),
                       ("r.csv", "--output", "none/p.csv", "--force")):
             with self.subTest(words=words):
                 self.refused(4, "none" if len(words) > 1 or words[0] != "." else "", *words)
@@ -625,18 +650,19 @@ class Statuses(Runs):
         self.file("r.csv", SQUARE)
         with mock.patch.dict(library._calls, clear=True), mock.patch.object(library, "PLACES", ()):
             self.refused(4, "c/build.sh", "r.csv", "--output", "p.csv")
-        with mock.patch("nushbaret._answer.solved", side_effect=MemoryError):
+        with mock.patch("nushbaret.roster.answer.best_plan", side_effect=MemoryError):
             self.refused(4, "memory refused", "r.csv", "--output", "p.csv")
 
     def program(self, *words, **options):
-        return subprocess.run([sys.executable, "-m", "nushbaret", *words], env={**os.environ, "PYTHONPATH": str(TOP / "python")},
-                              stderr=subprocess.PIPE, **options)
+        return subprocess.run([sys.executable, "-m", "nushbaret", *words],
+                              env={**os.environ, "PYTHONPATH": str(TOP / "python")}, stderr=subprocess.PIPE, **options)
 
     @unittest.skipIf("NUSHBARET_EMULATED" in os.environ, "an emulator takes more memory")
     def test_memory_refused_by_a_limit(self):
         self.file("r.csv", square(500))
         ended = subprocess.run(["bash", "-c", f"ulimit -v 60000; {sys.executable} -m nushbaret r.csv --output p.csv"],
-                               stdout=subprocess.PIPE, stderr=subprocess.PIPE, env={**os.environ, "PYTHONPATH": str(TOP / "python")})
+                               stdout=subprocess.PIPE, stderr=subprocess.PIPE,
+                               env={**os.environ, "PYTHONPATH": str(TOP / "python")})
         self.assertEqual((ended.returncode, ended.stdout, ended.stderr), (4, b"", b"memory refused\n"))
         self.assertEqual(os.listdir(), ["r.csv"])
 
@@ -648,8 +674,9 @@ class Statuses(Runs):
         self.assertEqual(self.program("n.csv", stdout=subprocess.PIPE).returncode, 1)
         self.assertEqual(self.program(stdout=subprocess.PIPE).returncode, 2)
         for closing, status in ((">&-", 4), ("2>&-", 0)):
-            ended = subprocess.run(["bash", "-c", f"{sys.executable} -m nushbaret r.csv {closing}"], stdout=subprocess.PIPE,
-                                   stderr=subprocess.PIPE, env={**os.environ, "PYTHONPATH": str(TOP / "python")})
+            ended = subprocess.run(["bash", "-c", f"{sys.executable} -m nushbaret r.csv {closing}"],
+                                   stdout=subprocess.PIPE, stderr=subprocess.PIPE,
+                                   env={**os.environ, "PYTHONPATH": str(TOP / "python")})
             self.assertEqual(ended.returncode, status)
         ended = subprocess.run(["bash", "-c", f"{sys.executable} -m nushbaret none.csv 2>&-"], stdout=subprocess.PIPE,
                                env={**os.environ, "PYTHONPATH": str(TOP / "python")})

@@ -2,7 +2,6 @@
 import contextlib
 import datetime
 import os
-import pathlib
 import random
 import sys
 import tempfile
@@ -10,16 +9,11 @@ import unittest
 from array import array
 from unittest import mock
 
-sys.path.insert(0, str(pathlib.Path(__file__).resolve().parents[2] / "python"))
+from nushbaret.roster import roster as _roster
+from nushbaret.roster.roster import alike, form_of, read_plan, read_roster
+from nushbaret.roster.sheets import RosterFault, Sheet
 
-from nushbaret import _roster
-from nushbaret._roster import alike, form_of, read_plan, read_roster
-from nushbaret._sheets import RosterFault, Sheet
-
-try:
-    import openpyxl
-except ImportError:
-    openpyxl = None
+from optional import openpyxl
 
 LINES = "nurse,shift,hours\nAda,early,2.50\nAda,late,4.00\nBen,early,3.25\n"
 MATRIX = "nurse,early,late,night\nAda,1,2,\nBen,,5,-6\n"
@@ -64,7 +58,8 @@ class Folder(unittest.TestCase):
 class Forms(Folder):
     def test_lines(self):
         roster = self.roster(LINES)
-        self.assertEqual(self.pairs(roster), {("Ada", "early"): "2.50", ("Ada", "late"): "4.00", ("Ben", "early"): "3.25"})
+        self.assertEqual(self.pairs(roster), {("Ada", "early"): "2.50", ("Ada", "late"): "4.00",
+                                              ("Ben", "early"): "3.25"})
         self.assertEqual((roster.titles, roster.decimals), (("nurse", "shift", "hours"), 2))
 
     def test_matrix(self):
@@ -76,13 +71,12 @@ class Forms(Folder):
         wanted = self.pairs(self.roster(LINES))
         with_quotes = '"nurse","shift","hours"\n"Ada","early","2.50"\n"Ada","late","4.00"\n"Ben","early","3.25"\n'
         with_comma = LINES.replace(",", ";").replace(".", ",")
-        makes = [
-            (LINES.replace("\n", "\r\n"), False), (LINES.replace("\n", "\r"), False), (with_quotes, False),
-            (LINES.encode("utf-8-sig"), False), (LINES.encode("utf-16"), False), (LINES.replace(",", "\t"), False),
-            (LINES.replace(",", " , "), False), (LINES.rstrip("\n"), False), (LINES + "\n,,\n \n", False),
-            (LINES.replace("\n", ",,\n"), False), ("\r\n\n" + LINES.replace(",", ";"), False),
-            ("sep=,\r" + LINES.replace("\n", "\r"), False), ("sep=,\n" + LINES, False), (LINES.replace(",", ";"), False),
-        ]
+        makes = [(LINES.replace("\n", "\r\n"), False), (LINES.replace("\n", "\r"), False), (with_quotes, False),
+                 (LINES.encode("utf-8-sig"), False), (LINES.encode("utf-16"), False), (LINES.replace(",", "\t"), False),
+                 (LINES.replace(",", " , "), False), (LINES.rstrip("\n"), False), (LINES + "\n,,\n \n", False),
+                 (LINES.replace("\n", ",,\n"), False), ("\r\n\n" + LINES.replace(",", ";"), False),
+                 ("sep=,\r" + LINES.replace("\n", "\r"), False), ("sep=,\n" + LINES, False),
+                 (LINES.replace(",", ";"), False)]
         for content, comma in makes:
             with self.subTest(content=content):
                 self.assertEqual(self.pairs(self.roster(content, comma=comma)), wanted)
@@ -131,13 +125,15 @@ class Forms(Folder):
 
     @unittest.skipUnless(openpyxl, "openpyxl isn't installed")
     def test_workbook(self):
-        rows = [["nurse", "shift", "hours"], ["Ada", "early", 2.5], ["Ada", datetime.datetime(2026, 1, 2), 0.1 + 0.2], [], ["Ben", 7, "1e1"]]
+        rows = [["nurse", "shift", "hours"], ["Ada", "early", 2.5], ["Ada", datetime.datetime(2026, 1, 2), 0.1 + 0.2],
+                [], ["Ben", 7, "1e1"]]
         path = self.workbook(rows)
         wanted = {("Ada", "early"): "2.5", ("Ada", "2026-01-02"): "0.3", ("Ben", "7"): "10.0"}
         self.assertEqual(self.pairs(read_roster(path, "lines", None, False)), wanted)
         self.assertEqual(read_roster(path, "lines", None, True).shown(25), "2,5")
         matrix = self.workbook([[None, "x", "y"], ["Ada", 1, None], ["Ben", 2.0, 3]])
-        self.assertEqual(self.pairs(read_roster(matrix, None, None, False)), {("Ada", "x"): "1", ("Ben", "x"): "2", ("Ben", "y"): "3"})
+        self.assertEqual(self.pairs(read_roster(matrix, None, None, False)),
+                         {("Ada", "x"): "1", ("Ben", "x"): "2", ("Ben", "y"): "3"})
         with self.assertRaisesRegex(RosterFault, "roster.xlsx, line 2, column 3: 'z' is no number"):
             read_roster(self.workbook([["", "x", "y"], ["Ada", 1, "z"]]), None, None, False)
         with self.assertRaisesRegex(RosterFault, "no workbook that openpyxl reads"):
@@ -146,27 +142,30 @@ class Forms(Folder):
             read_roster(os.path.join(self.folder, "none.xlsx"), None, None, False)
 
     def test_workbook_without_openpyxl(self):
-        with mock.patch.dict(sys.modules, {"openpyxl": None}), self.assertRaisesRegex(RosterFault, "save the sheet as 'CSV UTF-8'"):
+        with mock.patch.dict(sys.modules, {"openpyxl": None}), self.assertRaisesRegex(RosterFault,
+                                                                                      "save the sheet as 'CSV UTF-8'"):
             read_roster(self.file("PK", "r.xlsx"), None, None, False)
 
 
 class InOneGo(Folder):
     """Rows and lines of plain numbers are read in one go, with the result and the refusals of reading cell by cell."""
 
-    ODD = ("", " ", "x", "2,5", "+3", "-4", "1e3", "1.2E+2", "2.50", "-.5", "5.", ".", "+.", ".-5", "1 2", "1_0", "007", "99999999999999",
-           "-1000000000000", "0.0000001", "1.250000000", "\u0662", " 8 ", "1\t", "--1", "-", "0.000001")
+    ODD = ("", " ", "x", "2,5", "+3", "-4", "1e3", "1.2E+2", "2.50", "-.5", "5.", ".", "+.", ".-5", "1 2", "1_0", "007",
+           "99999999999999", "-1000000000000", "0.0000001", "1.250000000", "\u0662", " 8 ", "1\t", "--1", "-",
+           "0.000001")
     NAMES = ("Ada", " Ada", "Zo\u00eb", "Zoe\u0308", "a\u2028b", '"A\nb"', "5", "x\x0by", "")
 
     def read(self, path, words, bulk):
         with contextlib.ExitStack() as patches:
             if not bulk:
-                patches.enter_context(mock.patch("nushbaret._costs.Costs.take_plain", return_value=False))
-                patches.enter_context(mock.patch("nushbaret._roster.Lines.take_all", return_value=False))
+                patches.enter_context(mock.patch("nushbaret.roster.costs.CostColumn.take_plain", return_value=False))
+                patches.enter_context(mock.patch("nushbaret.roster.roster.Lines.take_all", return_value=False))
             try:
                 roster = read_roster(path, *words)
             except RosterFault as fault:
                 return str(fault)
-            return {name: list(value) if isinstance(value, array) else value for name, value in roster._asdict().items()}
+            return {name: list(value) if isinstance(value, array) else value
+                    for name, value in roster._asdict().items()}
 
     def content(self, draw, odd):
         base = draw.choice((("1", "2", "44"), ("1.5", "2.25", "3.00"), ("1", "2.5", "-3.25"), ("7.10", "8.20")))
@@ -181,19 +180,22 @@ class InOneGo(Folder):
         persons, objects = draw.randint(1, 6), draw.randint(1, 6)
         if draw.random() < 0.5:
             rows = [["", *(name("o", column) for column in range(objects))]]
-            rows += [[name("p", row), *(cell() if draw.random() < 0.9 else "" for _ in range(objects))] for row in range(persons)]
+            rows += [[name("p", row), *(cell() if draw.random() < 0.9 else "" for _ in range(objects))]
+                     for row in range(persons)]
         else:
-            rows = [["a", "b", "c"], *([name("p", row), name("o", column), cell()] for row in range(persons) for column in range(objects))]
+            rows = [["a", "b", "c"], *([name("p", row), name("o", column), cell()] for row in range(persons)
+                                       for column in range(objects))]
             rows[1:] = draw.sample(rows[1:], len(rows) - 1) if draw.random() < 0.3 else rows[1:]
         return "".join(",".join(row) + end + (end if draw.random() < 0.05 else "") for row in rows)
 
     def test_beside_one_by_one(self):
         draw = random.Random(5)
         seen = {str: 0, dict: 0}
-        with mock.patch("nushbaret._sheets.BLOCK", 3), mock.patch("nushbaret._sheets.PIECE", 9):
+        with mock.patch("nushbaret.roster.sheets.BLOCK", 3), mock.patch("nushbaret.roster.sheets.PIECE", 9):
             for case in range(1500):
                 path = self.file(self.content(draw, draw.choice((0, 0.02, 0.1))))
-                words = draw.choice(((None, None, False), (None, 2, False), (None, None, False, 1), ("lines", None, False)))
+                words = draw.choice(((None, None, False), (None, 2, False), (None, None, False, 1),
+                                     ("lines", None, False)))
                 with self.subTest(case=case):
                     found = self.read(path, words, True)
                     self.assertEqual(found, self.read(path, words, False))
@@ -207,7 +209,8 @@ class InOneGo(Folder):
 
 class Refusals(Folder):
     def test_numbers(self):
-        for cell in ("2,5O", "", "2.5h", "1e333", "nan", "inf", "0x10", "1 000", "1,000", "--1", ".", "-", "+", "\u0662", "1_0"):
+        for cell in ("2,5O", "", "2.5h", "1e333", "nan", "inf", "0x10", "1 000", "1,000", "--1", ".", "-", "+",
+                     "\u0662", "1_0"):
             with self.subTest(cell=cell):
                 self.refusal(f'a,b,c\nAda,x,1\nAda,y,"{cell}"\n', 3, 3, "is no number")
         self.refusal('a,b,c\nAda,x,"2,50"\n', 2, 3, "--decimal-comma")
@@ -263,7 +266,8 @@ class Refusals(Folder):
         with mock.patch.object(_roster, "MOST_PERSONS", 8192):
             self.refusal("a,b,c\n" + lines, 8194, 1, "more than 8192 persons")
             self.assertEqual(len(self.roster("a,b,c\n" + lines[:lines.index("p8192")]).persons), 8192)
-            self.refusal("," + ",".join(f"x{number}" for number in range(8193)) + "\n", 1, 8194, "more than 8192 objects")
+            self.refusal("," + ",".join(f"x{number}" for number in range(8193)) + "\n", 1, 8194,
+                         "more than 8192 objects")
         self.assertEqual(len(self.roster("a,b,c\n" + lines).persons), 8193)
 
 
@@ -276,14 +280,13 @@ class Plans(Folder):
         self.assertEqual([tuple(pair) for pair in plan], [(1, 0, 2, 325), (0, 1, 3, 400)])
 
     def test_refusals(self):
-        cases = [
-            ("a,b\nEve,early\n", 2, 1, "no person 'Eve'"), ("a,b\nAda,noon\n", 2, 2, "no object 'noon'"),
-            ("a,b\nAda,early\nAda,late\n", 3, 1, "'Ada' a second time, after line 2"),
-            ("a,b\nAda,early\nBen,early\n", 3, 2, "'early' a second time, after line 2"),
-            ("a,b\nBen,late\n", 2, None, "Ben, late is a forbidden pair"),
-            ("Ada,early\nBen,late\n", 1, None, "a title line must come first"), ("a\nAda\n", 1, None, "a person and an object"),
-            ("a,b\nAda,\n", 2, 2, "an empty name"), ("", None, None, "an empty file"),
-        ]
+        cases = [("a,b\nEve,early\n", 2, 1, "no person 'Eve'"), ("a,b\nAda,noon\n", 2, 2, "no object 'noon'"),
+                 ("a,b\nAda,early\nAda,late\n", 3, 1, "'Ada' a second time, after line 2"),
+                 ("a,b\nAda,early\nBen,early\n", 3, 2, "'early' a second time, after line 2"),
+                 ("a,b\nBen,late\n", 2, None, "Ben, late is a forbidden pair"),
+                 ("Ada,early\nBen,late\n", 1, None, "a title line must come first"),
+                 ("a\nAda\n", 1, None, "a person and an object"), ("a,b\nAda,\n", 2, 2, "an empty name"),
+                 ("", None, None, "an empty file")]
         for content, line, column, text in cases:
             with self.subTest(content=content), self.assertRaises(RosterFault) as caught:
                 self.plan(content)

@@ -2,30 +2,30 @@
 import contextlib
 import io
 import json
-import pathlib
 import sys
 import unittest
 from unittest import mock
 
-sys.path.insert(0, str(pathlib.Path(__file__).resolve().parents[2] / "python"))
-
 from optional import np, optimize
 from test_command import Runs, Terminal
-from nushbaret import _row_finding as finding, _ruling as ruling
-from nushbaret._row_model import Finding
+from nushbaret.roster import ruling
+from nushbaret.rows import finding
+from nushbaret.rows.model import Finding
 
-WISHES = (",Early 2027-03-05,Night 2027-03-05,Early 2027-03-06,Night 2027-03-06,Early 2027-03-07,Night 2027-03-07,Early 2027-03-08,"
-          "Night 2027-03-08\nAda,3,0,4,2,6,0,5,1\nBen,2,1,4,1,3,5,0,7\nCleo,1,6,1,8,1,4,3,9\n")
-DAYS = "shift,day,kind\n" + "".join(f"{kind} 2027-03-0{day},2027-03-0{day},{kind}\n" for day in (5, 6, 7, 8) for kind in ("Early", "Night"))
+WISHES = (",Early 2027-03-05,Night 2027-03-05,Early 2027-03-06,Night 2027-03-06,Early 2027-03-07,Night "
+          "2027-03-07,Early 2027-03-08,Night "
+          "2027-03-08\nAda,3,0,4,2,6,0,5,1\nBen,2,1,4,1,3,5,0,7\nCleo,1,6,1,8,1,4,3,9\n")
+DAYS = "shift,day,kind\n" + "".join(f"{kind} 2027-03-0{day},2027-03-0{day},{kind}\n" for day in (5, 6, 7, 8)
+                                    for kind in ("Early", "Night"))
 EARLIER = "".join(f"{kind} 2027-03-0{day},2027-03-0{day},{kind}\n" for day in (3, 4) for kind in ("Early", "Night"))
 TASKS = "person,at least,at most\nAda,2,4\nBen,2,4\nCleo,2,4\n"
 RULES = "rule,value,for\nrest,Night > Early,\nNight per month,2,\n"
 WORDS = ("s.csv", "--groups", "d.csv", "--tasks", "t.csv", "--rules", "r.csv")
 # The one plan of least cost. These numbers come from a search of all 1296 plans.
-PLAN = ("Ada (2): Night 2027-03-07, 0; Night 2027-03-08, 1\nBen (3): Night 2027-03-05, 1; Night 2027-03-06, 1; Early 2027-03-08, 0\n"
-        "Cleo (3): Early 2027-03-05, 1; Early 2027-03-06, 1; Early 2027-03-07, 1\n")
-WHY = ("no plan keeps these rules, proved: together they can't hold:\n"
-       "  1 person (Night 2027-03-05, Night 2027-03-06, Night 2027-03-07, Night 2027-03-08)\n  Night per month: 1 (Ada, Ben, Cleo)\n")
+PLAN = ("Ada (2): Night 2027-03-07, 0; Night 2027-03-08, 1\nBen (3): Night 2027-03-05, 1; Night 2027-03-06, 1; Early "
+        "2027-03-08, 0\nCleo (3): Early 2027-03-05, 1; Early 2027-03-06, 1; Early 2027-03-07, 1\n")
+WHY = ("no plan keeps these rules, proved: together they can't hold:\n  1 person (Night 2027-03-05, Night 2027-03-06, "
+       "Night 2027-03-07, Night 2027-03-08)\n  Night per month: 1 (Ada, Ben, Cleo)\n")
 # Words that are refused, and what is said.
 REFUSED = (
     (("s.csv", "--rules", "r.csv"), "--rules needs --groups, which says the day of each object"),
@@ -63,8 +63,10 @@ class Words(Files):
         self.file("r.csv", "rest,Night > Early,\n")
         self.refused(3, "r.csv, line 1, column 1: a title line must come first, and 'rest' is a rule", *WORDS)
         self.rules("apart,,Ada,Ben")
-        self.refused(3, "r.csv, line 2: 4 cells, where a rule, a value and names are needed (several names in one cell need quotes)", *WORDS)
-        self.file("d.csv", DAYS.replace("shift,day,kind", "shift,day,kind,kind", 1).replace("Early\n", "Early,\n").replace("Night\n", "Night,\n"))
+        self.refused(3, "r.csv, line 2: 4 cells, where a rule, a value and names are needed (several names in one cell "
+                     "need quotes)", *WORDS)
+        days = DAYS.replace("shift,day,kind", "shift,day,kind,kind", 1)
+        self.file("d.csv", days.replace("Early\n", "Early,\n").replace("Night\n", "Night,\n"))
         self.refused(3, "d.csv, line 1, column 4: 2 columns are titled 'kind', where there may be one", *WORDS)
 
     def test_semicolons_and_kinds_without_a_column(self):
@@ -80,8 +82,10 @@ class Words(Files):
 
     def test_not_decided(self):
         with mock.patch.object(finding, "find", return_value=Finding("undecided")):
-            self.expect(6, "not decided in 60 s\no.csv isn't written: there is no plan\n", "", *WORDS, "--output", "o.csv")
-            self.expect(6, "not decided in 5 s\nc isn't written: nothing was proved\n", "", *WORDS, "--time", "5", "--certificate", "c")
+            self.expect(6, "not decided in 60 s\no.csv isn't written: there is no plan\n", "", *WORDS, "--output",
+                        "o.csv")
+            self.expect(6, "not decided in 5 s\nc isn't written: nothing was proved\n", "", *WORDS, "--time", "5",
+                        "--certificate", "c")
 
     def test_not_proved_best(self):
         """What was found is said to be no better than was shown."""
@@ -91,7 +95,8 @@ class Words(Files):
             for pair in ((0, 5), (0, 7), (1, 1), (1, 3), (1, 6), (2, 0), (2, 2), (2, 4)):
                 plan[pairs.index(pair)] = 1
             return Finding(kind, tuple(plan), 6, bound)
-        for kind, bound, first in (("within", 4, "cost 6, proved: no plan is more than 2 better"), ("undecided", None, "cost 6, nothing proved in 60 s")):
+        for kind, bound, first in (("within", 4, "cost 6, proved: no plan is more than 2 better"),
+                                   ("undecided", None, "cost 6, nothing proved in 60 s")):
             with self.subTest(kind), mock.patch.object(finding, "find", side_effect=found):
                 self.expect(0, first + "\n" + PLAN, "", *WORDS)
 
@@ -106,10 +111,11 @@ class Words(Files):
             return Finding("undecided")
         terminal = Terminal()
         with mock.patch.object(finding, "find", side_effect=found), mock.patch.object(sys, "stderr", terminal):
-            from nushbaret._command import main
+            from nushbaret.roster.command import main
             with contextlib.redirect_stdout(io.StringIO()):
                 main([*WORDS, "-q"])
-        self.assertIn("\rcosts: looks for plans, proved at least 4\rcosts: proofs, found 7, proved at least 5", terminal.getvalue())
+        self.assertIn("\rcosts: looks for plans, proved at least 4\rcosts: proofs, found 7, proved at least 5",
+                      terminal.getvalue())
         self.assertTrue(terminal.getvalue().endswith(" \r"))
 
 
@@ -128,11 +134,14 @@ class Plans(Files):
         self.assertEqual((status, out), (0, "greatest cost: 44, proved: no plan that keeps the rules has more\n"))
 
     def test_certificates(self):
-        """What proves an answer is checked alone; a changed bound isn't shown, and what is no certificate is refused."""
+        """What proves an answer is checked alone; a changed bound isn't shown, and what is no certificate is
+        refused."""
         words = (*WORDS, "-q", "--certificate", "c.txt")
         self.assertEqual(self.run_words(*words)[0], 0)
-        rows = int(self.read("c.txt").count(" ", self.read("c.txt").index("least"), self.read("c.txt").index("most"))) - 1
-        self.expect(0, f"c.txt: shown: a plan of cost 6 meets the {rows} rows, and no plan that meets them costs less\n", "", "--check", "c.txt")
+        rows = int(self.read("c.txt").count(" ", self.read("c.txt").index("least"),
+                                            self.read("c.txt").index("most"))) - 1
+        self.expect(0, f"c.txt: shown: a plan of cost 6 meets the {rows} rows, and no plan that meets them costs "
+                    "less\n", "", "--check", "c.txt")
         self.refused(4, "c.txt exists: --force overwrites it", *words)
         most = self.read("c.txt").split("\nmost ")[1].split("\n")[0]
         self.file("d.txt", self.read("c.txt").replace(f"\nmost {most}", f"\nmost {most.rpartition(' ')[0]} 6"))
@@ -160,11 +169,13 @@ class Plans(Files):
 
     def test_fixed_and_together(self):
         self.file("f.csv", "person,object\nCleo,Night 2027-03-05\nCleo,Early 2027-03-06\n")
-        self.expect(1, "no plan keeps these rules, proved: together they can't hold:\n  fixed (Cleo: Night 2027-03-05, Cleo: Early 2027-03-06)\n"
-                    "  rest: no Early the day after Night (Cleo)\n", "", *WORDS, "--fixed", "f.csv")
+        self.expect(1, "no plan keeps these rules, proved: together they can't hold:\n  fixed (Cleo: Night 2027-03-05, "
+                    "Cleo: Early 2027-03-06)\n  rest: no Early the day after Night (Cleo)\n", "", *WORDS, "--fixed",
+                    "f.csv")
         self.file("f.csv", "person,object\nCleo,Night 2027-03-05\n")
         status, out, _ = self.run_words(*WORDS, "--fixed", "f.csv")
-        self.assertEqual((status, out.splitlines()[0]), (0, "least cost: 15, proved: no plan that keeps the rules costs less"))
+        self.assertEqual((status, out.splitlines()[0]), (0, "least cost: 15, proved: no plan that keeps the rules "
+                                                         "costs less"))
         self.assertIn("Night 2027-03-05, 6 (fixed)", out)
 
     def test_keep(self):
@@ -176,17 +187,20 @@ class Plans(Files):
         self.assertEqual((status, lines[0]), (0, "least cost: 13, proved: no plan that keeps the rules costs less"))
         self.assertEqual(lines[4], "k.csv: 3 pairs come, 3 go")
         with_cost = self.run_words(*WORDS, "--keep", "k.csv", "--change-cost", "1")[1].splitlines()
-        self.assertEqual((with_cost[0], with_cost[4:]), (
-            "least cost with changes: 15 (cost 15), proved: no plan that keeps the rules costs less", ["k.csv: no pair changes"]))
+        self.assertEqual((with_cost[0], with_cost[4:]), ("least cost with changes: 15 (cost 15), proved: no plan that "
+                                                         "keeps the rules costs less", ["k.csv: no pair changes"]))
 
     def test_before(self):
         """Who worked the night before the first day has no early shift on it, and nights in a row look back."""
         self.file("d.csv", DAYS + EARLIER)
-        self.file("b.csv", "person,object\nCleo,Night 2027-03-04\nZoe,Night 2027-03-04\nCleo,Night 2027-03-03\nAda,Office 2027-03-04\n")
+        self.file("b.csv", "person,object\nCleo,Night 2027-03-04\nZoe,Night 2027-03-04\nCleo,Night "
+                  "2027-03-03\nAda,Office 2027-03-04\n")
         status, out, err = self.run_words(*WORDS, "--before", "b.csv")
-        self.assertEqual((status, out.splitlines()[0]), (0, "least cost: 8, proved: no plan that keeps the rules costs less"))
+        self.assertEqual((status, out.splitlines()[0]), (0, "least cost: 8, proved: no plan that keeps the rules costs "
+                                                         "less"))
         self.assertNotIn("Cleo (3): Early 2027-03-05", out)
-        self.assertEqual(err, "b.csv: the roster has no Zoe\nb.csv: the groups' file doesn't list 1 object (Office 2027-03-04): no rule looks at them\n")
+        self.assertEqual(err, "b.csv: the roster has no Zoe\nb.csv: the groups' file doesn't list 1 object (Office "
+                         "2027-03-04): no rule looks at them\n")
         self.rules("Night in a row,1,")
         self.file("f.csv", "person,object\nCleo,Night 2027-03-05\n")
         status, out, _ = self.run_words(*WORDS, "--before", "b.csv", "--fixed", "f.csv")
@@ -196,17 +210,20 @@ class Plans(Files):
 
     def test_past(self):
         """What is past stays, whatever rules it breaks, and rules look at it."""
-        self.file("k.csv", "person,object\nCleo,Night 2027-03-05\nCleo,Early 2027-03-06\nBen,Early 2027-03-05\nAda,Night 2027-03-06\n")
+        self.file("k.csv", "person,object\nCleo,Night 2027-03-05\nCleo,Early 2027-03-06\nBen,Early "
+                  "2027-03-05\nAda,Night 2027-03-06\n")
         status, out, err = self.run_words(*WORDS, "--keep", "k.csv", "--past", "2027-03-07")
         self.assertEqual(status, 0)
-        self.assertEqual(out.splitlines()[:4], [
-            "least cost: 19, proved: no plan that keeps the rules costs less",
-            "Ada (2): Night 2027-03-06, 2 (past); Night 2027-03-08, 1", "Ben (3): Early 2027-03-05, 2 (past); Early 2027-03-07, 3; Early 2027-03-08, 0",
-            "Cleo (3): Night 2027-03-05, 6 (past); Early 2027-03-06, 1 (past); Night 2027-03-07, 4"])
+        self.assertEqual(out.splitlines()[:4], ["least cost: 19, proved: no plan that keeps the rules costs less",
+                                                "Ada (2): Night 2027-03-06, 2 (past); Night 2027-03-08, 1",
+                                                "Ben (3): Early 2027-03-05, 2 (past); Early 2027-03-07, 3; Early "
+                                                "2027-03-08, 0", "Cleo (3): Night 2027-03-05, 6 (past); Early "
+                                                "2027-03-06, 1 (past); Night 2027-03-07, 4"])
 
     def test_compare(self):
-        self.file("h.csv", "person,object\nAda,Night 2027-03-05\nAda,Early 2027-03-06\nAda,Night 2027-03-07\nAda,Night 2027-03-08\n"
-                  "Ben,Early 2027-03-05\nBen,Night 2027-03-06\nCleo,Early 2027-03-07\nCleo,Early 2027-03-08\n")
+        self.file("h.csv", "person,object\nAda,Night 2027-03-05\nAda,Early 2027-03-06\nAda,Night 2027-03-07\nAda,Night "
+                  "2027-03-08\nBen,Early 2027-03-05\nBen,Night 2027-03-06\nCleo,Early 2027-03-07\nCleo,Early "
+                  "2027-03-08\n")
         status, out, _ = self.run_words(*WORDS, "--compare", "h.csv", "--html", "h.html", "--output", "h.json")
         self.assertEqual((status, out.splitlines()[4:8]), (0, [
             "h.csv: breaks 2 rules", "  Ada: Early 2027-03-06 after Night 2027-03-05 (rest: Night > Early)",
@@ -221,8 +238,9 @@ class Plans(Files):
     def test_even(self):
         self.rules("rest,Night > Early,", "even,Night,")
         status, out, _ = self.run_words(*WORDS, "--output", "e.json")
-        self.assertEqual((status, out.splitlines()[4:]), (0, [
-            "even: Night: 1 to 2", "without the rules of evenness: least cost 5, proved: no plan that keeps the other rules costs less"]))
+        self.assertEqual((status, out.splitlines()[4:]), (0, ["even: Night: 1 to 2", "without the rules of evenness: "
+                                                              "least cost 5, proved: no plan that keeps the other "
+                                                              "rules costs less"]))
         rules = json.loads(self.read("e.json"))["rules"]
         self.assertEqual(rules["even"], [{"sentence": "even: Night", "least": 1, "most": 2}])
         self.assertEqual(rules["without_evenness"], {"cost": "5", "proved": "best", "better": "0"})

@@ -1,4 +1,5 @@
-"""The words of the command: wrong options, short ones, what is printed quietly, and in which encoding output goes to a pipe."""
+"""The words of the command: wrong options, short ones, what is printed quietly, and in which encoding output goes to a
+pipe."""
 import os
 import pty
 import subprocess
@@ -7,15 +8,16 @@ import unittest
 
 from test_command import SQUARE, TOP, Runs
 
-from nushbaret import _library as library
+from nushbaret.lap import library
 
 HINT = " (nushbaret --help lists all options)\n"
 
 
 class Wrong(Runs):
     def test_the_nearest_option(self):
-        for word, near in (("--maxx", "--max"), ("--outptu", "--output"), ("--as-many", "--as-many-as-can"), ("-max", "--max"), ("-html", "--html"),
-                           ("--Keep", "--keep"), ("\u2013max", "--max"), ("\u2014force", "--force"), ("--place=c.csv", "--places")):
+        for word, near in (("--maxx", "--max"), ("--outptu", "--output"), ("--as-many", "--as-many-as-can"),
+                           ("-max", "--max"), ("-html", "--html"), ("--Keep", "--keep"), ("\u2013max", "--max"),
+                           ("\u2014force", "--force"), ("--place=c.csv", "--places")):
             name = word.partition("=")[0]
             for words in ((word,), ("r.csv", word), (word, "r.csv", "--fixed", "f.csv")):
                 with self.subTest(words=words):
@@ -36,7 +38,8 @@ class Wrong(Runs):
 
     def test_a_file_twice(self):
         for option in ("--places", "--tasks", "--groups", "--fixed", "--keep", "--compare"):
-            self.expect(2, "", f"nushbaret: {option}: given twice, with a.csv and b.csv{HINT}", "r.csv", option, "a.csv", option, "b.csv")
+            self.expect(2, "", f"nushbaret: {option}: given twice, with a.csv and b.csv{HINT}", "r.csv", option,
+                        "a.csv", option, "b.csv")
 
 
 class Short(Runs):
@@ -53,7 +56,8 @@ class Short(Runs):
         status, out, err = self.run_words("s.csv", "--quiet", "--as-many-as-can")
         self.assertEqual((status, len(out.splitlines()), err), (1, 2, ""))
         self.assertTrue(out.endswith("\nleast cost of 2 pairs: 3\n"))
-        self.expect(1, out.splitlines()[0] + "\np.csv isn't written: there is no plan\n", "", "s.csv", "-q", "-o", "p.csv", "--force")
+        self.expect(1, out.splitlines()[0] + "\np.csv isn't written: there is no plan\n", "", "s.csv", "-q", "-o",
+                    "p.csv", "--force")
 
     def test_version(self):
         for word in ("-V", "--version"):
@@ -70,9 +74,11 @@ class Piped(Runs):
         return {**os.environ, "PYTHONPATH": str(TOP / "python"), "PYTHONIOENCODING": "latin-1", "PYTHONUTF8": "0"}
 
     def test_utf_8(self):
-        self.file("r.csv", "Wer,Dienst,Stunden\nJ\u00f6rg \u0141,fr\u00fch,1\nzo\u00eb,fr\u00fch,2\nZo\u00eb,sp\u00e4t,1\n")
+        self.file("r.csv", "Wer,Dienst,Stunden\nJ\u00f6rg "
+                  "\u0141,fr\u00fch,1\nzo\u00eb,fr\u00fch,2\nZo\u00eb,sp\u00e4t,1\n")
         for words in (("r.csv",), ("r.csv", "--print", "csv"), ("r.csv", "--print", "json")):
-            ran = subprocess.run([sys.executable, "-m", "nushbaret", *words], capture_output=True, env=self.environment())
+            ran = subprocess.run([sys.executable, "-m", "nushbaret", *words], capture_output=True,
+                                 env=self.environment())
             self.assertEqual(ran.returncode, 0)
             self.assertIn("J\u00f6rg \u0141", ran.stdout.decode("utf-8"))
             self.assertIn("'zo\u00eb', 'Zo\u00eb' differ", ran.stderr.decode("utf-8"))
@@ -80,13 +86,15 @@ class Piped(Runs):
     def test_csv_of_windows_is_utf_8_in_a_pipe(self):
         with open("r.csv", "wb") as file:
             file.write("Wer,Dienst,Stunden\nJ\u00f6rg,fr\u00fch,1\n".encode("cp1252"))
-        ran = subprocess.run([sys.executable, "-m", "nushbaret", "r.csv", "--print", "csv"], capture_output=True, env=self.environment())
+        ran = subprocess.run([sys.executable, "-m", "nushbaret", "r.csv", "--print", "csv"], capture_output=True,
+                             env=self.environment())
         self.assertEqual(ran.stdout.decode("utf-8"), "Wer,Dienst,Stunden\nJ\u00f6rg,fr\u00fch,1\n")
 
     def test_a_terminal_keeps_its_encoding(self):
         self.file("r.csv", "Wer,Dienst,Stunden\nJ\u00f6rg \u0141,x,1\n")
         main, other = pty.openpty()
-        ran = subprocess.run([sys.executable, "-m", "nushbaret", "r.csv", "--lines"], stdout=other, stderr=subprocess.PIPE, env=self.environment())
+        ran = subprocess.run([sys.executable, "-m", "nushbaret", "r.csv", "--lines"], stdout=other,
+                             stderr=subprocess.PIPE, env=self.environment())
         os.close(other)
         shown = os.read(main, 1000)
         os.close(main)

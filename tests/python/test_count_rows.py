@@ -1,16 +1,13 @@
-"""Rows of counts and groups, and the leaves that show best plans and shortages, compared with searches and with a check in fractions."""
-import pathlib
+"""Rows of counts and groups, and the leaves that show best plans and shortages, compared with searches and with a check
+in fractions."""
 import random
-import sys
 import unittest
 from unittest import mock
 
-sys.path.insert(0, str(pathlib.Path(__file__).resolve().parents[2] / "python"))
-
 import nushbaret
-from nushbaret import _count_rows as rows, _counts as counts
-from nushbaret._exchanges import exchanges_of
-from nushbaret._row_check import shows, shows_here
+from nushbaret.counts import count_rows as rows, planned as counts
+from nushbaret.counts.exchanges import exchanges_of
+from nushbaret.rows.check import shows, shows_here
 
 import drawn
 import row_models as models
@@ -24,7 +21,8 @@ def certificates(counted):
     """The certificates of each shortage, and of the best plan, and whether least counts are missed."""
     lacks, pairs, exchanges = counts.planned(counted, True)
     terms = rows.terms_of(counted)
-    return [rows.certificate_of_lack(counted, terms, lack) for lack in lacks], rows.certificate_of_best(counted, lacks, exchanges), bool(lacks)
+    return ([rows.certificate_of_lack(counted, terms, lack) for lack in lacks],
+            rows.certificate_of_best(counted, lacks, exchanges), bool(lacks))
 
 
 class Shown(unittest.TestCase):
@@ -36,7 +34,8 @@ class Shown(unittest.TestCase):
             missed += is_short
             for certificate in (*of_lacks, best):
                 with self.subTest(case=case):
-                    self.assertEqual((shows(certificate), shows_here(certificate), models.shows(certificate)), (True, True, True))
+                    self.assertEqual((shows(certificate), shows_here(certificate), models.shows(certificate)),
+                                     (True, True, True))
                 other = models.changed(draw, certificate)
                 if other is not None:
                     is_shown = models.shows(other)
@@ -47,7 +46,8 @@ class Shown(unittest.TestCase):
         self.assertGreater(min(results), 100)
 
     def test_rows_say_counts_and_groups(self):
-        """The plans that meet the rows are those by counts and groups that miss the least; none of these is left out, and no other in."""
+        """The plans that meet the rows are those by counts and groups that miss the least; none of these is left out,
+        and no other in."""
         draw = random.Random(72)
         for case, (roster, _) in enumerate(rosters(72, 120)):
             counted = roster.counted()
@@ -57,7 +57,8 @@ class Shown(unittest.TestCase):
             listed = list(zip(counted.rows, counted.columns))
             fit = {tuple(pair in set(pairs) for pair in listed) for missed, _, pairs in roster.plans() if missed == 0}
             some = {tuple(draw.random() < 0.4 for _ in listed) for _ in range(60)}
-            some |= {tuple(plan[:place]) + (not plan[place],) + plan[place + 1:] for plan in list(fit)[:9] for place in range(len(listed))}
+            some |= {tuple(plan[:place]) + (not plan[place],) + plan[place + 1:] for plan in list(fit)[:9]
+                     for place in range(len(listed))}
             for plan in fit | some:
                 with self.subTest(case=case):
                     self.assertEqual(models.meets(plan, best.rows[:-1]), plan in fit)
@@ -99,7 +100,8 @@ class Faults(unittest.TestCase):
                 if (missed, cost) == least or not pairs:
                     continue
                 found += 1
-                with mock.patch.object(counts, "best_pairs", lambda *given, pairs=pairs: pairs), self.subTest(case=case):
+                with mock.patch.object(counts, "best_pairs",
+                                       lambda *given, pairs=pairs: pairs), self.subTest(case=case):
                     with self.assertRaisesRegex(RuntimeError, REPORT):
                         counts.planned(counted, True)
         self.assertGreater(found, 100)
@@ -111,7 +113,8 @@ class Faults(unittest.TestCase):
             counted = roster.counted()
             lacks, _, _ = counts.planned(counted, True)
             for lack in lacks:
-                for other in (lack._replace(had=lack.had - 1), lack._replace(wanted=lack.wanted + 1), lack._replace(had=lack.wanted)):
+                for other in (lack._replace(had=lack.had - 1), lack._replace(wanted=lack.wanted + 1),
+                              lack._replace(had=lack.wanted)):
                     refused += 1
                     with self.subTest(case=case), self.assertRaisesRegex(RuntimeError, REPORT):
                         rows.check_lacks(counted, [other])

@@ -1,30 +1,19 @@
 """Counts from-to with groups, compared with searches through all plans; and what is refused."""
-import pathlib
 import pickle
 import random
-import sys
 import unittest
 from decimal import Decimal
 from fractions import Fraction
 from unittest import mock
 
-sys.path.insert(0, str(pathlib.Path(__file__).resolve().parents[2] / "python"))
-
 import nushbaret
-from nushbaret import _gadgets as gadgets
-from nushbaret._counts import planned
-from nushbaret._gadgets import Bounds, Counted
+from nushbaret.counts import nodes
+from nushbaret.api.counts import planned
+from nushbaret.counts.nodes import Bounds, Counted
 
 import drawn
 
-try:
-    import numpy
-except ImportError:
-    numpy = None
-try:
-    import pandas
-except ImportError:
-    pandas = None
+from optional import np as numpy, pd as pandas
 
 CASES = 1500
 SMALL = 300
@@ -53,9 +42,11 @@ class Roster:
         for number, group in enumerate(self.groups):
             for column in group:
                 group_of[column] = number
-        pairs = [(row, column) for row, own in enumerate(self.costs) for column, cost in enumerate(own) if cost is not None]
-        return Counted([Bounds(*bound) for bound in self.rows], [Bounds(*bound) for bound in self.columns], group_of, len(self.groups),
-                       [row for row, _ in pairs], [column for _, column in pairs], [self.costs[row][column] for row, column in pairs])
+        pairs = [(row, column) for row, own in enumerate(self.costs) for column, cost in enumerate(own)
+                 if cost is not None]
+        return Counted([Bounds(*bound) for bound in self.rows], [Bounds(*bound) for bound in self.columns], group_of,
+                       len(self.groups), [row for row, _ in pairs], [column for _, column in pairs],
+                       [self.costs[row][column] for row, column in pairs])
 
 
 def rosters(seed, count):
@@ -88,12 +79,12 @@ class Plans(unittest.TestCase):
         self.assertGreater(infeasible, 500)
         self.assertLess(infeasible, 1300)
 
-    def test_gadgets_only_where_a_plan_needs_them(self):
-        solved, more = gadgets.solve_sparse, 0
+    def test_transshipments_only_where_a_plan_needs_them(self):
+        solved, more = nodes.best_plan, 0
         for case, (roster, maximize) in enumerate(rosters(2, SMALL)):
             least, calls = min(plan[:2] for plan in roster.plans(maximize)), []
-            with mock.patch.object(gadgets._Builder, "spare", lambda builder: iter(())), mock.patch.object(
-                    gadgets, "solve_sparse", lambda *lists: calls.append(lists) or solved(*lists)), self.subTest(case=case):
+            with mock.patch.object(nodes._Builder, "spare", lambda builder: iter(())), mock.patch.object(
+                    nodes, "best_plan", lambda *lists: calls.append(lists) or solved(*lists)), self.subTest(case=case):
                 self.judge(roster, roster.assign(maximize=maximize, partial=True), maximize, least)
             more += len(calls) > 1
         self.assertGreater(more, 50)
@@ -101,7 +92,8 @@ class Plans(unittest.TestCase):
     def test_kept_pairs_beside_all_best_plans(self):
         draw, changed = random.Random(3), 0
         for case, (roster, _) in enumerate(rosters(3, SMALL)):
-            kept = [(row, column) for row in range(len(roster.rows)) for column in range(len(roster.columns)) if draw.random() < 0.4]
+            kept = [(row, column) for row in range(len(roster.rows)) for column in range(len(roster.columns))
+                    if draw.random() < 0.4]
             roster.costs = [[None if cost is None else cost // 4 for cost in row] for row in roster.costs]
             plans = list(roster.plans())
             least = min(plan[:2] for plan in plans)
@@ -122,7 +114,7 @@ class Plans(unittest.TestCase):
         self.assertEqual(len({(row, column // 3) for row, column in result.pairs}), 1800)
         some = [row[:21] for row in costs[:60]]
         wanted = nushbaret.assign_counts(some, (4, 5), (10, 13)).cost
-        with mock.patch.multiple(gadgets, MOST_PERSONS=1200, AT_ONCE=1200, LIKELY=800):
+        with mock.patch.multiple(nodes, MOST_PERSONS=1200, AT_ONCE=1200, LIKELY=800):
             self.assertEqual(nushbaret.assign_counts(some, (4, 5), (10, 13)).cost, wanted)
 
 
@@ -131,7 +123,8 @@ class AnyNumbers(unittest.TestCase):
         """The plan is best for the decimals that the costs print as, and its cost is exact."""
         draw = drawn.drawing(5)
         for case, (roster, maximize) in enumerate(rosters(5, SMALL)):
-            roster.costs = drawn.doubles(draw, len(roster.rows), len(roster.columns), list(drawn.KINDS)[case % len(drawn.KINDS)], 0.8)
+            roster.costs = drawn.doubles(draw, len(roster.rows), len(roster.columns),
+                                         list(drawn.KINDS)[case % len(drawn.KINDS)], 0.8)
             result = roster.assign(maximize=maximize, partial=True)
             roster.costs = drawn.exactly(roster.costs, True)
             with self.subTest(case=case):
@@ -160,7 +153,8 @@ class Shortages(unittest.TestCase):
                 with self.subTest(case=case, short=short):
                     self.assertGreater(short.wanted, short.had)
                     self.assertEqual(short.had, self.most(roster, short))
-            names = [(short.of_columns, number) for short in shortages for number in (short.columns if short.of_columns else short.rows)]
+            names = [(short.of_columns, number) for short in shortages
+                     for number in (short.columns if short.of_columns else short.rows)]
             self.assertEqual(len(names), len(set(names)))
         self.assertGreater(found, 500)
 
@@ -169,14 +163,17 @@ class Shortages(unittest.TestCase):
         rows, columns = len(roster.rows), len(roster.columns)
         once = {(row, tuple(held)) for row, held in short.once}
         named = set(short.columns) | {column for _, held in once for column in held}
-        costs = [[None if cost is None or column not in named else 1 for column, cost in enumerate(row)] for row in roster.costs]
+        costs = [[None if cost is None or column not in named else 1 for column, cost in enumerate(row)]
+                 for row in roster.costs]
         if short.of_columns:
             row_bounds = [(0, roster.rows[row][1] if row in short.rows else 9) for row in range(rows)]
-            column_bounds = [(0, roster.columns[column][0] if column in short.columns else 0) for column in range(columns)]
+            column_bounds = [(0, roster.columns[column][0] if column in short.columns else 0)
+                             for column in range(columns)]
         else:
             costs = [own if row in short.rows else [None] * columns for row, own in enumerate(costs)]
             row_bounds = [(0, roster.rows[row][0]) for row in range(rows)]
-            column_bounds = [(0, roster.columns[column][1] if column in short.columns else 9) for column in range(columns)]
+            column_bounds = [(0, roster.columns[column][1] if column in short.columns else 9)
+                             for column in range(columns)]
         # A row that is named with all that it takes may take several of a group.
         for row in range(rows):
             listed = {column for held_row, held in once if held_row == row for column in held}
@@ -186,13 +183,12 @@ class Shortages(unittest.TestCase):
         return max(len(pairs) for _, _, pairs in drawn.plans_by_counts(costs, row_bounds, column_bounds, roster.groups))
 
     def test_message(self):
-        cases = [
-            (([[1, 2], [3, 4]], 1, (1, 2), None), None),
-            (([[1, None], [3, None]], 1, (0, 1), None), "rows 0, 1 must have 2 columns, and can have 1: 1 by the most of column 0"),
-            (([[1, 2]], (0, 2), [2, 0], None), "column 0 must have 2 rows, and can have 1: 1 where a pair or a group counts once"),
-            (([[1, 2]], 2, (0, 1), [[0, 1]]), "row 0 must have 2 columns, and can have 1: 1 where a pair or a group counts once"),
-            (([[None]], 1, (0, 1), None), "row 0 must have 1 column, and may have none"),
-        ]
+        cases = [(([[1, 2], [3, 4]], 1, (1, 2), None), None),
+                 (([[1, None], [3, None]], 1, (0, 1), None), "rows 0, 1 must have 2 columns, and can have 1: 1 by the "
+                  "most of column 0"), (([[1, 2]], (0, 2), [2, 0], None), "column 0 must have 2 rows, and can have 1: "
+                                        "1 where a pair or a group counts once"),
+                 (([[1, 2]], 2, (0, 1), [[0, 1]]), "row 0 must have 2 columns, and can have 1: 1 where a pair or a "
+                  "group counts once"), (([[None]], 1, (0, 1), None), "row 0 must have 1 column, and may have none")]
         for words, text in cases:
             with self.subTest(words=words):
                 if text is None:
@@ -238,21 +234,22 @@ class Words(unittest.TestCase):
             partial.cost = 5
 
     def test_refusals(self):
-        cases = [
-            (TypeError, (None, None), "row_counts and column_counts are both missing: give one, or call solve"),
-            (TypeError, (1.5,), "row_counts is 1.5: a count is a whole number, or the least and the most"),
-            (TypeError, ([1, "2"],), "row_counts[1] is '2': a count is a whole number, or the least and the most"),
-            (TypeError, ([1, (1, 2, 3)],), "row_counts[1] is (1, 2, 3): a count is a whole number, or the least and the most"),
-            (ValueError, (-1,), "row_counts is -1: the least count must be 0 or more, and the most not less than it"),
-            (ValueError, (1, [1, 1, (2, 1)]),
-             "column_counts[2] is (2, 1): the least count must be 0 or more, and the most not less than it"),
-            (ValueError, ([1],), "row_counts has 1 counts, where 2 are needed (one for all is a number, or a tuple of least and most)"),
-            (ValueError, (1, 1, [[0, 1], [1, 2]]), "column 1 is in column_groups[0] and in column_groups[1]: groups share none"),
-            (ValueError, (1, 1, [[0, 3]]), "column_groups[0] has column 3: it must be from 0 to 2"),
-            (TypeError, (1, 1, [["early"]]), "column_groups[0] has 'early': a column is its number"),
-            (ValueError, (1, 1, ["a", "b"]), "column_groups has 2 labels, and there are 3 columns"),
-            (TypeError, (1, 1, [0, [1, 2]]), "column_groups must be lists of columns, or one label for each column"),
-        ]
+        cases = [(TypeError, (None, None), "row_counts and column_counts are both missing: give one, or call solve"),
+                 (TypeError, (1.5,), "row_counts is 1.5: a count is a whole number, or the least and the most"),
+                 (TypeError, ([1, "2"],), "row_counts[1] is '2': a count is a whole number, or the least and the most"),
+                 (TypeError, ([1, (1, 2, 3)],), "row_counts[1] is (1, 2, 3): a count is a whole number, or the least "
+                  "and the most"), (ValueError, (-1,), "row_counts is -1: the least count must be 0 or more, and the "
+                                    "most not less than it"),
+                 (ValueError, (1, [1, 1, (2, 1)]), "column_counts[2] is (2, 1): the least count must be 0 or more, and "
+                  "the most not less than it"), (ValueError, ([1],), "row_counts has 1 counts, where 2 are needed (one "
+                                                 "for all is a number, or a tuple of least and most)"),
+                 (ValueError, (1, 1, [[0, 1], [1, 2]]), "column 1 is in column_groups[0] and in column_groups[1]: "
+                  "groups share none"), (ValueError, (1, 1, [[0, 3]]), "column_groups[0] has column 3: it must be from "
+                                         "0 to 2"), (TypeError, (1, 1, [["early"]]), "column_groups[0] has 'early': a "
+                                                     "column is its number"),
+                 (ValueError, (1, 1, ["a", "b"]), "column_groups has 2 labels, and there are 3 columns"),
+                 (TypeError, (1, 1, [0, [1, 2]]), "column_groups must be lists of columns, or one label for each "
+                  "column")]
         for kind, words, text in cases:
             with self.subTest(words=words), self.assertRaises(kind) as caught:
                 nushbaret.assign_counts(self.COSTS, *words)
@@ -267,17 +264,19 @@ class Words(unittest.TestCase):
     def test_too_many_nodes(self):
         costs = [[1] * 100 for _ in range(100)]
         helps = "can be had: lower the greatest counts, forbid more pairs, or split the problem, as by weeks"
-        for row_counts, column_counts, text in (
-                ((0, 90), (0, 2), "9000 columns that rows may take, 200 rows that columns may take and 0 rules of at most one need 9000"),
-                ((40, 80), (40, 80), "8000 columns that rows may take, 8000 rows that columns may take and 0 rules of at most one need 12000")):
-            with mock.patch.object(gadgets, "MOST_PERSONS", 8192):
+        for row_counts, column_counts, text in (((0, 90), (0, 2), "9000 columns that rows may take, 200 rows that "
+                                                 "columns may take and 0 rules of at most one need 9000"),
+                                                ((40, 80), (40, 80), "8000 columns that rows may take, 8000 rows that "
+                                                 "columns may take and 0 rules of at most one need 12000")):
+            with mock.patch.object(nodes, "MOST_PERSONS", 8192):
                 with self.assertRaises(ValueError) as caught:
                     nushbaret.assign_counts(costs, row_counts, column_counts)
                 self.assertEqual(str(pickle.loads(pickle.dumps(caught.exception))), f"{text} nodes, and 8192 {helps}")
 
     @unittest.skipUnless(numpy, "needs NumPy")
     def test_arrays(self):
-        result = nushbaret.assign_counts(numpy.array(self.COSTS), numpy.array([[1, 2], [1, 1]]), numpy.ones(3, int), numpy.array([0, 0, 1]))
+        result = nushbaret.assign_counts(numpy.array(self.COSTS), numpy.array([[1, 2], [1, 1]]), numpy.ones(3, int),
+                                         numpy.array([0, 0, 1]))
         self.assertEqual((result.rows.tolist(), result.columns.tolist(), result.cost), ([0, 0, 1], [1, 2, 0], 6))
         self.assertIsInstance(result.rows, numpy.ndarray)
         self.assertEqual(pickle.loads(pickle.dumps(result)).pairs, result.pairs)
@@ -288,11 +287,12 @@ class Words(unittest.TestCase):
         groups = pandas.Series(["Mon", "Mon", None], frame.columns)
         result = nushbaret.assign_counts(frame, pandas.Series([2, 1], frame.index), 1, groups)
         self.assertEqual(result.pairs, [("Ada", "late"), ("Ada", "office"), ("Ben", "early")])
-        self.assertEqual(result.to_frame().values.tolist(), [["Ada", "late", 1], ["Ada", "office", 3], ["Ben", "early", 2]])
+        self.assertEqual(result.to_frame().values.tolist(),
+                         [["Ada", "late", 1], ["Ada", "office", 3], ["Ben", "early", 2]])
         with self.assertRaises(nushbaret.Infeasible) as caught:
             nushbaret.assign_counts(frame, (0, 1), [3, 0, 0])
-        self.assertEqual(str(pickle.loads(pickle.dumps(caught.exception))),
-                         "counts can't be met: column early must have 3 rows, and can have 2: 2 where a pair or a group counts once")
+        self.assertEqual(str(pickle.loads(pickle.dumps(caught.exception))), "counts can't be met: column early must "
+                         "have 3 rows, and can have 2: 2 where a pair or a group counts once")
 
 
 if __name__ == "__main__":

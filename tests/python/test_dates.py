@@ -1,13 +1,9 @@
 """Names that are dates, and those that aren't."""
-import pathlib
 import random
-import sys
 import unittest
 from datetime import date, timedelta
 
-sys.path.insert(0, str(pathlib.Path(__file__).resolve().parents[2] / "python"))
-
-from nushbaret._dates import DAY_NAMES, dates_of, has_weekday, is_weekend_name, monday_of, order_by_date
+from nushbaret.roster.dates import DAY_NAMES, dates_of, has_weekday, is_weekend_name, monday_of, order_by_date
 
 
 class Reading(unittest.TestCase):
@@ -18,12 +14,13 @@ class Reading(unittest.TestCase):
         self.assertEqual(dates_of(names), (None, why))
 
     def test_forms(self):
-        self.expect(["2027-03-01", "01.03.2027", "1.3.2027", "Mo 01.03.", "Mon, 2027-03-01", "Mo. 1. 3. 2027", "01.03.2027 (Mo)", "lun 1.3"],
-                    [(2027, 3, 1)] * 8)
+        self.expect(["2027-03-01", "01.03.2027", "1.3.2027", "Mo 01.03.", "Mon, 2027-03-01", "Mo. 1. 3. 2027",
+                     "01.03.2027 (Mo)", "lun 1.3"], [(2027, 3, 1)] * 8)
 
     def test_years(self):
         """A date without a year is near to those with one, also across the end of a year."""
-        self.expect(["Mo 28.12.2026", "Do 31.12.", "Fr 01.01.", "02.01."], [(2026, 12, 28), (2026, 12, 31), (2027, 1, 1), (2027, 1, 2)])
+        self.expect(["Mo 28.12.2026", "Do 31.12.", "Fr 01.01.", "02.01."],
+                    [(2026, 12, 28), (2026, 12, 31), (2027, 1, 1), (2027, 1, 2)])
         self.expect(["01.01.2027", "31.12."], [(2027, 1, 1), (2026, 12, 31)])
         self.expect(["28.02.2028", "29.02."], [(2028, 2, 28), (2028, 2, 29)])
 
@@ -42,13 +39,15 @@ class Reading(unittest.TestCase):
         draw = random.Random(1)
         for _ in range(500):
             day = date(2024, 1, 1) + timedelta(days=draw.randrange(2000))
-            names = [f"{DAY_NAMES[day.weekday()]} {day.day:02}.{day.month:02}.{day.year}", day.isoformat(), f"{day.day}.{day.month}."]
+            names = [f"{DAY_NAMES[day.weekday()]} {day.day:02}.{day.month:02}.{day.year}", day.isoformat(),
+                     f"{day.day}.{day.month}."]
             self.assertEqual(dates_of(names).all, [day] * 3)
             self.assertEqual(monday_of(day).isocalendar()[:2], day.isocalendar()[:2])
             self.assertEqual(monday_of(day).weekday(), 0)
 
     def test_weekends(self):
-        for name in ("Sat", "Sunday", "Sa 06.03.", "So", "Samstag", "Sonnabend", "sam.", "dimanche", "domingo", "zaterdag"):
+        for name in ("Sat", "Sunday", "Sa 06.03.", "So", "Samstag", "Sonnabend", "sam.", "dimanche", "domingo",
+                     "zaterdag"):
             self.assertTrue(is_weekend_name(name), name)
         for name in ("Mon", "Fr", "Do", "Di", "S", "2027-03-06", "office", ""):
             self.assertFalse(is_weekend_name(name), name)

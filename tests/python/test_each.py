@@ -2,25 +2,20 @@
 import os
 import pathlib
 import re
-import sys
 import unittest
 from datetime import date, datetime, time, timedelta
 
-sys.path.insert(0, str(pathlib.Path(__file__).resolve().parents[2] / "python"))
-
-from nushbaret._calendar import Event, calendar
-from nushbaret._each import file_names
-from nushbaret._times import Times
+from nushbaret.roster.output.calendar import Event, calendar
+from nushbaret.roster.output.each import file_names
+from nushbaret.roster.times import Times
 from test_command import Runs, parsed, without_names
 
-try:
-    import openpyxl
-except ImportError:
-    openpyxl = None
+from optional import openpyxl
 
-ROSTER = ("nurse,shift,points\nAda,early Mon,1\nAda,night Tue,2\nAda,early Wed,9\nBen,early Mon,5\nBen,early Wed,1\nBen,night Tue,7\n"
-          "Cleo,office,1\n")
-DAYS = ("shift,day,from,to\nearly Mon,Mo 01.03.2027,06:00,14:30\nnight Tue,Di 02.03.,21:30,6:30\nearly Wed,Mi 03.03.,,\n")
+ROSTER = ("nurse,shift,points\nAda,early Mon,1\nAda,night Tue,2\nAda,early Wed,9\nBen,early Mon,5\nBen,early "
+          "Wed,1\nBen,night Tue,7\nCleo,office,1\n")
+DAYS = ("shift,day,from,to\nearly Mon,Mo 01.03.2027,06:00,14:30\nnight Tue,Di 02.03.,21:30,6:30\nearly Wed,Mi "
+        "03.03.,,\n")
 
 
 def components(data):
@@ -59,15 +54,17 @@ class Files(Runs):
 
     def test_each(self):
         status, out, err = self.run_words(*self.words, "--each", "out")
-        self.assertEqual((status, out.splitlines()[-1], err), (0, "out: the calendars leave out what has no day: office", ""))
+        self.assertEqual((status, out.splitlines()[-1], err), (0, "out: the calendars leave out what has no day: "
+                                                               "office", ""))
         held = self.held()
         self.assertEqual(sorted(held), ["Ada.html", "Ada.ics", "Ben.html", "Ben.ics", "Cleo.html", "Cleo.ics"])
         frame, one, other = components(held["Ada.ics"])
         self.assertEqual((frame[1]["VERSION"], frame[1]["X-WR-CALNAME"]), ("2.0", "Ada"))
         self.assertTrue(frame[1]["PRODID"])
-        self.assertEqual([(kind, own["DTSTART"], own["DTEND"], own["SUMMARY"], own["DTSTAMP"]) for kind, own in (one, other)], [
-            ("VEVENT", "20270301T060000", "20270301T143000", "early Mon", "20270301T000000Z"),
-            ("VEVENT", "20270302T213000", "20270303T063000", "night Tue", "20270302T000000Z")])
+        self.assertEqual([(kind, own["DTSTART"], own["DTEND"], own["SUMMARY"], own["DTSTAMP"])
+                          for kind, own in (one, other)],
+                         [("VEVENT", "20270301T060000", "20270301T143000", "early Mon", "20270301T000000Z"),
+                          ("VEVENT", "20270302T213000", "20270303T063000", "night Tue", "20270302T000000Z")])
         _, event = components(held["Ben.ics"])
         self.assertEqual((event[1]["DTSTART;VALUE=DATE"], event[1]["DTEND;VALUE=DATE"]), ("20270303", "20270304"))
         _, free = components(held["Cleo.ics"])
@@ -97,7 +94,8 @@ class Files(Runs):
         self.assertEqual(self.held(), before)
         self.run_words(*self.words, "--each", "out", "--force", "--max")
         after = self.held()
-        ids = [{own["UID"] for files in (before, after) for name in files if name.endswith(".ics") for _, own in components(files[name])[1:]}]
+        ids = [{own["UID"] for files in (before, after) for name in files if name.endswith(".ics")
+                for _, own in components(files[name])[1:]}]
         shifts = {(name, own.get("SUMMARY")) for files in (before, after) for name in files if name.endswith(".ics")
                   for _, own in components(files[name])[1:]}
         self.assertEqual(len(ids[0]), len(shifts))
@@ -106,7 +104,8 @@ class Files(Runs):
         self.file("k.csv", "a,b\nAda,early Wed\nBen,early Mon\n")
         self.run_words(*self.words, "--keep", "k.csv", "--each", "out")
         body = self.read("out/Ada.html").partition("<body>")[2]
-        self.assertIn('<tr class="changed"><th scope="row">Mo 01.03.2027</th><td>early Mon <small lang="en">new</small></td>', body)
+        self.assertIn('<tr class="changed"><th scope="row">Mo 01.03.2027</th><td>early Mon <small '
+                      'lang="en">new</small></td>', body)
         self.assertIn('<tr class="changed"><th scope="row">Mi 03.03.</th><td><s>early Wed</s></td><td></td></tr>', body)
 
     def test_without_dates(self):
@@ -127,7 +126,8 @@ class Files(Runs):
     def test_refusals(self):
         os.mkdir("out")
         self.file("out/Ben.ics", "mine")
-        self.assertEqual(self.run_words(*self.words, "--each", "out"), (4, "", "out/Ben.ics exists: --force overwrites it\n"))
+        self.assertEqual(self.run_words(*self.words, "--each", "out"), (4, "", "out/Ben.ics exists: --force overwrites "
+                                                                        "it\n"))
         self.assertEqual(os.listdir("out"), ["Ben.ics"])
         self.assertEqual(self.run_words(*self.words, "--each", "r.csv")[::2], (4, "r.csv: no folder\n"))
         self.assertEqual(self.run_words(*self.words, "--each", "r.csv/x")[::2], (4, "r.csv/x: no folder\n"))
@@ -152,8 +152,9 @@ class Files(Runs):
 
 class Names(unittest.TestCase):
     def test_they_differ(self):
-        names = ["Ada", "ada", "ADA 2", "Ada.", " Ada", "A/B", "A:B", "A_B", "CON", "nul.txt", "", "..", ".", "-rf", "~x", "\u202eevil", "Stra\u00dfe",
-                 "STRASSE", "caf\u00e9", "cafe\u0301", "x" * 300, "x" * 301, "\u00e4" * 300]
+        names = ["Ada", "ada", "ADA 2", "Ada.", " Ada", "A/B", "A:B", "A_B", "CON", "nul.txt", "", "..", ".", "-rf",
+                 "~x", "\u202eevil", "Stra\u00dfe", "STRASSE", "caf\u00e9", "cafe\u0301", "x" * 300, "x" * 301,
+                 "\u00e4" * 300]
         found = file_names(names)
         self.assertEqual(len({name.casefold() for name in found}), len(names))
         for name in found:
@@ -191,8 +192,9 @@ class TimesOfDay(Runs):
         self.file("r.csv", ",x,y\nAda,1,\nBen,,1\n")
 
     def test_forms(self):
-        for cells, shown in (("06:00,14:30", "06:00\u201314:30"), ("6:05,24:00", "06:05\u201324:00"), ("22:00,06:00", "22:00\u201306:00 (+1)"),
-                             ("08:00,08:00", "08:00\u201308:00 (+1)"), ("06:00:00,14:30:00", "06:00\u201314:30"), ("18:00,0:00", "18:00\u201324:00")):
+        for cells, shown in (("06:00,14:30", "06:00\u201314:30"), ("6:05,24:00", "06:05\u201324:00"),
+                             ("22:00,06:00", "22:00\u201306:00 (+1)"), ("08:00,08:00", "08:00\u201308:00 (+1)"),
+                             ("06:00:00,14:30:00", "06:00\u201314:30"), ("18:00,0:00", "18:00\u201324:00")):
             self.file("g.csv", f"o,day,note,From,To\nx,2027-03-01,,{cells}\ny,2027-03-01,,,\n")
             with self.subTest(cells=cells):
                 self.assertEqual(self.run_words("r.csv", "--groups", "g.csv", "--each", "out", "--force")[0], 0)
@@ -202,7 +204,8 @@ class TimesOfDay(Runs):
     @unittest.skipUnless(openpyxl, "openpyxl isn't installed")
     def test_cells_of_a_workbook(self):
         book = openpyxl.Workbook()
-        for row in (["o", "day", "from", "to"], ["x", date(2027, 3, 1), time(6), time(14, 30)], ["y", date(2027, 3, 2), time(22), time(0)]):
+        for row in (["o", "day", "from", "to"], ["x", date(2027, 3, 1), time(6), time(14, 30)],
+                    ["y", date(2027, 3, 2), time(22), time(0)]):
             book.active.append(row)
         book.save("g.xlsx")
         self.assertEqual(self.run_words("r.csv", "--groups", "g.xlsx", "--each", "out")[0], 0)
@@ -211,15 +214,20 @@ class TimesOfDay(Runs):
                          [("20270301T060000", "20270301T143000"), ("20270302T220000", "20270303T000000")])
 
     def test_refusals(self):
-        for content, text in (
-                ("o,day,from,to\nx,2027-03-01,6,14:00\n", "g.csv, line 2, column 3: '6' is no time of day such as 06:00"),
-                ("o,day,from,to\nx,2027-03-01,06:00,\n", "g.csv, line 2, column 4: '' is no time of day such as 06:00"),
-                ("o,day,from,to\nx,2027-03-01,24:00,06:00\n", "g.csv, line 2, column 3: '24:00' is no time of day such as 06:00"),
-                ("o,day,to,from\nx,2027-03-01,24:01,06:00\n", "g.csv, line 2, column 3: '24:01' is no time of day such as 06:00"),
-                ("o,day,from,to\nx,2027-03-01,06:60,07:00\n", "g.csv, line 2, column 3: '06:60' is no time of day such as 06:00"),
-                ("o,day,from\nx,2027-03-01,06:00\n", "g.csv, line 1: a column titled 'from' needs one titled 'to'"),
-                ("o,day,to\nx,2027-03-01,06:00\n", "g.csv, line 1: a column titled 'to' needs one titled 'from'"),
-                ("o,day,from,from,to\nx,2027-03-01,06:00,06:00,07:00\n", "g.csv, line 1: 2 columns are titled 'from', where 'to' needs one")):
+        for content, text in (("o,day,from,to\nx,2027-03-01,6,14:00\n", "g.csv, line 2, column 3: '6' is no time of "
+                               "day such as 06:00"), ("o,day,from,to\nx,2027-03-01,06:00,\n",
+                                                      "g.csv, line 2, column 4: '' is no time of day such as 06:00"),
+                              ("o,day,from,to\nx,2027-03-01,24:00,06:00\n", "g.csv, line 2, column 3: '24:00' is no "
+                               "time of day such as 06:00"),
+                              ("o,day,to,from\nx,2027-03-01,24:01,06:00\n", "g.csv, line 2, column 3: '24:01' is no "
+                               "time of day such as 06:00"),
+                              ("o,day,from,to\nx,2027-03-01,06:60,07:00\n", "g.csv, line 2, column 3: '06:60' is no "
+                               "time of day such as 06:00"),
+                              ("o,day,from\nx,2027-03-01,06:00\n", "g.csv, line 1: a column titled 'from' needs one "
+                               "titled 'to'"), ("o,day,to\nx,2027-03-01,06:00\n", "g.csv, line 1: a column titled 'to' "
+                                                "needs one titled 'from'"),
+                              ("o,day,from,from,to\nx,2027-03-01,06:00,06:00,07:00\n", "g.csv, line 1: 2 columns are "
+                               "titled 'from', where 'to' needs one")):
             self.file("g.csv", content)
             with self.subTest(content=content):
                 self.refused(3, text, "r.csv", "--groups", "g.csv", "--each", "out")

@@ -1,4 +1,5 @@
-"""Floats: SciPy's call takes all that SciPy takes, and its plan is best for these very doubles; `solve` rounds where it is asked to."""
+"""Floats: SciPy's call takes all that SciPy takes, and its plan is best for these very doubles; `solve` rounds where it
+is asked to."""
 import math
 import unittest
 from decimal import Decimal
@@ -19,8 +20,8 @@ class Lists(unittest.TestCase):
         for _ in range(500):
             n_rows, n_columns, maximize = draw.randint(1, 4), draw.randint(1, 4), draw.random() < 0.5
             scale = 2.0**draw.choice([-1060, -300, -40, 0, 10, 40, 300, 1000])
-            costs = [[draw.choice([draw.random(), draw.randint(-9, 9), draw.gauss(0, 1)]) * scale for _ in range(n_columns)]
-                     for _ in range(n_rows)]
+            costs = [[draw.choice([draw.random(), draw.randint(-9, 9), draw.gauss(0, 1)]) * scale
+                      for _ in range(n_columns)] for _ in range(n_rows)]
             rows, columns = nushbaret.linear_sum_assignment(costs, maximize)
             served = min(n_rows, n_columns)
             self.assertEqual(len(set(columns)), served)
@@ -38,27 +39,33 @@ class Lists(unittest.TestCase):
             self.assertEqual(cost_of(costs, *nushbaret.linear_sum_assignment(costs, maximize)), wanted)
 
     def test_numbers_of_every_kind(self):
-        for other, wanted in ((10**300, [0, 1]), (Decimal("1e-300"), [1, 0]), (Fraction(1, 3), [1, 0]), (True, [0, 1]), (False, [1, 0]),
-                              (2.5, [0, 1]), (2**63, [0, 1]), (-2**63, [1, 0]), (None, [0, 1]), (math.inf, [0, 1])):
+        for other, wanted in ((10**300, [0, 1]), (Decimal("1e-300"), [1, 0]), (Fraction(1, 3), [1, 0]), (True, [0, 1]),
+                              (False, [1, 0]), (2.5, [0, 1]), (2**63, [0, 1]), (-2**63, [1, 0]), (None, [0, 1]),
+                              (math.inf, [0, 1])):
             self.assertEqual(nushbaret.linear_sum_assignment([[0.5, other], [0.25, 0.5]])[1], wanted, other)
         for wrong, kind, words in (("x", ValueError, "could not convert string to float"), (1j, TypeError, "is 1j"),
                                    (10**400, OverflowError, "int too large to convert to float"),
-                                   (Decimal("sNaN"), ValueError, "nan at row 0, column 1"), (object(), TypeError, "which is no number"),
-                                   (-math.inf, ValueError, "-inf at row 0, column 1"), (math.nan, ValueError, "nan at row 0, column 1")):
+                                   (Decimal("sNaN"), ValueError, "nan at row 0, column 1"),
+                                   (object(), TypeError, "which is no number"),
+                                   (-math.inf, ValueError, "-inf at row 0, column 1"),
+                                   (math.nan, ValueError, "nan at row 0, column 1")):
             with self.assertRaisesRegex(kind, words):
                 nushbaret.linear_sum_assignment([[0.5, wrong], [1, 1]])
 
 
 class Rounding(unittest.TestCase):
     def test_drawn(self):
-        """With `decimals` each cost is rounded, of whatever kind and form it is, and the plan is best for the rounded ones."""
+        """With `decimals` each cost is rounded, of whatever kind and form it is, and the plan is best for the rounded
+        ones."""
         draw = drawing(23)
         for _ in range(500):
             n_rows, n_columns, maximize = draw.randint(1, 4), draw.randint(1, 4), draw.random() < 0.5
             scale, places = 10.0**draw.randint(-8, 11), draw.choice([0, 1, 2, 6, 7, 20])
-            costs = [[draw.choice([draw.random(), draw.randint(-9, 9) / 8]) * scale for _ in range(n_columns)] for _ in range(n_rows)]
+            costs = [[draw.choice([draw.random(), draw.randint(-9, 9) / 8]) * scale for _ in range(n_columns)]
+                     for _ in range(n_rows)]
             exact = [[round(Fraction(repr(cost)), places) for cost in row] for row in costs]
-            forms = [costs, [[Fraction(repr(cost)) for cost in row] for row in costs], [[Decimal(repr(cost)) for cost in row] for row in costs]]
+            forms = [costs, [[Fraction(repr(cost)) for cost in row] for row in costs],
+                     [[Decimal(repr(cost)) for cost in row] for row in costs]]
             wanted = best(exact, maximize, min(n_rows, n_columns))
             for form in forms + ([np.array(costs)] if np else []):
                 result = nushbaret.solve(form, maximize, decimals=places)
@@ -69,7 +76,8 @@ class Rounding(unittest.TestCase):
 
     def test_refusals(self):
         for decimals in "fit", "doubles", "6":
-            with self.assertRaisesRegex(ValueError, f"decimals is '{decimals}': it must be a whole number from 0, or None"):
+            with self.assertRaisesRegex(ValueError, f"decimals is '{decimals}': it must be a whole number from 0, or "
+                                        "None"):
                 nushbaret.solve([[1]], decimals=decimals)
         with self.assertRaises(TypeError):
             nushbaret.solve([[1]], decimals=0.5)
@@ -77,8 +85,8 @@ class Rounding(unittest.TestCase):
 
 @unittest.skipUnless(optimize, "SciPy isn't there")
 class BesideScipy(unittest.TestCase):
-    KINDS = ("float64", "float32", "float16", "longdouble", "object", "bool", "int8", "uint8", "int16", "uint16", "int32", "uint32",
-             "int64", "uint64", ">f8", "list")
+    KINDS = ("float64", "float32", "float16", "longdouble", "object", "bool", "int8", "uint8", "int16", "uint16",
+             "int32", "uint32", "int64", "uint64", ">f8", "list")
 
     def drawn(self, rng, kind):
         shape = tuple(int(side) for side in rng.integers(1, 9, 2))
@@ -88,7 +96,8 @@ class BesideScipy(unittest.TestCase):
             limits = np.iinfo(kind)
             span = (9, limits.max)[int(rng.integers(2))]
             return rng.integers(max(-span, limits.min), span, shape, dtype=kind, endpoint=True)
-        scale = 1.0 if kind == "float16" else 2.0**int(rng.choice([-20, 0, 30] if kind == "float32" else [-1000, -300, -20, 0, 30, 300, 1000]))
+        scale = 1.0 if kind == "float16" else 2.0**int(rng.choice([-20, 0, 30] if kind == "float32"
+                                                                  else [-1000, -300, -20, 0, 30, 300, 1000]))
         costs = np.where(rng.random(shape) < 0.5, rng.normal(0, 1, shape), rng.integers(-9, 10, shape)) * scale
         if rng.random() < 0.3:
             costs[rng.random(shape) < 0.2] = np.inf
@@ -105,7 +114,8 @@ class BesideScipy(unittest.TestCase):
                 costs = [[-cost for cost in row] for row in costs] if isinstance(costs, list) else -costs
             doubles = np.asarray(costs, float)
             try:
-                theirs = optimize.linear_sum_assignment(doubles if kind in ("longdouble", "object") else costs, maximize)
+                theirs = optimize.linear_sum_assignment(doubles if kind in ("longdouble", "object") else costs,
+                                                        maximize)
             except ValueError as fault:
                 with self.assertRaisesRegex(ValueError, str(fault)):
                     nushbaret.linear_sum_assignment(costs, maximize)

@@ -6,18 +6,14 @@ from fractions import Fraction
 from unittest import mock
 
 import nushbaret
-from nushbaret import _levels, _library as library, _problem, _solving
+from nushbaret.api import solve
+from nushbaret.costs import problem as _problem
+from nushbaret.lap import levels, library
 from drawn import drawing
 
-try:
-    import numpy as np
-    from nushbaret import _printing, _small
-except ImportError:
-    np = None
-try:
-    import pandas
-except ImportError:
-    pandas = None
+from nushbaret.costs import printing
+from nushbaret.lap import small
+from optional import np, pd as pandas
 
 FLOATS = ("f8", "f4", "f2")
 WHOLE = ("i8", "i4", "i2", "i1", "u4", "u2", "u1", "?")
@@ -56,7 +52,8 @@ def _drawn(draw, kind, values, odd, shape):
 
 
 def _laid_out(draw, costs):
-    """The same array in another order in memory, as a part of a larger one, unaligned, or with another object as its dtype."""
+    """The same array in another order in memory, as a part of a larger one, unaligned, or with another object as its
+    dtype."""
     def strided():
         wide = np.zeros((2 * costs.shape[0], 3 * costs.shape[1]), costs.dtype)
         wide[::2, 1::3] = costs
@@ -66,8 +63,9 @@ def _laid_out(draw, costs):
         held = np.frombuffer(b"\0" + costs.tobytes(), np.uint8)[1:]
         return held.view(costs.dtype).reshape(costs.shape)
 
-    forms = [lambda: costs, lambda: np.asfortranarray(costs), lambda: costs[::-1, ::-1], lambda: pickle.loads(pickle.dumps(costs)),
-             lambda: costs.astype(costs.dtype.newbyteorder()), strided, unaligned]
+    forms = [lambda: costs, lambda: np.asfortranarray(costs), lambda: costs[::-1, ::-1],
+             lambda: pickle.loads(pickle.dumps(costs)), lambda: costs.astype(costs.dtype.newbyteorder()), strided,
+             unaligned]
     return draw.choice(forms)()
 
 
@@ -79,7 +77,8 @@ def _said(call, costs, maximize):
         return type(fault), str(fault)
     if isinstance(found, tuple):
         return [(type(values), values.dtype, values.tolist()) for values in found]
-    return [repr(found.cost), found.pairs, found.row_duals, found.column_duals, found.prices, repr(found.rows), repr(found.columns)]
+    return [repr(found.cost), found.pairs, found.row_duals, found.column_duals, found.prices, repr(found.rows),
+            repr(found.columns)]
 
 
 @unittest.skipUnless(np, "NumPy isn't there")
@@ -89,14 +88,17 @@ class Forms(unittest.TestCase):
         for call in nushbaret.solve, nushbaret.linear_sum_assignment:
             with self.subTest(costs=costs, kind=costs.dtype, maximize=maximize, call=call.__name__):
                 shorter = _said(call, costs, maximize)
-                with mock.patch.object(_solving, "small_arrays", return_value=None):
+                with mock.patch.object(solve, "small_arrays", return_value=None):
                     self.assertEqual(shorter, _said(call, costs, maximize))
 
     def test_beside_the_longer_way(self):
         draw = drawing(171)
         for turn in range(3000):
-            kind, values, odd = draw.choice(FLOATS * 3 + WHOLE), draw.choice(list(VALUES)), draw.choice(list(ODD) + ["plain", "infinite"])
-            shape = draw.choice([(0, 0), (0, 3), (3, 0), (1, 1), (1, 5), (4, 1)] + [(draw.randint(1, 6), draw.randint(1, 6))] * 12)
+            kind, values, odd = draw.choice(FLOATS * 3 + WHOLE), draw.choice(list(VALUES)), draw.choice(list(ODD)
+                                                                                                        + ["plain",
+                                                                                                           "infinite"])
+            shape = draw.choice([(0, 0), (0, 3), (3, 0), (1, 1), (1, 5), (4, 1)]
+                                + [(draw.randint(1, 6), draw.randint(1, 6))] * 12)
             self.both(_laid_out(draw, _drawn(draw, kind, values, odd, shape)), draw.random() < 0.5)
 
     def test_larger(self):
@@ -109,17 +111,18 @@ class Forms(unittest.TestCase):
 
     def test_which_way_is_taken(self):
         """Of each of these forms the shorter way finds the answer."""
-        draw, arrays = drawing(173), _small.small_arrays()
+        draw, arrays = drawing(173), small.small_arrays()
         plain = _drawn(draw, "f8", "even", "plain", (8, 8))
         allowed = plain.copy()
         allowed[0, 1:5] = np.inf
-        forms = [plain, pickle.loads(pickle.dumps(plain)), allowed, plain.astype("f4"), plain.astype("f2"), (plain * 99).astype("i4"),
-                 plain > 0.5, _drawn(draw, "f8", "cents", "plain", (8, 8))]
+        forms = [plain, pickle.loads(pickle.dumps(plain)), allowed, plain.astype("f4"), plain.astype("f2"),
+                 (plain * 99).astype("i4"), plain > 0.5, _drawn(draw, "f8", "cents", "plain", (8, 8))]
         if pandas:
             forms += [pandas.DataFrame(plain), pandas.DataFrame((plain * 99).astype("i4"))]
         for form in forms:
             self.assertIsNotNone(arrays.found(form, False))
-            self.assertIsNotNone(arrays.assignment(form, True) if form is not allowed else arrays.assignment(-form, True))
+            self.assertIsNotNone(arrays.assignment(form, True) if form is not allowed
+                                 else arrays.assignment(-form, True))
 
     @unittest.skipUnless(pandas, "pandas isn't there")
     def test_frames(self):
@@ -127,12 +130,13 @@ class Forms(unittest.TestCase):
         for turn in range(200):
             kind, odd = draw.choice(FLOATS + WHOLE), draw.choice(["plain", "infinite", "NaN"])
             n, m = draw.randint(1, 5), draw.randint(1, 5)
-            frame = pandas.DataFrame(_drawn(draw, kind, draw.choice(list(VALUES)), odd, (n, m)), [f"r{row}" for row in range(n)])
+            frame = pandas.DataFrame(_drawn(draw, kind, draw.choice(list(VALUES)), odd, (n, m)),
+                                     [f"r{row}" for row in range(n)])
             if turn % 4 == 0:
                 frame[0] = draw.randint(0, 9)
             for call in nushbaret.solve, nushbaret.linear_sum_assignment:
                 shorter = _said(call, frame, turn % 2 == 0)
-                with mock.patch.object(_solving, "small_arrays", return_value=None):
+                with mock.patch.object(solve, "small_arrays", return_value=None):
                     self.assertEqual(shorter, _said(call, frame, turn % 2 == 0))
 
     def test_what_is_forbidden_is_never_taken(self):
@@ -152,12 +156,12 @@ class Forms(unittest.TestCase):
         for _ in range(3):
             self.assertEqual(nushbaret.solve(costs).cost, 4)
             self.assertEqual(nushbaret.solve(np.array([[1.0, 0.0], [2.0, 9.0]])).cost, 2)
-        self.assertTrue(all(room.listed is None for rooms in library._rooms.values() for room in rooms))
+        self.assertTrue(all(room.listed is None for rooms in library._workspaces.values() for room in rooms))
 
     def test_refined(self):
         """Where rounding doesn't show the best plan among allowed pairs, levels go on."""
         draw = drawing(175)
-        with mock.patch.object(_levels, "finer", side_effect=_levels.finer) as finer:
+        with mock.patch.object(levels, "finer", side_effect=levels.finer) as finer:
             for _ in range(40):
                 costs = _drawn(draw, "f8", "ties", "infinite", (4, 5))
                 self.both(costs, False)
@@ -176,7 +180,8 @@ class Listed(unittest.TestCase):
             if turn % 3 == 0:
                 rows, columns = map(list, zip(*sorted(zip(rows, columns)))) if count else ([], [])
             value = VALUES[draw.choice(list(VALUES))]
-            costs, maximize = [draw.choice([value(draw), 0.25, -0.0, 1e300 if turn % 5 == 0 else 1.0]) for _ in range(count)], turn % 2 == 0
+            costs, maximize = [draw.choice([value(draw), 0.25, -0.0, 1e300 if turn % 5 == 0 else 1.0])
+                               for _ in range(count)], turn % 2 == 0
             arrays = np.array(rows, draw.choice(["u1", "i8", "i4"])), np.array(columns, np.intp), np.array(costs)
             with self.subTest(rows=rows, columns=columns, costs=costs, maximize=maximize):
                 listed = nushbaret.solve_sparse(n, m, rows, columns, costs, maximize, partial=True)
@@ -193,7 +198,8 @@ class Listed(unittest.TestCase):
 
     def once_by_arrays(self, n, m, rows, columns, costs):
         kind = np.uint16
-        problem = _problem.once(_problem.Problem(n, m, False, costs, (rows + 1).astype(kind), (columns + 1).astype(kind), raw=True, numpy=np))
+        problem = _problem.once(_problem.Problem(n, m, False, costs, (rows + 1).astype(kind),
+                                                 (columns + 1).astype(kind), raw=True, numpy=np))
         return list(zip((problem.persons - 1).tolist(), (problem.objects - 1).tolist(), problem.costs.tolist()))
 
 
@@ -203,8 +209,8 @@ class Shortest(unittest.TestCase):
 
     def compare(self, floats):
         with np.errstate(all="ignore"):
-            np.testing.assert_array_equal(_printing.of_array(np, floats), floats.astype("U32").astype(float))
-            least_places = _printing.with_places(np, floats)[1]
+            np.testing.assert_array_equal(printing.of_array(np, floats), floats.astype("U32").astype(float))
+            least_places = printing.with_places(np, floats)[1]
         finite = [Decimal(str(cost)).normalize().as_tuple().exponent for cost in floats if np.isfinite(cost)]
         self.assertLessEqual(least_places, -min(finite, default=0) if least_places else 0)
 
@@ -216,12 +222,14 @@ class Shortest(unittest.TestCase):
     def test_of_32_bits(self):
         draw = drawing(176)
         powers = np.array([2.0**power for power in range(-149, 128)], np.float32)
-        self.compare(np.concatenate([powers, -powers, np.nextafter(powers, np.float32(0)), np.nextafter(powers, np.float32(np.inf))]))
+        self.compare(np.concatenate([powers, -powers, np.nextafter(powers, np.float32(0)),
+                                     np.nextafter(powers, np.float32(np.inf))]))
         with np.errstate(all="ignore"):
             self.compare(np.array([draw.getrandbits(32) for _ in range(20000)], np.uint32).view(np.float32))
         for count in 1, 64, 20000:
             self.compare(np.array([10**draw.uniform(-4.2, 7.4) for _ in range(count)], np.float32))
-            self.compare(np.array([draw.randint(-10**6, 10**6) / 10**draw.randint(0, 5) for _ in range(count)], np.float32))
+            self.compare(np.array([draw.randint(-10**6, 10**6) / 10**draw.randint(0, 5) for _ in range(count)],
+                                  np.float32))
             self.compare(np.array([draw.random() for _ in range(count)], np.float32))
 
 

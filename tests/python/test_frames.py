@@ -11,7 +11,8 @@ class Missing(unittest.TestCase):
     def test_nan(self):
         hint = 'nan at row 0, column 1: None or an infinite cost forbids a pair, and missing="forbid" takes nan so'
         costs = [[1, math.nan], [0, 3.5]]
-        forms = [costs, [[1, Decimal("nan")], [0, 3.5]]] + ([np.array(costs), np.array(costs, object), np.array(costs, np.float32)] if np else [])
+        forms = [costs, [[1, Decimal("nan")], [0, 3.5]]] + ([np.array(costs), np.array(costs, object),
+                                                             np.array(costs, np.float32)] if np else [])
         for form in forms:
             for call in nushbaret.solve, nushbaret.linear_sum_assignment, nushbaret.bottleneck:
                 with self.assertRaisesRegex(ValueError, hint):
@@ -20,7 +21,8 @@ class Missing(unittest.TestCase):
                 result = nushbaret.solve(form, missing="forbid", decimals=decimals)
                 self.assertEqual((list(result.columns), result.cost), ([0, 1], Decimal("4.5")))
             self.assertEqual(len(list(nushbaret.k_best(form, 9, missing="forbid"))), 1)
-        self.assertEqual(nushbaret.solve_sparse(2, 2, [0, 0, 1], [0, 1, 0], [1, 2, math.nan], partial=True, missing="forbid").cost, 1)
+        self.assertEqual(nushbaret.solve_sparse(2, 2, [0, 0, 1], [0, 1, 0], [1, 2, math.nan], partial=True,
+                                                missing="forbid").cost, 1)
         with self.assertRaisesRegex(ValueError, 'nan at costs\\[2\\] \\(row 1, column 0\\).*missing="forbid"'):
             nushbaret.solve_sparse(2, 2, [0, 0, 1], [0, 1, 0], [1, 2, math.nan])
 
@@ -42,12 +44,16 @@ class Frames(unittest.TestCase):
         self.assertEqual(as_frame.values.tolist(), [["Ada", "late", 1], ["Ben", "early", 2]])
         self.assertEqual(list(as_frame.columns), ["row", "column", "cost"])
         self.assertEqual(result.without(0, 1).pairs, [("Ada", "early"), ("Ben", "late")])
-        self.assertEqual(nushbaret.solve(self.frame([[4, 1, 9], [2, 3, 9]]).T).pairs, [("early", "Ben"), ("late", "Ada")])
+        self.assertEqual(nushbaret.solve(self.frame([[4, 1, 9], [2, 3, 9]]).T).pairs,
+                         [("early", "Ben"), ("late", "Ada")])
         self.assertTrue(result.verify(self.frame([[4, 1, 9], [2, 3, 9]])))
-        self.assertEqual([part.tolist() for part in nushbaret.linear_sum_assignment(self.frame([[4, 1, 9], [2, 3, 9]]))], [[0, 1], [1, 0]])
+        self.assertEqual([part.tolist() for part in nushbaret.linear_sum_assignment(self.frame([[4, 1, 9],
+                                                                                                [2, 3, 9]]))],
+                         [[0, 1], [1, 0]])
 
     def test_kinds(self):
-        for costs, wanted in (([[4.5, 1.25, 9], [2, 3, 9]], "3.25"), ([[4, None, 9], [2, 3, 1]], "5"), ([["4", 1, 9], [2, 3, 9]], None)):
+        for costs, wanted in (([[4.5, 1.25, 9], [2, 3, 9]], "3.25"), ([[4, None, 9], [2, 3, 1]], "5"),
+                              ([["4", 1, 9], [2, 3, 9]], None)):
             frame = self.frame(costs)
             if wanted is None:
                 with self.assertRaisesRegex(TypeError, "row Ada, column early is '4', which is no number"):

@@ -62,11 +62,13 @@ class Printed(Runs):
             with zipfile.ZipFile(pathlib.Path(folder) / build.build_wheel(folder)) as wheel:
                 wheel.extractall(folder)
             guide = pathlib.Path(folder) / "nushbaret" / "guide"
-            ran = subprocess.run([sys.executable, "-c", "import sys; sys.path.insert(0, sys.argv.pop(1)); from nushbaret.__main__ import main; main()",
-                                  folder, "--guide"], capture_output=True, text=True, cwd=folder)
+            ran = subprocess.run([sys.executable, "-c", "import sys; sys.path.insert(0, sys.argv.pop(1)); from "
+                                  "nushbaret.__main__ import main; main()", folder, "--guide"], capture_output=True,
+                                 text=True, cwd=folder)
             self.assertEqual((ran.returncode, ran.stderr), (0, ""))
             text = (guide / "rosters.txt").read_text(encoding="utf-8")
-            self.assertEqual(ran.stdout, text + f"\nThis guide as a page: {guide / 'rosters.html'}\nThe examples in it: {guide / 'examples'}\n")
+            self.assertEqual(ran.stdout, text + f"\nThis guide as a page: {guide / 'rosters.html'}\nThe examples in "
+                             f"it: {guide / 'examples'}\n")
             self.assertEqual(sorted(file.name for file in (guide / "examples").iterdir()), EXAMPLES)
             for name in EXAMPLES:
                 self.assertEqual((guide / "examples" / name).read_bytes(), (TOP / "examples" / name).read_bytes())
@@ -86,7 +88,7 @@ class Made(unittest.TestCase):
         self.assertNotRegex(self.text, r"\]\((?!#|https?:)")
         for named in re.findall(r"examples/[\w*.]+", self.text):
             self.assertTrue(list(TOP.glob(named)), named)
-        for page in ("no such line", self.page + self.page):
+        for page in ("no line of it", self.page + self.page):
             with self.assertRaisesRegex(SystemExit, "how the command is found in a checkout"):
                 self.guide.guide_text(page)
 
@@ -100,17 +102,20 @@ class Made(unittest.TestCase):
         plain = re.sub(r"\[([^][]+)\]\([^()]*\)", r"\1", self.text)
         self.assertEqual(words(shown.replace("|", " ")), words(plain.replace("|", " ")))
         code = [line[4:] for line in self.text.split("\n") if line.startswith("    ")]
-        self.assertEqual([line for block in reader.code for line in block.split("\n") if line], [line for line in code if line])
+        self.assertEqual([line for block in reader.code for line in block.split("\n") if line],
+                         [line for line in code if line])
         self.assertLessEqual({link[1:] for link in reader.links if link.startswith("#")}, reader.names)
 
     def test_blocks(self):
-        text = ("# A <b>\n\nSome `x < y` words\nin [two](#next-one) lines, **bold**:\n\n    $ a\n\n    b\n\n- one\n  more\n\n- `two`\n\n## Next one\n### Third\n\n"
-                "| a | `b` |\n|---|---|\n| c | |\n")
+        text = ("# A <b>\n\nSome `x < y` words\nin [two](#next-one) lines, **bold**:\n\n    $ a\n\n    b\n\n- one\n  "
+                "more\n\n- `two`\n\n## Next one\n### Third\n\n| a | `b` |\n|---|---|\n| c | |\n")
         body = self.guide.guide_page(text).partition("<body>\n")[2].partition("\n</body>")[0]
-        self.assertEqual(body, '<h1 id="a-b">A &lt;b&gt;</h1>\n<p>Some <code>x &lt; y</code> words in <a href="#next-one">two</a> lines, <b>bold</b>:</p>\n'
-                         "<pre>$ a\n\nb</pre>\n<ul>\n<li>one more</li>\n<li><code>two</code></li>\n</ul>\n"
-                         '<h2 id="next-one">Next one</h2>\n<h3 id="third">Third</h3>\n'
-                         "<table>\n<tr><th>a</th> <th><code>b</code></th></tr>\n<tr><td>c</td> <td></td></tr>\n</table>")
+        self.assertEqual(body, '<h1 id="a-b">A &lt;b&gt;</h1>\n<p>Some <code>x &lt; y</code> words in <a '
+                         'href="#next-one">two</a> lines, <b>bold</b>:</p>\n' "<pre>$ a\n\nb</pre>\n<ul>\n<li>one "
+                         "more</li>\n<li><code>two</code></li>\n</ul>\n" '<h2 id="next-one">Next one</h2>\n<h3 '
+                         'id="third">Third</h3>\n'
+                         "<table>\n<tr><th>a</th> <th><code>b</code></th></tr>\n<tr><td>c</td> "
+                         "<td></td></tr>\n</table>")
         for line in ("```", "1. one", "> said"):
             with self.assertRaisesRegex(SystemExit, "has what its guide can't show"):
                 self.guide.guide_page("# A\n\n" + line + "\n")

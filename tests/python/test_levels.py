@@ -1,4 +1,5 @@
-"""Costs of any size: plans, duals and verdicts are exact, compared with a slow search and a Hungarian method in fractions."""
+"""Costs of any size: plans, duals and verdicts are exact, compared with a slow search and a Hungarian method in
+fractions."""
 import os
 import subprocess
 import sys
@@ -8,7 +9,7 @@ from fractions import Fraction
 from unittest import mock
 
 import nushbaret
-from nushbaret import _duals, _levels, _pricing, _small, _ties
+from nushbaret.lap import duals, level as _level, levels, pricing, reduced, small, ties as _ties
 from drawn import KINDS, best, doubles, drawing, exactly, hungarian, proves
 from optional import np
 
@@ -35,7 +36,8 @@ class Small(unittest.TestCase):
             most, maximize = 6 if turn % 20 == 0 else 5, draw.random() < 0.5
             n_rows, n_columns = draw.randint(1, most), draw.randint(1, most)
             costs = doubles(draw, n_rows, n_columns, kind, draw.choice([1, 1, 0.8, 0.5]))
-            served = len(nushbaret.solve([[0 if cost is not None else None for cost in row] for row in costs], partial=True).rows)
+            served = len(nushbaret.solve([[0 if cost is not None else None for cost in row] for row in costs],
+                                         partial=True).rows)
             partial += served < min(n_rows, n_columns)
             for form in self.forms(costs, maximize):
                 with self.subTest(kind=kind, costs=form, maximize=maximize):
@@ -71,7 +73,8 @@ class Small(unittest.TestCase):
         draw, kinds = drawing(62), set()
         for turn in range(400):
             n_rows, n_columns, maximize = draw.randint(1, 4), draw.randint(1, 4), draw.random() < 0.5
-            costs = [[self.mixed(draw, cost) for cost in row] for row in doubles(draw, n_rows, n_columns, list(KINDS)[turn % len(KINDS)])]
+            costs = [[self.mixed(draw, cost) for cost in row]
+                     for row in doubles(draw, n_rows, n_columns, list(KINDS)[turn % len(KINDS)])]
             exact = exactly(costs, True)
             served = min(n_rows, n_columns)
             self.hold_solve(costs, exact, maximize, served)
@@ -88,7 +91,8 @@ class Small(unittest.TestCase):
 
     def mixed(self, draw, cost):
         exact = Fraction(Decimal(repr(cost)))
-        return draw.choice([cost, Decimal(repr(cost)), exact, exact * draw.randint(1, 5) / 7, draw.randint(-9, 9) * 10**draw.randint(0, 40)])
+        return draw.choice([cost, Decimal(repr(cost)), exact, exact * draw.randint(1, 5) / 7,
+                            draw.randint(-9, 9) * 10**draw.randint(0, 40)])
 
     def test_two_rows_beyond_all_units(self):
         for costs, wanted in (([[10**400, 10**400 + 1], [10**400, 10**400 + 2]], 2 * 10**400 + 1),
@@ -104,7 +108,8 @@ class Small(unittest.TestCase):
             costs = [[Decimal("0.12345678901234567890123456789012345"), 1e15], [123456789012345.6, 7]]
             result = nushbaret.solve(costs)
             self.assertEqual(str(result.cost), "7.12345678901234567890123456789012345")
-            self.assertEqual(str(nushbaret.compare(costs, [1, 0]).worse), "1123456789012338.47654321098765432109876543210987655")
+            self.assertEqual(str(nushbaret.compare(costs, [1, 0]).worse),
+                             "1123456789012338.47654321098765432109876543210987655")
             self.assertTrue(nushbaret.check(costs, result.columns, result.prices))
 
 
@@ -136,22 +141,26 @@ class OtherCalls(unittest.TestCase):
             if not len(result.rows):
                 continue
             wanted = self.all_plans(exact, sign, len(result.rows))
-            found = [self.pairs_of(plan, sign, n_rows, n_columns) for plan in nushbaret.k_best(form, 6, maximize, partial=True)]
+            found = [self.pairs_of(plan, sign, n_rows, n_columns)
+                     for plan in nushbaret.k_best(form, 6, maximize, partial=True)]
             self.assertEqual(found, wanted[:6])
             own = self.pairs_of(result, sign, n_rows, n_columns)
             others = [plan for plan in wanted if plan != own]
             other = result.next_best()
-            self.assertEqual(None if other is None else self.pairs_of(other, sign, n_rows, n_columns), others[0] if others else None)
+            self.assertEqual(None if other is None else self.pairs_of(other, sign, n_rows, n_columns),
+                             others[0] if others else None)
             self.assertEqual(result.is_unique, not others or others[0][0] != own[0])
             ties += not result.is_unique
             self.hold_bottleneck(form, exact, maximize, sign, wanted, n_columns)
             self.hold_without(result, exact, sign, wanted)
             columns = [None if column == n_columns else column for column in wanted[-1][1]]
-            self.assertEqual(Fraction(nushbaret.compare(form, columns, maximize=maximize).worse), wanted[-1][0] - wanted[0][0])
+            self.assertEqual(Fraction(nushbaret.compare(form, columns, maximize=maximize).worse),
+                             wanted[-1][0] - wanted[0][0])
         self.assertGreater(ties, 20)
 
     def test_counts(self):
-        """assign_counts finds the same plan cost for costs of any size: here those of a problem, times a number, and with more added."""
+        """assign_counts finds the same plan cost for costs of any size: here those of a problem, times a number, and
+        with more added."""
         draw = drawing(70)
         for turn in range(60):
             n_rows, n_columns, maximize = draw.randint(1, 4), draw.randint(1, 4), draw.random() < 0.5
@@ -159,9 +168,11 @@ class OtherCalls(unittest.TestCase):
             counts = ((0, 2), 1, None, maximize)
             plain = nushbaret.assign_counts(whole, *counts, partial=True)
             for times in 10**30, Fraction(1, 3), Decimal("1E-40"), "e200", "e-300":
-                scaled = [[float(f"{cost}{times}") if isinstance(times, str) else cost * times for cost in row] for row in whole]
+                scaled = [[float(f"{cost}{times}") if isinstance(times, str) else cost * times for cost in row]
+                          for row in whole]
                 result = nushbaret.assign_counts(scaled, *counts, partial=True)
-                self.assertEqual(Fraction(result.cost), plain.cost * Fraction(f"1{times}" if isinstance(times, str) else str(times)))
+                self.assertEqual(Fraction(result.cost),
+                                 plain.cost * Fraction(f"1{times}" if isinstance(times, str) else str(times)))
 
     def hold_bottleneck(self, form, exact, maximize, sign, wanted, n_columns):
         def worst(plan):
@@ -187,7 +198,8 @@ class OtherCalls(unittest.TestCase):
             n_rows, n_columns, maximize = draw.randint(1, 4), draw.randint(1, 4), draw.random() < 0.5
             costs = doubles(draw, n_rows, n_columns, list(KINDS)[turn % len(KINDS)])
             exact, result = exactly(costs, True), nushbaret.solve(costs, maximize)
-            prices = [Fraction(price) * draw.choice([1, 1, 1, 1 + Fraction(1, 10**draw.randint(3, 30))]) for price in result.prices]
+            prices = [Fraction(price) * draw.choice([1, 1, 1, 1 + Fraction(1, 10**draw.randint(3, 30))])
+                      for price in result.prices]
             columns = [None] * n_rows
             for row, column in result.pairs:
                 columns[row] = column
@@ -227,7 +239,8 @@ class Larger(unittest.TestCase):
             form = np.array(costs) if np and turn % 2 else costs
             with self.subTest(kind=kind, turn=turn):
                 exact = exactly(costs, False)
-                self.assertEqual(sum_of(exact, *nushbaret.linear_sum_assignment(form, maximize)), hungarian(exact, maximize))
+                self.assertEqual(sum_of(exact, *nushbaret.linear_sum_assignment(form, maximize)),
+                                 hungarian(exact, maximize))
                 if turn % 4 == 0:
                     exact, result = exactly(costs, True), nushbaret.solve(form, maximize)
                     self.assertEqual(Fraction(result.cost), hungarian(exact, maximize))
@@ -236,20 +249,24 @@ class Larger(unittest.TestCase):
 
     @unittest.skipUnless(np, "NumPy isn't there")
     def test_many_pairs_left(self):
-        """Where a great M hides all other costs from the first level, and where whole numbers and sums of doubles are used for the rest."""
+        """Where a great M hides all other costs from the first level, and where whole numbers and sums of doubles are
+        used for the rest."""
         rng = np.random.default_rng(66)
         for shape in (140, 140), (130, 150), (150, 130):
             for great in 1e9, 1e15, 1e40, 1e300:
                 costs = rng.random(shape)
                 costs[rng.random(shape) < 0.5] = great
-                for maximize, form in (False, costs), (True, -costs), (False, np.asfortranarray(costs)), (False, costs.tolist()):
+                for maximize, form in ((False, costs), (True, -costs), (False, np.asfortranarray(costs)),
+                                       (False, costs.tolist())):
                     rows, columns = nushbaret.linear_sum_assignment(form, maximize)
                     free = np.where(costs == great, np.inf, costs)
                     wanted = nushbaret.linear_sum_assignment(free)
-                    self.assertEqual(*(sum(map(Fraction, costs[pairs].tolist())) for pairs in ((rows, columns), wanted)))
+                    self.assertEqual(*(sum(map(Fraction, costs[pairs].tolist()))
+                                       for pairs in ((rows, columns), wanted)))
             whole = rng.integers(0, 10**6, shape)
             few = np.where(rng.random(shape) < 0.5, sys.maxsize, whole)
-            result, wanted = nushbaret.solve(few), nushbaret.solve_sparse(*shape, *np.nonzero(few < sys.maxsize), whole[few < sys.maxsize])
+            result, wanted = nushbaret.solve(few), nushbaret.solve_sparse(*shape, *np.nonzero(few < sys.maxsize),
+                                                                          whole[few < sys.maxsize])
             self.assertEqual((result.cost, type(result.cost)), (wanted.cost, int))
             self.assertTrue(result.verify())
             self.assertTrue(proves(few.tolist(), result, False))
@@ -266,15 +283,17 @@ class Larger(unittest.TestCase):
             exact = [list(map(Fraction, row)) for row in costs.tolist()]
             rows, columns = nushbaret.linear_sum_assignment(costs, maximize)
             shown = [list(map(float, row)) for row in costs.tolist()]
-            asked = _levels.solved(self.listed(shown, maximize), None, None)
+            asked = levels.solved_by_levels(self.listed(shown, maximize), None, None)
             person_columns = list(asked.objects)
-            pairs = list(enumerate(person_columns)) if shape[0] <= shape[1] else [(row, column) for column, row in enumerate(person_columns)]
+            pairs = (list(enumerate(person_columns)) if shape[0] <= shape[1]
+                     else [(row, column) for column, row in enumerate(person_columns)])
             other = [(row, column - 1) if shape[0] <= shape[1] else (row - 1, column) for row, column in pairs]
             self.assertEqual(sum_of(exact, rows, columns), sum_of(exact, *zip(*other)))
 
     def listed(self, costs, maximize):
-        from nushbaret._problem import Problem
-        return Problem(len(costs), len(costs[0]), maximize, [cost for row in costs for cost in row], raw=True, doubles=True)
+        from nushbaret.costs.problem import Problem
+        return Problem(len(costs), len(costs[0]), maximize, [cost for row in costs for cost in row], raw=True,
+                       doubles=True)
 
 
 @unittest.skipUnless(np, "NumPy isn't there")
@@ -283,14 +302,15 @@ class Priced(unittest.TestCase):
 
     def test_beside_hungarian(self):
         draw, rounds, whole = drawing(69), 0, 0
-        with mock.patch.object(_pricing, "LARGE", 1), mock.patch.object(_pricing, "CHEAPEST", 1), mock.patch.object(_pricing, "MOST_SHARE", 1), \
-                mock.patch.multiple(_small, SMALL=0, MOST_STEPS=0), \
+        with mock.patch.object(pricing, "LARGE", 1), mock.patch.object(pricing, "CHEAPEST", 1), \
+                mock.patch.object(pricing, "MOST_SHARE", 1), mock.patch.multiple(small, SMALL=0, MOST_STEPS=0), \
                 mock.patch.object(_ties, "of_problem", return_value=None):
             for turn in range(240):
                 kind = list(KINDS)[turn % len(KINDS)]
                 n_rows, maximize = draw.randint(2, 20), draw.random() < 0.5
                 costs = doubles(draw, n_rows, draw.choice([n_rows, n_rows + 4, max(n_rows // 2, 1)]), kind)
-                with mock.patch.object(_pricing._Matrix, "answer", autospec=True, side_effect=_pricing._Matrix.answer) as asked:
+                with mock.patch.object(pricing._Matrix, "answer", autospec=True,
+                                       side_effect=pricing._Matrix.answer) as asked:
                     rows, columns = nushbaret.linear_sum_assignment(np.array(costs), maximize)
                     result = nushbaret.solve(np.array(costs), maximize)
                 rounds += asked.call_count > 2
@@ -304,7 +324,8 @@ class Priced(unittest.TestCase):
         self.assertLess(whole, 120)
 
     def test_memory(self):
-        """A large matrix isn't copied: one of the least size that counts as large is solved within a share of its memory."""
+        """A large matrix isn't copied: one of the least size that counts as large is solved within a share of its
+        memory."""
         code = ("import resource, numpy as np, nushbaret\n"
                 "costs = np.random.default_rng(1).random((2048, 2048))\n"
                 "nushbaret.linear_sum_assignment(costs[:300, :300].copy())\n"
@@ -321,17 +342,17 @@ class Steps(unittest.TestCase):
     def test_which_pairs_go_out(self):
         """No pair of any best plan goes out at the first level."""
         draw, out = drawing(68), 0
-        from nushbaret._exact import manner
-        from nushbaret._problem import of_matrix
+        from nushbaret.costs.reading import manner
+        from nushbaret.costs.problem import of_matrix
         import itertools
         for turn in range(300):
             n_rows, n_columns = draw.randint(2, 4), draw.randint(2, 4)
             costs = doubles(draw, n_rows, n_columns, list(KINDS)[turn % len(KINDS)])
-            problem = _levels.prepared(of_matrix(costs, manner(False, doubles=True)))
+            problem = levels.prepared(of_matrix(costs, manner(False, doubles=True)))
             if not problem.raw:
                 continue
-            level = _levels.first_level(problem, None)
-            pairs = _levels.kept(level, level.asked.n + _ties.more(level.asked.n))
+            level = levels.first_level(problem, None)
+            pairs = reduced.kept(level, level.asked.n + _level.more(level.asked.n))
             left = set(zip(map(int, pairs.persons), map(int, pairs.objects)))
             exact = exactly(costs, False)
             exact = exact if n_rows <= n_columns else [list(column) for column in zip(*exact)]
@@ -346,7 +367,7 @@ class Steps(unittest.TestCase):
     def test_prices_that_settle(self):
         """Bounds between prices hold afterwards, and prices only fall."""
         prices = [0, 5, 9, 9]
-        _duals._settle(prices, [{}, {2: 1}, {3: -2}, {}])
+        duals._settle(prices, [{}, {2: 1}, {3: -2}, {}])
         self.assertEqual(prices, [0, 5, 6, 4])
 
 

@@ -1,19 +1,16 @@
-"""A month's changes: what comes and goes, the past, plans from elsewhere and names without a line, compared with searches through all plans."""
+"""A month's changes: what comes and goes, the past, plans from elsewhere and names without a line, compared with
+searches through all plans."""
 import json
-import pathlib
 import random
-import sys
 import unittest
-
-sys.path.insert(0, str(pathlib.Path(__file__).resolve().parents[2] / "python"))
 
 import drawn
 from test_command import TOP, Runs, Terminal, without_names
 from test_planners_counts import Drawn
 
-from nushbaret._past import groups_before
-from nushbaret._roster import Groups
-from nushbaret._sheets import RosterFault
+from nushbaret.roster.past import groups_before
+from nushbaret.roster.roster import Groups
+from nushbaret.roster.sheets import RosterFault
 
 CASES = 500
 
@@ -26,13 +23,16 @@ class Month(Runs):
 
     def words(self, case):
         title = "," + ",".join(f"o{number}" for number in range(len(case.objects)))
-        self.table("r.csv", title, [[f"p{number}", *("" if cost is None else cost for cost in row)] for number, row in enumerate(case.costs)])
+        self.table("r.csv", title, [[f"p{number}", *("" if cost is None else cost for cost in row)]
+                                    for number, row in enumerate(case.costs)])
         for name, letter, those in (("t.csv", "p", case.persons), ("s.csv", "o", case.objects)):
             self.table(name, "name,least,most" if case.ranges else "name,count",
-                       [[f"{letter}{number}", *(bound if case.ranges else bound[1:])] for number, bound in enumerate(those)])
+                       [[f"{letter}{number}", *(bound if case.ranges else bound[1:])]
+                        for number, bound in enumerate(those)])
         words = ["r.csv", "--matrix", "--tasks", "t.csv", "--places", "s.csv", "--output", "p.json", "--force"]
         if case.groups:
-            self.table("g.csv", "object,day", [[f"o{object_}", f"g{number}"] for number, group in enumerate(case.groups) for object_ in group])
+            self.table("g.csv", "object,day", [[f"o{object_}", f"g{number}"] for number, group in enumerate(case.groups)
+                                               for object_ in group])
             words += ["--groups", "g.csv"]
         return words + ["--max"] * case.maximize
 
@@ -46,7 +46,8 @@ def numbers(pairs):
 
 
 def drawn_pairs(draw, case, share):
-    return {(person, object_) for person in range(len(case.persons)) for object_ in range(len(case.objects)) if draw.random() < share}
+    return {(person, object_) for person in range(len(case.persons)) for object_ in range(len(case.objects))
+            if draw.random() < share}
 
 
 class Changed(Runs):
@@ -61,18 +62,23 @@ class Changed(Runs):
         self.rules = ("r.csv", "--places", "p.csv", "--tasks", "t.csv", "--keep", "old.csv")
 
     def test_who_loses_a_shift(self):
-        status, out, err = self.run_words(*self.rules, "--output", "p.json", "--output", "new.csv", "--output", "p.html")
+        status, out, err = self.run_words(*self.rules, "--output", "p.json", "--output", "new.csv", "--output",
+                                          "p.html")
         self.assertEqual((status, err, out.splitlines()[0]), (0, "", "least cost: 4"))
         self.assertTrue(out.endswith("old.csv: 1 pair goes\n  Ada: Tue 1 goes\n"))
-        self.assertEqual(json.loads(self.read("p.json"))["keep"]["changes"], [{"person": "Ada", "goes": ["Tue 1"], "comes": []}])
-        self.assertEqual(self.read("new.csv"), "nurse,shift,cost,change\nAda,Mon 1,1,\nAda,Tue 1,,goes\nBen,Tue 1,1,\nBen,Mon 2,2,\n")
+        self.assertEqual(json.loads(self.read("p.json"))["keep"]["changes"],
+                         [{"person": "Ada", "goes": ["Tue 1"], "comes": []}])
+        self.assertEqual(self.read("new.csv"), "nurse,shift,cost,change\nAda,Mon 1,1,\nAda,Tue 1,,goes\nBen,Tue "
+                         "1,1,\nBen,Mon 2,2,\n")
         self.assertIn("<p>old.csv: 1 pair goes</p>\n<ul>\n<li>Ada: Tue 1 goes</li>", without_names(self.read("p.html")))
         for plan in ("new.csv", "p.json"):
             self.assertIn(f"{plan}: no pair changes", self.run_words(*self.rules[:-1], plan)[1])
 
     def test_a_lost_shift_costs_half_a_change(self):
-        for cost, least, change in (("1", "4", "1 pair goes"), ("2.1", "5.0", "no pair changes"), ("5", "5", "no pair changes")):
-            status, out, _ = self.run_words(*self.rules, "--change-cost", cost, *(("--decimals", "1") if "." in cost else ()))
+        for cost, least, change in (("1", "4", "1 pair goes"), ("2.1", "5.0", "no pair changes"),
+                                    ("5", "5", "no pair changes")):
+            status, out, _ = self.run_words(*self.rules, "--change-cost", cost,
+                                            *(("--decimals", "1") if "." in cost else ()))
             self.assertEqual((status, out.splitlines()[0]), (0, f"least cost: {least}"))
             self.assertIn(f"old.csv: {change}\n", out)
 
@@ -82,18 +88,21 @@ class Changed(Runs):
         self.file("p.csv", "shift,at least,at most\nMon 1,1,1\n")
         self.file("t.csv", "nurse,at least,at most\nAda,0,1\nBen,0,1\n")
         self.file("old.csv", "nurse,shift\nAda,Mon 1\n")
-        self.assertIn("old.csv: 1 pair comes, 1 goes\n  Ada: Mon 1 goes\n  Ben: Mon 1 comes\n", self.run_words(*self.rules, "--change-cost", "1")[1])
+        self.assertIn("old.csv: 1 pair comes, 1 goes\n  Ada: Mon 1 goes\n  Ben: Mon 1 comes\n",
+                      self.run_words(*self.rules, "--change-cost", "1")[1])
         self.assertIn("old.csv: no pair changes\n", self.run_words(*self.rules, "--change-cost", "3")[1])
 
     def test_what_is_not_possible_now(self):
         self.file("r.csv", "nurse,shift,cost\nAda,Mon 1,1\nBen,Mon 2,2\nBen,Tue 1,1\nCleo,Mon 1,9\n")
         self.file("t.csv", "nurse,at least,at most\nAda,1,2\nBen,2,2\nCleo,0,0\n")
-        self.file("old.csv", "nurse,shift\nAda,Mon 1\nAda,Tue 1\nBen,Mon 2\nBen,Tue 1\nCleo,Mon 1\nDan,Mon 1\nAda,Wed\n")
+        self.file("old.csv", "nurse,shift\nAda,Mon 1\nAda,Tue 1\nBen,Mon 2\nBen,Tue 1\nCleo,Mon 1\nDan,Mon "
+                  "1\nAda,Wed\n")
         status, out, err = self.run_words(*self.rules, "--output", "p.json", "--output", "new.csv")
-        self.assertEqual((status, err), (0, "old.csv: the roster has no Dan (did you mean Ada?), Wed\n".replace(" (did you mean Ada?)", "")))
-        self.assertTrue(out.endswith(
-            "old.csv: no pair changes\n  Ada: Tue 1 not possible now (forbidden)\n  Cleo: Mon 1 not possible now (takes none)\n"
-            "  Dan: Mon 1 not possible now (gone)\n  Ada: Wed not possible now (gone)\n"))
+        self.assertEqual((status, err), (0, "old.csv: the roster has no Dan (did you mean Ada?), "
+                                         "Wed\n".replace(" (did you mean Ada?)", "")))
+        self.assertTrue(out.endswith("old.csv: no pair changes\n  Ada: Tue 1 not possible now (forbidden)\n  Cleo: Mon "
+                                     "1 not possible now (takes none)\n  Dan: Mon 1 not possible now (gone)\n  Ada: "
+                                     "Wed not possible now (gone)\n"))
         self.assertEqual([lost["why"] for lost in json.loads(self.read("p.json"))["keep"]["not_possible"]],
                          ["forbidden", "takes none", "gone", "gone"])
         self.assertIn("\nAda,Tue 1,,not possible\n", self.read("new.csv"))
@@ -118,16 +127,18 @@ class ChangesBesideAllPlans(Month):
             self.table("k.csv", "a,b", sorted((f"p{person}", f"o{object_}") for person, object_ in kept))
             if not kept:
                 continue
-            words = self.words(case) + ["--keep", "k.csv", "--as-many-as-can"] + (["--change-cost", str(change)] if change else [])
+            words = self.words(case) + ["--keep", "k.csv",
+                                        "--as-many-as-can"] + (["--change-cost", str(change)] if change else [])
             with self.subTest(case=number):
                 status, out, err = self.run_words(*words)
                 self.assertIn(status, (0, 1), err)
                 pairs, keep = numbers(self.plan()["pairs"]), self.plan()["keep"]
                 lost = numbers(keep["not_possible"])
-                self.assertEqual({pair for pair in kept if pair not in case.pairs() or not case.persons[pair[0]][1] or not case.objects[pair[1]][1]},
-                                 lost)
+                self.assertEqual({pair for pair in kept if pair not in case.pairs() or not case.persons[pair[0]][1]
+                                  or not case.objects[pair[1]][1]}, lost)
                 for word, those in (("comes", pairs - kept), ("goes", kept - pairs - lost)):
-                    self.assertEqual({(int(own["person"][1:]), int(object_[1:])) for own in keep["changes"] for object_ in own[word]}, those)
+                    self.assertEqual({(int(own["person"][1:]), int(object_[1:])) for own in keep["changes"]
+                                      for object_ in own[word]}, those)
                 possible = kept - lost
 
                 def judged(missed, cost, plan):
@@ -149,13 +160,15 @@ class Past(Month):
         places = [0 if number in objects else bound[1] for number, bound in enumerate(case.objects)]
         if case.ranges:
             rows = [(max(bound[0] - count, 0), own) for bound, count, own in zip(case.persons, had, most)]
-            columns = [(0 if number in objects else bound[0], own) for (number, bound), own in zip(enumerate(case.objects), places)]
+            columns = [(0 if number in objects else bound[0], own)
+                       for (number, bound), own in zip(enumerate(case.objects), places)]
         else:
             persons_first = sum(most) <= sum(places)
             rows = [(own if persons_first else 0, own) for own in most]
             columns = [(0 if persons_first else own, own) for own in places]
         sign = -1 if case.maximize else 1
-        costs = [[None if cost is None or number in objects else sign * cost for number, cost in enumerate(row)] for row in case.costs]
+        costs = [[None if cost is None or number in objects else sign * cost for number, cost in enumerate(row)]
+                 for row in case.costs]
         return costs, rows, columns
 
     def test_beside_all_plans(self):
@@ -167,7 +180,8 @@ class Past(Month):
             kept, change, before = drawn_pairs(draw, case, 0.4), draw.choice((None, 1, 3)), draw.choice((0, 1, 1, 1))
             objects = {object_ for group in case.groups[:before] for object_ in group}
             file_costs = {pair: draw.choice((0, 1, 5, "")) for pair in sorted(kept)}
-            self.table("k.csv", "a,b,c", [(f"p{person}", f"o{object_}", cost) for (person, object_), cost in file_costs.items()])
+            self.table("k.csv", "a,b,c", [(f"p{person}", f"o{object_}", cost)
+                                          for (person, object_), cost in file_costs.items()])
             if not kept:
                 continue
             words = self.words(case) + ["--keep", "k.csv", "--past", f"g{before}", "--as-many-as-can"]
@@ -191,11 +205,15 @@ class Past(Month):
                 self.assertEqual(judged(*found), min(judged(*those) for those in plans))
                 self.assertEqual(plan["cost"], str(worth + (-found[1] if case.maximize else found[1])))
                 self.assertEqual((status, bool(plan.get("short"))), (int(found[0] > 0), found[0] > 0))
-                passing = [person for person in range(len(case.persons)) if sum(own[0] == person for own in past) > case.persons[person][1]]
-                self.assertEqual([person for person in range(len(case.persons)) if f"k.csv: p{person} has " in err], passing)
+                passing = [person for person in range(len(case.persons))
+                           if sum(own[0] == person for own in past) > case.persons[person][1]]
+                self.assertEqual([person for person in range(len(case.persons)) if f"k.csv: p{person} has " in err],
+                                 passing)
                 refused = {person for person, object_ in past if (person, object_) not in case.pairs()}
-                self.assertEqual({person for person in range(len(case.persons)) if f"p{person} keeps what the roster doesn't allow" in err}, refused)
-            passed, forbidden, missed_some = passed + bool(passing), forbidden + bool(refused), missed_some + (found[0] > 0)
+                self.assertEqual({person for person in range(len(case.persons))
+                                  if f"p{person} keeps what the roster doesn't allow" in err}, refused)
+            passed, forbidden, missed_some = (passed + bool(passing), forbidden + bool(refused),
+                                              missed_some + (found[0] > 0))
         self.assertGreater(min(passed, forbidden, missed_some), 50)
 
     def week(self):
@@ -207,50 +225,61 @@ class Past(Month):
     def test_sick_from_wednesday(self):
         self.week()
         self.file("sick.csv", self.read("week_tasks.csv").replace("Ben,2,3", "Ben,0,0"))
-        status, out, err = self.run_words(*self.words_of_week, "--tasks", "sick.csv", "--keep", "plan.csv", "--past", "Wed")
-        self.assertEqual((status, err), (0, "plan.csv: 4 pairs of 2 days before Wed (Mon, Tue) stay\n"
-                                         "plan.csv: Ben has 1 shift in the past, more than the most of 0: 1 is the most\n"))
+        status, out, err = self.run_words(*self.words_of_week, "--tasks", "sick.csv", "--keep", "plan.csv", "--past",
+                                          "Wed")
+        self.assertEqual((status, err), (0, "plan.csv: 4 pairs of 2 days before Wed (Mon, Tue) stay\nplan.csv: Ben has "
+                                         "1 shift in the past, more than the most of 0: 1 is the most\n"))
         self.assertIn("\nBen: night Tue, 1 (past)\n", out)
-        self.assertTrue(out.endswith("plan.csv: 1 pair comes\n  Eve: night Wed comes\n  Ben: night Wed not possible now (takes none)\n"))
+        self.assertTrue(out.endswith("plan.csv: 1 pair comes\n  Eve: night Wed comes\n  Ben: night Wed not possible "
+                                     "now (takes none)\n"))
 
     def test_gone_from_the_roster(self):
         self.week()
-        self.file("week.csv", "".join(line for line in self.read("week.csv").splitlines(True) if not line.startswith("Ben,")))
+        self.file("week.csv", "".join(line for line in self.read("week.csv").splitlines(True)
+                                      if not line.startswith("Ben,")))
         self.file("t.csv", self.read("week_tasks.csv").replace("Ben,2,3\n", ""))
         self.file("plan.csv", self.read("plan.csv").replace("Ben,night Tue,1", "Ben,night Tue,7"))
         words = (*self.words_of_week, "--tasks", "t.csv", "--keep", "plan.csv", "--past", "Wed")
         status, out, err = self.run_words(*words, "--output", "p.json", "--output", "new.csv", "--html", "p.html")
-        self.assertEqual((status, err), (0, "plan.csv: 4 pairs of 2 days before Wed (Mon, Tue) stay\n"
-                                         "plan.csv: Ben keeps what the roster doesn't allow now: night Tue, 7\nplan.csv: the roster has no Ben\n"))
+        self.assertEqual((status, err), (0, "plan.csv: 4 pairs of 2 days before Wed (Mon, Tue) stay\nplan.csv: Ben "
+                                         "keeps what the roster doesn't allow now: night Tue, 7\nplan.csv: the roster "
+                                         "has no Ben\n"))
         self.assertIn("\nBen: night Tue, 7 (past)\n", out)
-        self.assertTrue(out.endswith("plan.csv: 1 pair comes\n  Eve: night Wed comes\n  Ben: night Wed not possible now (gone)\n"))
+        self.assertTrue(out.endswith("plan.csv: 1 pair comes\n  Eve: night Wed comes\n  Ben: night Wed not possible "
+                                     "now (gone)\n"))
         self.assertIn("Ben,night Tue,7,\n", self.read("new.csv"))
-        self.assertEqual([pair["cost"] for pair in json.loads(self.read("p.json"))["pairs"] if pair["person"] == "Ben"], ["7"])
+        self.assertEqual([pair["cost"] for pair in json.loads(self.read("p.json"))["pairs"] if pair["person"] == "Ben"],
+                         ["7"])
         for again in ("p.json", "new.csv"):
             self.assertIn("no pair changes", self.run_words(*words[:-3], again, "--past", "Wed")[1])
 
     def test_fixed_pairs_and_the_past(self):
         self.week()
-        words = (*self.words_of_week, "--tasks", "week_tasks.csv", "--keep", "plan.csv", "--past", "Wed", "--fixed", "f.csv")
+        words = (*self.words_of_week, "--tasks", "week_tasks.csv", "--keep", "plan.csv", "--past", "Wed", "--fixed",
+                 "f.csv")
         self.file("f.csv", "a,b\nDan,day Tue\nAda,day Sat\n")
         self.assertIn("day Sat, 9 (fixed)", self.run_words(*words)[1])
-        for content, text in (("Ada,day Tue\n", "f.csv, line 2: Ada, day Tue is in the past, where the kept plan doesn't have it"),
-                              ("Dan,day Wed\nDan,day Thu\nDan,day Fri\n",
-                               "f.csv, line 4: with Dan, day Fri Dan has 4, also counting the past, where 3 is the most")):
+        for content, text in (("Ada,day Tue\n", "f.csv, line 2: Ada, day Tue is in the past, where the kept plan "
+                               "doesn't have it"), ("Dan,day Wed\nDan,day Thu\nDan,day Fri\n",
+                                                    "f.csv, line 4: with Dan, day Fri Dan has 4, also counting the "
+                                                    "past, where 3 is the most")):
             self.file("f.csv", "a,b\n" + content)
             self.refused(3, text, *words)
 
     def test_short_around_the_past(self):
         self.week()
-        self.file("t.csv", self.read("week_tasks.csv").replace("Ben,2,3", "Ben,0,0").replace("Eve,2,3", "Eve,0,0").replace("Dan,2,3", "Dan,0,0"))
+        tasks = self.read("week_tasks.csv").replace("Ben,2,3", "Ben,0,0").replace("Eve,2,3", "Eve,0,0")
+        self.file("t.csv", tasks.replace("Dan,2,3", "Dan,0,0"))
         words = (*self.words_of_week, "--tasks", "t.csv", "--keep", "plan.csv", "--past", "Wed")
         self.assertTrue(self.run_words(*words)[1].startswith("around the past, "))
         self.file("f.csv", "a,b\nAda,day Sat\n")
-        self.assertTrue(self.run_words(*words, "--fixed", "f.csv")[1].startswith("around the past and the fixed pairs, "))
+        self.assertTrue(self.run_words(*words, "--fixed",
+                                       "f.csv")[1].startswith("around the past and the fixed pairs, "))
 
     def test_which_groups_are_before(self):
         for names, group, wanted in ((["Tue", "Mon", "Wed"], "Wed", ["Tue", "Mon"]), (["Tue", "Mon", "Wed"], "Tue", []),
-                                     (["2027-03-02", "2027-03-10", "2027-03-01"], "2027-03-10", ["2027-03-02", "2027-03-01"]),
+                                     (["2027-03-02", "2027-03-10", "2027-03-01"], "2027-03-10",
+                                      ["2027-03-02", "2027-03-01"]),
                                      (["01.03.2027", "28.02.2027", "02.03.2027"], "2027-03-01", ["28.02.2027"]),
                                      (["01.03.2027", "03.03.2027"], "02.03.2027", ["01.03.2027"]),
                                      (["Mo 01.03.2027", "So 28.02."], "Mo 01.03.", ["So 28.02."])):
@@ -263,15 +292,17 @@ class Past(Month):
         self.file("r.csv", "nurse,shift,hours\nAda,Mon,1.5\nBen,Tue,2\nAda,Tue,3\n")
         self.file("g.csv", "shift,day\nMon,1\nTue,2\n")
         words = ("r.csv", "--groups", "g.csv", "--keep", "k.csv", "--past", "2")
-        for title, cost, shown in (("nurse,shift,hours", "2.5", "2.5"), ("nurse,shift,hours", "", "0.0"), ("nurse,shift,hours", "off", "0.0"),
-                                   ("nurse,shift,day", "1", "0.0"), ("nurse,shift,hours", "1e1", "10.0")):
+        for title, cost, shown in (("nurse,shift,hours", "2.5", "2.5"), ("nurse,shift,hours", "", "0.0"),
+                                   ("nurse,shift,hours", "off", "0.0"), ("nurse,shift,day", "1", "0.0"),
+                                   ("nurse,shift,hours", "1e1", "10.0")):
             self.file("k.csv", f"{title}\nBen,Mon,{cost}\n")
             with self.subTest(title=title, cost=cost):
                 status, out, err = self.run_words(*words)
                 self.assertIn(f"k.csv: Ben keeps what the roster doesn't allow now: Mon, {shown}\n", err)
                 self.assertIn(f"Ben: Mon, {shown} (past)\n", out)
         self.file("k.csv", "nurse,shift,hours\nBen,Mon,2.25\n")
-        self.refused(3, "k.csv, line 2, column 3: '2.25' has more than 1 decimal places: --decimals 2 allows it", *words)
+        self.refused(3, "k.csv, line 2, column 3: '2.25' has more than 1 decimal places: --decimals 2 allows it",
+                     *words)
         self.assertIn("Ben: Mon, 2.25 (past)", self.run_words(*words, "--decimals", "2")[1])
         self.assertIn("Ben: Mon, 2.2 (past)", self.run_words(*words, "--round", "1")[1])
         self.file("k.csv", 'nurse,shift,hours\nBen,Mon,"2,5"\n')
@@ -287,22 +318,26 @@ class Past(Month):
 
 class Compared(Month):
     def broken(self, case, named, repeated):
-        """The rules that a plan breaks, by kind and names. Where single numbers of both sides have one sum, both must have all."""
+        """The rules that a plan breaks, by kind and names. Where single numbers of both sides have one sum, both must
+        have all."""
         sums = [sum(most for _, most in those) for those in (case.persons, case.objects)]
         bounds = [[(bound[0] if case.ranges else bound[1] if own <= other else 0, bound[1]) for bound in those]
                   for those, own, other in ((case.persons, *sums), (case.objects, *sums[::-1]))]
         pairs = [pair for pair in named if pair[0] < len(case.persons) and pair[1] < len(case.objects)]
         own_groups = {object_: number for number, group in enumerate(case.groups) for object_ in group}
-        found = [("unlisted", f"p{person}", f"o{object_}") for person, object_ in named if (person, object_) not in case.pairs()]
+        found = [("unlisted", f"p{person}", f"o{object_}") for person, object_ in named
+                 if (person, object_) not in case.pairs()]
         found += [("repeated", f"p{person}", f"o{object_}") for person, object_ in repeated]
         for person in range(len(case.persons)):
             days = [own_groups[object_] for those, object_ in pairs if those == person and object_ in own_groups]
-            found += [("group", f"p{person}", *(f"o{object_}" for those, object_ in sorted(pairs) if those == person and own_groups.get(object_) == day))
-                      for day in sorted(set(days)) if days.count(day) > 1]
+            found += [("group", f"p{person}", *(f"o{object_}" for those, object_ in sorted(pairs) if those == person
+                                                and own_groups.get(object_) == day)) for day in sorted(set(days))
+                      if days.count(day) > 1]
         for side, letter in enumerate("po"):
             for number, (least, _) in enumerate(bounds[side]):
                 count, most = sum(pair[side] == number for pair in pairs), (case.persons, case.objects)[side][number][1]
-                found += [("most", f"{letter}{number}")] * (count > most) + [("least", f"{letter}{number}")] * (count < least)
+                found += [("most", f"{letter}{number}")] * (count > most) + [("least",
+                                                                              f"{letter}{number}")] * (count < least)
         return sorted(found)
 
     def test_beside_a_search(self):
@@ -312,7 +347,8 @@ class Compared(Month):
             words, plans = self.words(case) + ["--as-many-as-can", "--compare", "h.csv"], case.plans()
             best = min(plan[:2] for plan in plans)
             full = [plan for plan in plans if plan[0] == best[0]]
-            named = sorted(drawn_pairs(draw, case, draw.choice((0.2, 0.5)))) if draw.random() < 0.4 else sorted(draw.choice(full)[2])
+            named = (sorted(drawn_pairs(draw, case, draw.choice((0.2, 0.5)))) if draw.random() < 0.4
+                     else sorted(draw.choice(full)[2]))
             named += [(len(case.persons), 0)] * (draw.random() < 0.1)
             if not named:
                 continue
@@ -322,11 +358,13 @@ class Compared(Month):
                 status, out, err = self.run_words(*words)
                 self.assertEqual(status, int(best[0] > 0))
                 found, wanted = self.plan()["compare"], self.broken(case, named, repeated)
-                self.assertEqual(sorted((broken["rule"], *broken["persons"], *broken["objects"]) for broken in found["broken"]), wanted)
+                self.assertEqual(sorted((broken["rule"], *broken["persons"], *broken["objects"])
+                                        for broken in found["broken"]), wanted)
                 lines = out.splitlines()
                 if wanted:
                     first = lines.index(f"h.csv: breaks {len(wanted)} rule{'s' * (len(wanted) > 1)}")
-                    self.assertEqual(lines[first + 1:first + 1 + len(wanted)], ["  " + broken["sentence"] for broken in found["broken"]])
+                    self.assertEqual(lines[first + 1:first + 1 + len(wanted)],
+                                     ["  " + broken["sentence"] for broken in found["broken"]])
                     self.assertTrue(lines[first + 1 + len(wanted)].startswith("h.csv: "))
                 known = [pair for pair in named if pair in case.pairs()]
                 cost = sum(case.pairs()[pair] for pair in known)
@@ -343,21 +381,24 @@ class Compared(Month):
         words = ("week.csv", "--places", "week_places.csv", "--groups", "week_days.csv", "--tasks", "week_tasks.csv")
         self.run_words(*words, "--output", "plan.csv")
         lines = [line for line in self.read("plan.csv").splitlines(True) if line != "Finn,night Sun,6\n"]
-        self.file("hand.csv", "".join(lines) + "Ada,day Mon,1\nAda,day Tue,5\nAda,night Thu,8\nEve,day Mon,6\nEve,day Mon,6\nZoe,day Mon,1\n")
+        self.file("hand.csv", "".join(lines) + "Ada,day Mon,1\nAda,day Tue,5\nAda,night Thu,8\nEve,day Mon,6\nEve,day "
+                  "Mon,6\nZoe,day Mon,1\n")
         status, out, err = self.run_words(*words, "--compare", "hand.csv")
         self.assertEqual((status, err), (0, "hand.csv: the roster has no Zoe\n"))
-        self.assertEqual(out[out.index("hand.csv"):],
-                         "hand.csv: breaks 9 rules\n  Ada, day Mon: the roster forbids this pair\n  Zoe, day Mon: the roster has no Zoe\n"
-                         "  Eve, day Mon: 2 times, in lines 18 and 19\n  Ada: day Thu, night Thu, 2 of day Thu\n  Eve: day Mon, night Mon, 2 of day Mon\n"
-                         "  Ada: 5 shifts, at most 3\n  day Mon: 3 nurses, at most 2\n  night Thu: 2 nurses, at most 1\n  night Sun: no nurse, at least 1\n"
-                         "hand.csv: 46 for 16 pairs that the roster allows, 13 more than the best, which breaks none\n  there Ada: day Tue, 5\n"
-                         "  there Ada: night Thu, 8\n  there Eve: day Mon, 6\n")
+        self.assertEqual(out[out.index("hand.csv"):], "hand.csv: breaks 9 rules\n  Ada, day Mon: the roster forbids "
+                         "this pair\n  Zoe, day Mon: the roster has no Zoe\n  Eve, day Mon: 2 times, in lines 18 and "
+                         "19\n  Ada: day Thu, night Thu, 2 of day Thu\n  Eve: day Mon, night Mon, 2 of day Mon\n  Ada: "
+                         "5 shifts, at most 3\n  day Mon: 3 nurses, at most 2\n  night Thu: 2 nurses, at most 1\n  "
+                         "night Sun: no nurse, at least 1\nhand.csv: 46 for 16 pairs that the roster allows, 13 more "
+                         "than the best, which breaks none\n  there Ada: day Tue, 5\n  there Ada: night Thu, 8\n  "
+                         "there Eve: day Mon, 6\n")
 
     def test_without_a_plan(self):
         self.file("r.csv", ",x,y\nAda,1,\nBen,2,\n")
         self.file("h.csv", "a,b\nAda,x\nBen,x\n")
         status, out, _ = self.run_words("r.csv", "--compare", "h.csv", "--output", "p.json")
-        self.assertEqual((status, out.splitlines()[1:]), (1, ["h.csv: breaks 2 rules", "  x: 2 people, at most 1", "  y: no person, at least 1"]), out)
+        self.assertEqual((status, out.splitlines()[1:]),
+                         (1, ["h.csv: breaks 2 rules", "  x: 2 people, at most 1", "  y: no person, at least 1"]), out)
         self.assertEqual([broken["rule"] for broken in self.plan()["compare"]["broken"]], ["most", "least"])
 
     def test_the_past_of_a_hand_plan(self):
@@ -366,7 +407,8 @@ class Compared(Month):
         self.file("k.csv", "a,b\nBen,x\n")
         self.file("h.csv", "a,b\nAda,x\nBen,y\n")
         _, out, _ = self.run_words("r.csv", "--groups", "g.csv", "--keep", "k.csv", "--past", "2", "--compare", "h.csv")
-        self.assertIn("h.csv: breaks 2 rules\n  Ada, x: the past doesn't have this pair\n  Ben, x: the past pair is missing\n", out)
+        self.assertIn("h.csv: breaks 2 rules\n  Ada, x: the past doesn't have this pair\n  Ben, x: the past pair is "
+                      "missing\n", out)
 
 
 class Forgotten(Month):
@@ -385,18 +427,21 @@ class Forgotten(Month):
                     those[name] = (0, 1) if side == 0 and name in left[side] else (1, 1) if name in left[side] else (
                         0 if empty == "least" else least, max(other, least) if empty == "most" else most)
                     if name not in left[side]:
-                        lines[side].append([f"{letter}{name}", "" if empty == "least" else least, "" if empty == "most" else most])
+                        lines[side].append([f"{letter}{name}", "" if empty == "least" else least,
+                                            "" if empty == "most" else most])
             if not all(lines):
                 continue
             for name, those in zip(("t.csv", "s.csv"), lines):
                 self.table(name, "name,least,most", those)
             with self.subTest(case=number):
                 status, out, err = self.run_words(*words, "--as-many-as-can")
-                said = [(f"{name}: no line for ", [f"{letter}{n}" for n in those], bound) for name, letter, those, bound in (
-                    ("s.csv", "o", left[1], "exactly one"), ("t.csv", "p", left[0], "at most one")) if those]
+                said = [(f"{name}: no line for ", [f"{letter}{n}" for n in those], bound)
+                        for name, letter, those, bound in (("s.csv", "o", left[1], "exactly one"),
+                                                           ("t.csv", "p", left[0], "at most one")) if those]
                 self.assertEqual(len(err.splitlines()), len(said))
                 for line, (begin, names, bound) in zip(err.splitlines(), said):
-                    self.assertTrue(line.startswith(begin) and f"({', '.join(names)})" in line and line.endswith("takes " + bound), line)
+                    self.assertTrue(line.startswith(begin) and f"({', '.join(names)})" in line
+                                    and line.endswith("takes " + bound), line)
                 missed, cost = min(plan[:2] for plan in case.plans())
                 plan = self.plan()
                 self.assertEqual((status, plan["cost"]), (int(missed > 0), str(-cost if case.maximize else cost)))
@@ -411,8 +456,8 @@ class Forgotten(Month):
     def test_a_night_with_nobody(self):
         self.file("p.csv", "shift,at least,at most\nMon,1,1\n")
         self.file("t.csv", "nurse,at least,at most\nAda,0,3\nBen,0,3\n")
-        self.expect(0, "least hours: 13\nAda (2): Mon, 1; Tue, 3\nBen: Wed, 9\n", "p.csv: no line for 2 shifts (Tue, Wed): each takes exactly one\n",
-                    "r.csv", "--places", "p.csv", "--tasks", "t.csv")
+        self.expect(0, "least hours: 13\nAda (2): Mon, 1; Tue, 3\nBen: Wed, 9\n", "p.csv: no line for 2 shifts (Tue, "
+                    "Wed): each takes exactly one\n", "r.csv", "--places", "p.csv", "--tasks", "t.csv")
         self.expect(0, "least hours: 13\nAda (2): Mon, 1; Tue, 3\nBen: Wed, 9\n", "", "r.csv", "--tasks", "t.csv")
         self.file("t.csv", "nurse,at least,at most\nAda,0,3\n")
         status, out, err = self.run_words("r.csv", "--tasks", "t.csv")
@@ -423,9 +468,11 @@ class Forgotten(Month):
         self.file("t.csv", "nurse,at least,at most\nAda,,2\nBen,,2\n")
         for line, mon in (("Mon,2", 2), ("Mon,2,", 2), ("Mon,,2", 1), ("Mon,1,", 1), ("Mon,0,0", 0)):
             self.file("p.csv", f"shift,at least,at most\n{line}\nTue,,\nWed,,1\n".replace("Tue,,\n", "Tue,0,1\n"))
-            _, out, _ = self.run_words("r.csv", "--places", "p.csv", "--tasks", "t.csv", "--output", "p.json", "--force")
+            _, out, _ = self.run_words("r.csv", "--places", "p.csv", "--tasks", "t.csv", "--output", "p.json",
+                                       "--force")
             with self.subTest(line=line):
-                self.assertEqual(sum(pair["object"] == "Mon" for pair in self.plan()["pairs"]), 0 if line == "Mon,,2" else mon)
+                self.assertEqual(sum(pair["object"] == "Mon" for pair in self.plan()["pairs"]),
+                                 0 if line == "Mon,,2" else mon)
         self.file("p.csv", "shift,at least,at most\nMon,1,\nTue,0,1\nWed,0,1\n")
         self.run_words("r.csv", "--places", "p.csv", "--tasks", "t.csv", "--max", "--output", "p.json", "--force")
         self.assertEqual(sum(pair["object"] == "Mon" for pair in self.plan()["pairs"]), 2)
@@ -441,13 +488,13 @@ class Forgotten(Month):
     def test_first_line_on_a_terminal(self):
         import contextlib
         import io
-        from nushbaret import _command
+        from nushbaret.roster import command
         self.file("sums.csv", "shift,places\nMon,2\nTue,1\nWed,1\n")
         self.file("bounds.csv", "shift,at least,at most\nMon,1,2\nTue,1,1\nWed,1,1\n")
         for words, rule in ((("--places", "sums.csv"), "; single counts: the side with the smaller sum takes all"),
                             (("--places", "bounds.csv"), "; bounds: each name's counts are kept"), ((), "")):
             with contextlib.redirect_stdout(io.StringIO()), contextlib.redirect_stderr(Terminal()) as err:
-                _command.main(["r.csv", *words])
+                command.main(["r.csv", *words])
             self.assertEqual(err.getvalue().splitlines()[0], "2 nurses, 3 shifts, 5 pairs" + rule)
 
     def test_what_was_read_is_said_before_a_refusal(self):

@@ -1,4 +1,5 @@
-"""Costs in NumPy's arrays: kinds, layouts, what comes back; and, where SciPy is there, drawn problems compared with its solver."""
+"""Costs in NumPy's arrays: kinds, layouts, what comes back; and, where SciPy is there, drawn problems compared with its
+solver."""
 import threading
 import unittest
 from decimal import Decimal
@@ -11,12 +12,13 @@ from optional import np, optimize, sparse
 class Arrays(unittest.TestCase):
     def test_kinds(self):
         whole = [[4, 1, 3], [2, 0, 5], [3, 2, 2]]
-        kinds = ["bool", "int8", "uint8", "int16", "uint16", "int32", "uint32", "int64", "uint64", "float16", "float32", "float64",
-                 "longdouble", "object", ">i4", ">f8"]
+        kinds = ["bool", "int8", "uint8", "int16", "uint16", "int32", "uint32", "int64", "uint64", "float16", "float32",
+                 "float64", "longdouble", "object", ">i4", ">f8"]
         for kind in kinds:
             costs = np.array(whole).astype(kind)
             wanted = 2 if kind == "bool" else 5
-            for form in costs, np.asfortranarray(costs), costs.T.copy().T, np.repeat(np.repeat(costs, 2, 0), 2, 1)[::2, ::2]:
+            for form in costs, np.asfortranarray(costs), costs.T.copy().T, np.repeat(np.repeat(costs, 2, 0), 2, 1)[::2,
+                                                                                                                   ::2]:
                 form.flags.writeable = False
                 result = nushbaret.solve(form)
                 self.assertEqual(result.cost, wanted, kind)
@@ -24,11 +26,13 @@ class Arrays(unittest.TestCase):
                 self.assertTrue(result.verify(form))
 
     def test_squares_of_either_way(self):
-        """SciPy's call goes a shorter way where a square array holds whole numbers of 64 bits: it finds what `solve` does."""
+        """SciPy's call goes a shorter way where a square array holds whole numbers of 64 bits: it finds what `solve`
+        does."""
         rng = np.random.default_rng(11)
         for size in 1, 2, 8, 31, 33, 100:
             costs = rng.integers(-10**12, 10**12 + 1, (size, size))
-            for form in costs, costs.astype(float), np.asfortranarray(costs), costs.astype(">f8"), costs.astype(np.longlong):
+            for form in (costs, costs.astype(float), np.asfortranarray(costs), costs.astype(">f8"),
+                         costs.astype(np.longlong)):
                 for maximize in False, True:
                     form.flags.writeable = False
                     rows, columns = nushbaret.linear_sum_assignment(form, maximize)
@@ -42,7 +46,8 @@ class Arrays(unittest.TestCase):
         rng = np.random.default_rng(12)
         for shape in (1, 7), (7, 1), (5, 40), (40, 5), (30, 80), (80, 30):
             costs = rng.integers(-10**6, 10**6, shape)
-            for form in costs, costs / 8, costs.astype(float), np.asfortranarray(costs), np.asfortranarray(costs / 8), costs[::-1, ::-1] / 8:
+            for form in (costs, costs / 8, costs.astype(float), np.asfortranarray(costs), np.asfortranarray(costs / 8),
+                         costs[::-1, ::-1] / 8):
                 for maximize in False, True:
                     rows, columns = nushbaret.linear_sum_assignment(form, maximize)
                     result = nushbaret.solve(form, maximize)
@@ -60,7 +65,8 @@ class Arrays(unittest.TestCase):
         def work():
             for _ in range(5):
                 found = [nushbaret.linear_sum_assignment(costs) for costs in problems]
-                if [columns.tolist() for _, columns in found] != wanted or any(rows.tolist() != list(range(6)) for rows, _ in found):
+                if [columns.tolist() for _, columns in found] != wanted or any(rows.tolist() != list(range(6))
+                                                                               for rows, _ in found):
                     wrong.append(True)
 
         threads = [threading.Thread(target=work) for _ in range(8)]
@@ -71,10 +77,12 @@ class Arrays(unittest.TestCase):
         self.assertFalse(wrong)
 
     def test_what_is_not_whole_goes_the_longer_way(self):
-        for wrong, words in (-np.inf, "contains invalid numeric entries"), (np.nan, "nan at row 1, column 0: None or an infinite"):
+        for wrong, words in (-np.inf, "contains invalid numeric entries"), (np.nan, "nan at row 1, column 0: None or "
+                                                                            "an infinite"):
             with self.assertRaisesRegex(ValueError, words):
                 nushbaret.linear_sum_assignment(np.array([[1.0, 2.0], [wrong, 4.0]]))
-        for kept, wanted in ((10**12 + 1, [1, 0]), (1e300, [1, 0]), (5e-324, [0, 1]), (1 / 3, [0, 1]), (np.inf, [1, 0]), (2.5, [1, 0]), (0.5, [0, 1]), (-0.0, [0, 1])):
+        for kept, wanted in ((10**12 + 1, [1, 0]), (1e300, [1, 0]), (5e-324, [0, 1]), (1 / 3, [0, 1]), (np.inf, [1, 0]),
+                             (2.5, [1, 0]), (0.5, [0, 1]), (-0.0, [0, 1])):
             columns = nushbaret.linear_sum_assignment(np.array([[kept, -0.0], [2.0, 1.0]]))[1]
             self.assertEqual(columns.tolist(), wanted)
 
@@ -90,7 +98,8 @@ class Arrays(unittest.TestCase):
 
     def test_floats(self):
         self.assertEqual(nushbaret.solve(np.array([[0.1]], np.float32)).cost, Decimal("0.1"))
-        self.assertEqual(nushbaret.solve(np.array([[16777.1, 9], [9, 0.123456]], np.float32), True).cost, Decimal("16777.223456"))
+        self.assertEqual(nushbaret.solve(np.array([[16777.1, 9], [9, 0.123456]], np.float32), True).cost,
+                         Decimal("16777.223456"))
         self.assertEqual(nushbaret.solve(np.array([[123456.789012]])).cost, Decimal("123456.789012"))
         self.assertEqual(nushbaret.solve(np.array([[1.0, 0.1 + 0.2]])).cost, Decimal("0.30000000000000004"))
         self.assertEqual(nushbaret.solve(np.array([[1 / 3, 5e-324]], np.float32)).cost, 0)
@@ -113,10 +122,12 @@ class Arrays(unittest.TestCase):
                 self.assertEqual(*answers)
 
     def test_refusals(self):
-        for costs, kind, words in ((np.zeros(3), ValueError, "expected a matrix"), (np.eye(2).astype(str), TypeError, "Cannot cast array data"),
+        for costs, kind, words in ((np.zeros(3), ValueError, "expected a matrix"),
+                                   (np.eye(2).astype(str), TypeError, "Cannot cast array data"),
                                    (np.array([[1, np.nan]]), ValueError, "nan at row 0, column 1"),
                                    (np.array([[1, -np.inf]]), ValueError, "contains invalid numeric entries"),
-                                   (np.zeros((4194305, 1)), ValueError, "4194305 rows"), (np.zeros((1, 1), complex), TypeError, "Cannot cast")):
+                                   (np.zeros((4194305, 1)), ValueError, "4194305 rows"),
+                                   (np.zeros((1, 1), complex), TypeError, "Cannot cast")):
             with self.assertRaisesRegex(kind, words):
                 nushbaret.solve(costs)
         with self.assertRaises(nushbaret.Infeasible) as caught:
@@ -135,7 +146,8 @@ class Arrays(unittest.TestCase):
         self.assertEqual(nushbaret.solve(costs).without(0, 1).cost, 6)
         self.assertEqual(nushbaret.compare(costs, np.array([0, 1])).worse, 1)
         fullest = nushbaret.solve(np.array([[1, np.inf], [2, np.inf]]), partial=True)
-        self.assertEqual((fullest.cost, fullest.unmatched_rows.tolist(), fullest.unmatched_columns.tolist()), (1, [1], [1]))
+        self.assertEqual((fullest.cost, fullest.unmatched_rows.tolist(), fullest.unmatched_columns.tolist()),
+                         (1, [1], [1]))
 
 
 @unittest.skipUnless(optimize, "SciPy isn't there")

@@ -14,10 +14,11 @@ import tempfile
 import unittest
 import zipfile
 
-from nushbaret import _library as library
+from nushbaret.lap import library
 
 PYTHON = pathlib.Path(__file__).resolve().parent.parent.parent / "python"
-SOLVES = "import sys; sys.path.insert(0, sys.argv[1]); import nushbaret; print(nushbaret.__file__, nushbaret.solve([[1, 2], [3, 5]]).cost)"
+SOLVES = ("import sys; sys.path.insert(0, sys.argv[1]); import nushbaret; print(nushbaret.__file__, "
+          "nushbaret.solve([[1, 2], [3, 5]]).cost)")
 
 
 def backend():
@@ -35,7 +36,8 @@ class Package(unittest.TestCase):
 
     def solves(self, folder):
         """Whether the package of a folder solves, away from the checkout."""
-        ran = subprocess.run([sys.executable, "-I", "-c", SOLVES, folder], capture_output=True, text=True, check=True, cwd=self.folder)
+        ran = subprocess.run([sys.executable, "-I", "-c", SOLVES, folder], capture_output=True, text=True, check=True,
+                             cwd=self.folder)
         self.assertEqual(ran.stdout.split(), [os.path.join(folder, "nushbaret", "__init__.py"), "5"])
 
     def test_wheel(self):
@@ -51,8 +53,9 @@ class Package(unittest.TestCase):
                 wanted = base64.urlsafe_b64encode(hashlib.sha256(text).digest()).rstrip(b"=").decode()
                 self.assertEqual((digest, int(size)), (f"sha256={wanted}", len(text)))
         self.assertEqual({row[0] for row in rows}, names)
-        self.assertLessEqual({"nushbaret/py.typed", "nushbaret/__main__.py", f"nushbaret/{library.NAME}", f"{build.DATA}/share/man/man1/nushbaret.1",
-                              "nushbaret/guide/rosters.html", "nushbaret/guide/examples/week.csv", "nushbaret/guide/examples/month_rules.csv"}, names)
+        self.assertLessEqual({"nushbaret/py.typed", "nushbaret/__main__.py", f"nushbaret/{library.NAME}",
+                              f"{build.DATA}/share/man/man1/nushbaret.1", "nushbaret/guide/rosters.html",
+                              "nushbaret/guide/examples/week.csv", "nushbaret/guide/examples/month_rules.csv"}, names)
         self.solves(str(self.folder / "out"))
         self.describes((self.folder / "out" / build.INFO / "METADATA").read_text(encoding="utf-8"))
 
@@ -60,9 +63,11 @@ class Package(unittest.TestCase):
         """Whether the metadata have what an index shows, and a description without links that lead nowhere."""
         ran = email.message_from_string(metadata)
         self.assertIn("linear assignment problem", ran["Keywords"].split(","))
-        self.assertLessEqual({"Operating System :: POSIX :: Linux", "Operating System :: Microsoft :: Windows"}, set(ran.get_all("Classifier")))
+        self.assertLessEqual({"Operating System :: POSIX :: Linux", "Operating System :: Microsoft :: Windows"},
+                             set(ran.get_all("Classifier")))
         self.assertEqual(ran["Description-Content-Type"], "text/markdown")
-        self.assertEqual((ran.get_all("Provides-Extra"), ran.get_all("Requires-Dist")), (["rules"], ["scipy>=1.9; extra == 'rules'"]))
+        self.assertEqual((ran.get_all("Provides-Extra"), ran.get_all("Requires-Dist")),
+                         (["rules"], ["scipy>=1.9; extra == 'rules'"]))
         self.assertIn("For rosters with names see ROSTERS.md.", ran.get_payload())
         self.assertNotRegex(ran.get_payload(), r"\]\((?!https?:)")
 
@@ -70,18 +75,22 @@ class Package(unittest.TestCase):
         build = backend()
         name = build.build_sdist(self.folder)
         subprocess.run(["tar", "-xzf", name], cwd=self.folder, check=True)
-        again = subprocess.run([sys.executable, "-c", "import nushbaret_build; print(nushbaret_build.build_wheel('..'))"],
-                               cwd=self.folder / f"nushbaret-{build.VERSION}", capture_output=True, text=True, check=True)
-        self.assertEqual((self.folder / again.stdout.strip()).read_bytes(), (self.folder / build.build_wheel(self.folder)).read_bytes())
+        again = subprocess.run([sys.executable, "-c",
+                                "import nushbaret_build; print(nushbaret_build.build_wheel('..'))"],
+                               cwd=self.folder / f"nushbaret-{build.VERSION}", capture_output=True, text=True,
+                               check=True)
+        self.assertEqual((self.folder / again.stdout.strip()).read_bytes(),
+                         (self.folder / build.build_wheel(self.folder)).read_bytes())
 
     def test_no_library_to_pack(self):
         build = backend()
         # The checkout's own may have one.
         build.PACKAGE = self.folder
-        build.LIBRARIES = {kind: (self.folder / place.name, script) for kind, (place, script) in build.LIBRARIES.items()}
+        build.LIBRARIES = {kind: (self.folder / place.name, script)
+                           for kind, (place, script) in build.LIBRARIES.items()}
         for build.PLATFORM, words in (("linux-x86_64", "libnushbaret.so isn't there: run c/build.sh at"),
-                                      ("linux-aarch64", "libnushbaret.so isn't there: run c/build.sh --target aarch64 at"),
-                                      ("win-amd64", "nushbaret.dll isn't there: run c/build_windows.sh at")):
+                                      ("linux-aarch64", "libnushbaret.so isn't there: run c/build.sh --target aarch64 "
+                                       "at"), ("win-amd64", "nushbaret.dll isn't there: run c/build_windows.sh at")):
             with self.assertRaisesRegex(SystemExit, words):
                 build.build_wheel(self.folder)
         self.assertEqual(list(self.folder.iterdir()), [])
@@ -89,8 +98,9 @@ class Package(unittest.TestCase):
     def test_library_in_the_package(self):
         """A library that was copied into the package is packed, and no file of sources."""
         build = backend()
-        shutil.copytree(build.PACKAGE, self.folder / "nushbaret", ignore=shutil.ignore_patterns("__pycache__", *build.NAMES))
-        sources = sorted(file.name for file in (self.folder / "nushbaret").iterdir())
+        shutil.copytree(build.PACKAGE, self.folder / "nushbaret",
+                        ignore=shutil.ignore_patterns("__pycache__", *build.NAMES))
+        sources = sorted(file.name for file in (self.folder / "nushbaret").rglob("*") if file.is_file())
         build.PACKAGE = self.folder / "nushbaret"
         for build.PLATFORM, name in (("linux-x86_64", "libnushbaret.so"), ("win-amd64", "nushbaret.dll")):
             (build.PACKAGE / name).write_bytes(b"a library")
@@ -99,7 +109,8 @@ class Package(unittest.TestCase):
                 # Windows has no manual.
                 self.assertEqual(any(".data/" in file for file in wheel.namelist()), name.endswith(".so"))
                 # The other library isn't packed.
-                self.assertEqual([file for file in wheel.namelist() if file.endswith((".so", ".dll"))], [f"nushbaret/{name}"])
+                self.assertEqual([file for file in wheel.namelist() if file.endswith((".so", ".dll"))],
+                                 [f"nushbaret/{name}"])
             self.assertEqual(sorted(file.name for file in build._sources()), sources)
 
     def test_other_machines(self):
@@ -115,12 +126,13 @@ class Package(unittest.TestCase):
 
     @unittest.skipUnless(importlib.util.find_spec("pip"), "pip isn't there")
     def test_pip_without_a_network(self):
-        words = [sys.executable, "-m", "pip", "--disable-pip-version-check", "install", "--no-index", "--quiet", "--target",
-                 str(self.folder / "out"), str(PYTHON)]
+        words = [sys.executable, "-m", "pip", "--disable-pip-version-check", "install", "--no-index", "--quiet",
+                 "--target", str(self.folder / "out"), str(PYTHON)]
         ran = subprocess.run(words, capture_output=True, text=True, cwd=self.folder)
         version = subprocess.run([sys.executable, "-m", "pip", "--version"], capture_output=True, text=True).stdout
         if int(re.match(r"pip (\d+)", version)[1]) < 22:
-            self.skipTest("this pip copies a folder before it builds it, so that the library of the checkout is out of sight")
+            self.skipTest("this pip copies a folder before it builds it, so that the library of the checkout is out of "
+                          "sight")
         self.assertEqual(ran.returncode, 0, ran.stderr)
         self.solves(str(self.folder / "out"))
 
@@ -133,7 +145,8 @@ class Bump(unittest.TestCase):
         held = tempfile.TemporaryDirectory()
         self.addCleanup(held.cleanup)
         self.top = pathlib.Path(held.name)
-        names = subprocess.run(["git", "ls-files"], cwd=PYTHON.parent, capture_output=True, text=True, check=True).stdout.splitlines()
+        names = subprocess.run(["git", "ls-files"], cwd=PYTHON.parent, capture_output=True, text=True,
+                               check=True).stdout.splitlines()
         for name in names:
             if (PYTHON.parent / name).is_file() and (not name.startswith("release/") or name.endswith(".sh")):
                 (self.top / name).parent.mkdir(parents=True, exist_ok=True)
@@ -152,11 +165,14 @@ class Bump(unittest.TestCase):
         old = library.VERSION
         first, second, _ = old.split(".")
         new, before = f"{first}.{int(second) + 10}.0", self.texts()
-        self.assertEqual(self.bump(new), (0, f"{old} is now {new}; CHANGELOG.md, the builds and release/make.sh follow\n"))
-        changed = {file.relative_to(self.top).as_posix(): held for file, held in self.texts().items() if held != before[file]}
+        self.assertEqual(self.bump(new), (0, f"{old} is now {new}; CHANGELOG.md, the builds and release/make.sh "
+                                          "follow\n"))
+        changed = {file.relative_to(self.top).as_posix(): held for file, held in self.texts().items()
+                   if held != before[file]}
         self.assertEqual(sorted(changed), ["VERSION", "c/nushbaret.h", "crates/program_tests/src/command.rt",
-                                           "crates/release_version/must-fail/another_version.edit", "crates/release_version/src/lib.rt",
-                                           "docs/SCRIPTS.md", "python/nushbaret/_library.py", "python/pyproject.toml"])
+                                           "crates/release_version/must-fail/another_version.edit",
+                                           "crates/release_version/src/lib.rt", "docs/SCRIPTS.md",
+                                           "python/nushbaret/lap/library.py", "python/pyproject.toml"])
         for name, held in changed.items():
             self.assertEqual(held.decode(), before[self.top / name].decode().replace(old, new))
         self.assertEqual(self.bump(old)[0], 0)
@@ -164,8 +180,9 @@ class Bump(unittest.TestCase):
 
     def test_refusals(self):
         old, before = library.VERSION, self.texts()
-        for words, why in (((), f"it takes one word, the new version; this is {old}"), ((old,), f"this is {old} already"),
-                           (("3.1",), "'3.1' isn't a version of three numbers, as 1.20.3"), (("3.01.0",), "'3.01.0' isn't a version")):
+        for words, why in (((), f"it takes one word, the new version; this is {old}"),
+                           ((old,), f"this is {old} already"), (("3.1",), "'3.1' isn't a version of three numbers, as "
+                                                                "1.20.3"), (("3.01.0",), "'3.01.0' isn't a version")):
             status, said = self.bump(*words)
             self.assertEqual((status, said[:len(why) + 17]), (1, f"release/bump.sh: {why}"))
         self.assertEqual(self.texts(), before)

@@ -16,7 +16,8 @@ def public():
         if callable(value):
             yield name, value
         if inspect.isclass(value) and not issubclass(value, (Exception, tuple)):
-            yield from ((f"{name}.{method}", own) for method, own in vars(value).items() if inspect.isfunction(own) and method[0] != "_")
+            yield from ((f"{name}.{method}", own) for method, own in vars(value).items() if inspect.isfunction(own)
+                        and method[0] != "_")
 
 
 class Docstrings(unittest.TestCase):

@@ -25,7 +25,8 @@ class Bars(unittest.TestCase):
         tag = "{http://www.w3.org/2000/svg}"
         bars = [(rect.get("fill"), float(rect.get("width"))) for rect in list(root.iter(tag + "rect"))[1:]]
         wanted = [("none", 0.5), (module.OWN, 0.02), (module.OTHER, 0.2), ("none", 2.0), ("none", 0.03)]
-        self.assertEqual(bars, [(colour, round(module.WIDTH * math.log10(seconds / 0.01) / 3, 1)) for colour, seconds in wanted])
+        self.assertEqual(bars, [(colour, round(module.WIDTH * math.log10(seconds / 0.01) / 3, 1))
+                                for colour, seconds in wanted])
         texts = [text.text for text in root.iter(tag + "text")]
         for text in ("Times", "n = 1 < 2", "foot & all", "0.5", "(0.02)", "2 (0.2)", "0.03", "0.01", "0.1", "1", "10"):
             self.assertIn(text, texts)

@@ -1,14 +1,10 @@
 """Rosters with rules from Python: plans next to a search of all, own rows, and what is refused."""
 import datetime
 import os
-import pathlib
-import sys
 import tempfile
 import unittest
 from decimal import Decimal
 from fractions import Fraction
-
-sys.path.insert(0, str(pathlib.Path(__file__).resolve().parents[2] / "python"))
 
 import nushbaret
 from optional import np, optimize
@@ -20,23 +16,24 @@ COSTS = {(person, shift): cost for person, wishes in WISHES.items() for shift, c
 RULES = [("rest", "Night > Early"), ("Night per month", "2")]
 TASKS = dict.fromkeys(WISHES, (2, 4))
 # What is given, the kind of the fault, and a part of what is said.
-REFUSED = (
-    ({"rules": [("resst", "Night > Early")]}, ValueError, "rules, line 1, column 1: 'resst' is no rule: did you mean 'rest'?"),
-    ({"rules": [*RULES, ("apart", "", ["Ada", "Bne"])]}, ValueError, "rules, line 3, column 3: the roster has no person 'Bne': did you mean 'Ben'?"),
-    ({"rules": ["rest"]}, ValueError, "rules: 'rest' is no rule, value and names"),
-    ({"tasks": {"Zoe": 3}}, ValueError, "tasks: 'Zoe': 3: no cost has this name"),
-    ({"places": {"Early 2027-03-05": (2, 1)}}, ValueError, "places: 'Early 2027-03-05': (2, 1)"),
-    ({"places": {"Early 2027-03-05": "2"}}, ValueError, "places: 'Early 2027-03-05': '2'"),
-    ({"fixed": [("Ada", "Late")]}, ValueError, "there is no object 'Late'"),
-    ({"rows": [(0, {("Zoe", "Early 2027-03-05"): 1}, 1, "x")]}, ValueError, "there is no person 'Zoe'"),
-    ({"rows": [(0, {("Ada", "Early 2027-03-05"): 0.5}, 1, "x")]}, ValueError, "rows: 'x': whole numbers are needed"),
-    ({"rows": [(2, {("Ada", "Early 2027-03-05"): 1}, 1, "x")]}, ValueError, "rows: 'x': at least 2 and at most 1"),
-    ({"kinds": {"Late": "Late"}}, ValueError, "kinds: there is no object 'Late'"),
-    ({"costs": {("Ada", "Early 2027-03-05"): float("nan")}}, ValueError, "the cost of ('Ada', 'Early 2027-03-05') is nan, which isn't finite"),
-    ({"costs": {("Ada", "Early 2027-03-05"): "3"}}, TypeError, "the cost of ('Ada', 'Early 2027-03-05') is '3', which is no number"),
-    ({"costs": {("Ada", "Early 2027-03-05"): 10**16}}, ValueError, "which has too many digits"),
-    ({"days": {}}, ValueError, "no object has a day"),
-)
+REFUSED = (({"rules": [("resst", "Night > Early")]}, ValueError, "rules, line 1, column 1: 'resst' is no rule: did you "
+            "mean 'rest'?"), ({"rules": [*RULES, ("apart", "", ["Ada", "Bne"])]}, ValueError,
+                              "rules, line 3, column 3: the roster has no person 'Bne': did you mean 'Ben'?"),
+           ({"rules": ["rest"]}, ValueError, "rules: 'rest' is no rule, value and names"),
+           ({"tasks": {"Zoe": 3}}, ValueError, "tasks: 'Zoe': 3: no cost has this name"),
+           ({"places": {"Early 2027-03-05": (2, 1)}}, ValueError, "places: 'Early 2027-03-05': (2, 1)"),
+           ({"places": {"Early 2027-03-05": "2"}}, ValueError, "places: 'Early 2027-03-05': '2'"),
+           ({"fixed": [("Ada", "Late")]}, ValueError, "there is no object 'Late'"),
+           ({"rows": [(0, {("Zoe", "Early 2027-03-05"): 1}, 1, "x")]}, ValueError, "there is no person 'Zoe'"),
+           ({"rows": [(0, {("Ada", "Early 2027-03-05"): 0.5}, 1, "x")]}, ValueError,
+            "rows: 'x': whole numbers are needed"), ({"rows": [(2, {("Ada", "Early 2027-03-05"): 1}, 1, "x")]},
+                                                     ValueError, "rows: 'x': at least 2 and at most 1"),
+           ({"kinds": {"Late": "Late"}}, ValueError, "kinds: there is no object 'Late'"),
+           ({"costs": {("Ada", "Early 2027-03-05"): float("nan")}}, ValueError,
+            "the cost of ('Ada', 'Early 2027-03-05') is nan, which isn't finite"),
+           ({"costs": {("Ada", "Early 2027-03-05"): "3"}}, TypeError, "the cost of ('Ada', 'Early 2027-03-05') is '3', "
+            "which is no number"), ({"costs": {("Ada", "Early 2027-03-05"): 10**16}}, ValueError,
+                                    "which has too many digits"), ({"days": {}}, ValueError, "no object has a day"),)
 
 
 def planned(**given):
@@ -77,7 +74,8 @@ class Plans(unittest.TestCase):
         self.assertLessEqual(sum(pair in nights for pair in found.pairs), 1)
         found = planned(rows=[(3, nights, None, "Ada has three nights")])
         self.assertEqual((found.proved, found.pairs, found.cost, found.is_minimal), ("impossible", None, None, True))
-        self.assertEqual(found.reasons, ["Ada has three nights", "Night per month: 2 (Ada)"][::1 if found.reasons[0][0] == "A" else -1])
+        self.assertEqual(found.reasons, ["Ada has three nights",
+                                         "Night per month: 2 (Ada)"][::1 if found.reasons[0][0] == "A" else -1])
 
     def test_evenness_and_certificates(self):
         found = planned(rules=[RULES[0], ("even", "Night")])
@@ -85,7 +83,7 @@ class Plans(unittest.TestCase):
         with tempfile.TemporaryDirectory() as folder:
             path = os.path.join(folder, "c.txt")
             found.write_certificate(path)
-            from nushbaret._check_file import checked
+            from nushbaret.roster.check_file import checked
             self.assertEqual(checked(path)[0], 0)
             with self.assertRaisesRegex(ValueError, "nothing was proved"):
                 found._replace(certificate=None).write_certificate(path)

@@ -1,16 +1,12 @@
 """Places and tasks, kept plans and groups that are short, compared with slow searches through all there is."""
 import itertools
-import pathlib
 import random
-import sys
 import unittest
 from array import array
 
-sys.path.insert(0, str(pathlib.Path(__file__).resolve().parents[2] / "python"))
-
-from nushbaret._answer import Wish, answer_of
-from nushbaret._by_counts import answer_by_counts
-from nushbaret._roster import Roster
+from nushbaret.roster.answer import Request, answer_of
+from nushbaret.roster.by_counts import answer_by_counts
+from nushbaret.roster.roster import Roster
 
 CASES = 500
 
@@ -18,15 +14,16 @@ CASES = 500
 def roster_of(persons, objects, costs, tasks=None, places=None):
     """A roster of the pairs that a dictionary of costs has."""
     pairs = sorted(costs)
-    return Roster(
-        [f"p{number}" for number in range(persons)], [f"o{number}" for number in range(objects)],
-        {f"p{number}": number for number in range(persons)}, {f"o{number}": number for number in range(objects)},
-        array("q", [pair[0] for pair in pairs]), array("q", [pair[1] for pair in pairs]), array("q", [costs[pair] for pair in pairs]),
-        0, ("person", "object", "cost"), ",", False, tasks, places)
+    return Roster([f"p{number}" for number in range(persons)], [f"o{number}" for number in range(objects)],
+                  {f"p{number}": number for number in range(persons)},
+                  {f"o{number}": number for number in range(objects)}, array("q", [pair[0] for pair in pairs]),
+                  array("q", [pair[1] for pair in pairs]), array("q", [costs[pair] for pair in pairs]), 0,
+                  ("person", "object", "cost"), ",", False, tasks, places)
 
 
 def drawn_costs(draw, persons, objects, share):
-    return {(person, object_): draw.randint(-3, 3) for person in range(persons) for object_ in range(objects) if draw.random() < share}
+    return {(person, object_): draw.randint(-3, 3) for person in range(persons) for object_ in range(objects)
+            if draw.random() < share}
 
 
 def plans(costs, tasks, places):
@@ -60,7 +57,7 @@ class PlacesAndTasks(unittest.TestCase):
             maximize = draw.random() < 0.5
             roster = roster_of(len(tasks), len(places), costs, dict(enumerate(tasks)), dict(enumerate(places)))
             kept = {pair for pair in costs if draw.random() < 0.3} if draw.random() < 0.5 else None
-            answer = answer_by_counts(roster, Wish((), maximize, True, kept))
+            answer = answer_by_counts(roster, Request((), maximize, True, kept))
             every = plans(costs, tasks, places)
             most = max(map(len, every))
             best = min(value(pairs, costs, maximize) for pairs in every if len(pairs) == most)
@@ -76,7 +73,8 @@ class PlacesAndTasks(unittest.TestCase):
                 if answer.groups:
                     lack = sum(group.wanted - group.had for group in answer.groups)
                     self.assertEqual(lack, min(sum(tasks), sum(places)) - most)
-                    names = [name for group in answer.groups for name in (group.objects if group.of_objects else group.persons)]
+                    names = [name for group in answer.groups
+                             for name in (group.objects if group.of_objects else group.persons)]
                     self.assertEqual(len(names), len(set(names)))
 
 
@@ -104,7 +102,7 @@ class Others(unittest.TestCase):
             costs = drawn_costs(draw, persons, objects, draw.choice((0.5, 1)))
             kept = {pair for pair in costs if draw.random() < 0.3} if draw.random() < 0.3 else None
             maximize = draw.random() < 0.5
-            answer = answer_of(roster_of(persons, objects, costs), Wish((), maximize, True, kept, None, True))
+            answer = answer_of(roster_of(persons, objects, costs), Request((), maximize, True, kept, None, True))
             with self.subTest(case=case):
                 found += self.judge(answer, costs, plans(costs, [1] * persons, [1] * objects), maximize)[0] is not None
         self.assertGreater(found, 50)
@@ -116,9 +114,10 @@ class Others(unittest.TestCase):
             most, maximize = draw.choice((2, 40)), draw.random() < 0.5
             costs = {pair: cost % most for pair, cost in costs.items()}
             roster = roster_of(len(tasks), len(places), costs, dict(enumerate(tasks)), dict(enumerate(places)))
-            answer = answer_by_counts(roster, Wish((), maximize, True, None, None, True))
+            answer = answer_by_counts(roster, Request((), maximize, True, None, None, True))
             every = plans(costs, tasks, places)
-            others = {those for those in map(lambda plan: tuple(sorted(plan)), every) if len(those) == len(answer.plan.pairs)}
+            others = {those for those in map(lambda plan: tuple(sorted(plan)), every)
+                      if len(those) == len(answer.plan.pairs)}
             with self.subTest(case=case):
                 next_cost, is_free = self.judge(answer, costs, every, maximize)
                 self.assertEqual(next_cost is not None, not is_free and len(others) > 1)
@@ -131,11 +130,14 @@ class Kept(unittest.TestCase):
         draw = random.Random(2)
         for case in range(CASES):
             persons, objects = draw.randint(1, 5), draw.randint(1, 4)
-            costs = {pair: abs(cost) // 2 for pair, cost in drawn_costs(draw, persons, objects, draw.choice((0.5, 1))).items()}
+            costs = {pair: abs(cost) // 2 for pair, cost in drawn_costs(draw, persons, objects,
+                                                                        draw.choice((0.5, 1))).items()}
             kept = {pair for pair in costs if draw.random() < 0.3}
             maximize, change = draw.random() < 0.5, draw.choice((None, None, 0, 1, 2))
             roster = roster_of(persons, objects, costs)
-            pairs = {(pair.person, pair.object) for pair in answer_of(roster, Wish((), maximize, True, kept, change)).plan.pairs}
+            pairs = {(pair.person, pair.object) for pair in answer_of(roster,
+                                                                      Request((), maximize, True, kept,
+                                                                              change)).plan.pairs}
             every = plans(costs, [1] * persons, [1] * objects)
             most = max(map(len, every))
 
@@ -148,7 +150,8 @@ class Kept(unittest.TestCase):
                 self.assertEqual(len(pairs), most)
                 self.assertEqual(judged(pairs), min(judged(those) for those in every if len(those) == most))
                 if change is None:
-                    best = [set(those) for those in every if len(those) == most and value(those, costs, maximize) == value(pairs, costs, maximize)]
+                    best = [set(those) for those in every if len(those) == most
+                            and value(those, costs, maximize) == value(pairs, costs, maximize)]
                     self.assertEqual(len(pairs ^ kept), min(len(those ^ kept) for those in best))
 
 
@@ -159,7 +162,7 @@ class Groups(unittest.TestCase):
         for case in range(CASES):
             persons, objects = draw.randint(1, 6), draw.randint(1, 6)
             costs = drawn_costs(draw, persons, objects, draw.choice((0.2, 0.35)))
-            groups = answer_of(roster_of(persons, objects, costs), Wish()).groups
+            groups = answer_of(roster_of(persons, objects, costs), Request()).groups
             of_objects = persons > objects
             listed = {}
             for pair in costs:

@@ -1,14 +1,11 @@
-"""The next plans, and fair ones, compared with a search through all plans: with counts, groups and bounds, and without."""
+"""The next plans, and fair ones, compared with a search through all plans: with counts, groups and bounds, and
+without."""
 import math
-import pathlib
-import sys
 import unittest
 
-sys.path.insert(0, str(pathlib.Path(__file__).resolve().parents[2] / "python"))
-
-from nushbaret._answer import Wish, answer_of
-from nushbaret._by_counts import answer_by_counts
-from nushbaret._fair import fair_answer
+from nushbaret.roster.answer import Request, answer_of
+from nushbaret.roster.by_counts import answer_by_counts
+from nushbaret.roster.fair import fair_answer
 
 from test_planners_counts import drawings, pairs_of
 
@@ -23,7 +20,8 @@ def single(case):
 # Drawn rosters, how these are answered, and what a roster has of the drawn one.
 KINDS = (("by counts", drawings(31, 200), answer_by_counts, lambda case: case.roster()),
          ("equal costs", drawings(32, 150, 2), answer_by_counts, lambda case: case.roster()),
-         ("single", [single(case) for case in drawings(33, 200)], answer_of, lambda case: case.roster()._replace(tasks=None, places=None)),
+         ("single", [single(case) for case in drawings(33, 200)], answer_of,
+          lambda case: case.roster()._replace(tasks=None, places=None)),
          ("single, equal costs", [single(case) for case in drawings(34, 150, 2)], answer_of,
           lambda case: case.roster()._replace(tasks=None, places=None)))
 
@@ -36,7 +34,7 @@ class Ranked(unittest.TestCase):
                 plans = case.plans()
                 missed = min(plans)[0]
                 every = sorted((cost, pairs) for lack, cost, pairs in plans if lack == missed)
-                plan = solve(roster_of(case), Wish((), case.maximize, True, plans=5)).plan
+                plan = solve(roster_of(case), Request((), case.maximize, True, plans=5)).plan
                 found = [plan, *plan.following]
                 counts.append(len(found))
                 with self.subTest(kind=what, case=number):
@@ -51,7 +49,7 @@ class Ranked(unittest.TestCase):
             for number, case in enumerate(cases):
                 plans = case.plans()
                 every = sorted(plan[1:] for plan in plans if plan[0] == min(plans)[0])
-                plan = solve(roster_of(case), Wish((), case.maximize, True, others=True)).plan
+                plan = solve(roster_of(case), Request((), case.maximize, True, others=True)).plan
                 with self.subTest(kind=what, case=number):
                     self.assertEqual(plan.is_only_one, len(every) == 1 or every[0][0] < every[1][0])
                     self.assertEqual(len(plan.following), int(plan.is_only_one and len(every) > 1))
@@ -69,12 +67,13 @@ class Fair(unittest.TestCase):
                 every = [(max((sign * costs[pair] for pair in pairs), default=-math.inf), cost, pairs)
                          for lack, cost, pairs in plans if lack == min(plans)[0]]
                 with self.subTest(kind=what, case=number):
-                    answer, fair = fair_answer(roster_of(case), Wish((), case.maximize, True), solve)
+                    answer, fair = fair_answer(roster_of(case), Request((), case.maximize, True), solve)
                     if fair is None:
                         self.assertEqual((answer.plan.pairs, min(plan[1] for plan in every)), ([], 0))
                         continue
                     dearest, cost, _ = min(every)
-                    self.assertEqual((sign * fair.pair.cost if fair.pair else -math.inf, sign * answer.plan.cost), (dearest, cost))
+                    self.assertEqual((sign * fair.pair.cost if fair.pair else -math.inf, sign * answer.plan.cost),
+                                     (dearest, cost))
                     self.assertIn((dearest, cost, pairs_of(answer.plan)), every)
                     self.assertEqual(sign * fair.best.cost, min(plan[1] for plan in every))
                     self.assertIn(fair.best_pair, fair.best.pairs)

@@ -6,8 +6,8 @@ from decimal import Decimal
 from unittest import mock
 
 import nushbaret
-from nushbaret import _plans
-from nushbaret._plans import Ranking
+from nushbaret.lap import ranking
+from nushbaret.lap.ranking import Ranking, _PathSearch
 from drawn import drawing, matrix
 from optional import np
 
@@ -32,7 +32,8 @@ def pairs_of(plan, n_rows, n_columns):
 
 def kept(costs, keeps):
     """The costs of the pairs that are kept, and None elsewhere."""
-    return [[cost if keeps(row, column) else None for column, cost in enumerate(line)] for row, line in enumerate(costs)]
+    return [[cost if keeps(row, column) else None for column, cost in enumerate(line)]
+            for row, line in enumerate(costs)]
 
 
 def split_by_pairs(costs, maximize, k):
@@ -139,7 +140,7 @@ class Checked(unittest.TestCase):
     def test_each_plan_is_checked(self):
         draw = drawing(35)
         for costs in (self.COSTS, matrix(draw, 9, 4, 5, 0.7), matrix(draw, 4, 9, 5, 0.7)):
-            with mock.patch.object(_plans, "check_problem", side_effect=_plans.check_problem) as check:
+            with mock.patch.object(ranking, "check_problem", side_effect=ranking.check_problem) as check:
                 plans = list(nushbaret.k_best(costs, 5, partial=True))
             self.assertEqual(check.call_count, len(plans))
 
@@ -150,7 +151,8 @@ class Checked(unittest.TestCase):
     def test_a_wrong_plan(self):
         def turned(ranking, part):
             return part._replace(columns=part.columns[::-1])
-        self.refused("_first_of_its_cost", turned, "found to be the best of its part, and the library says otherwise: row 0")
+        self.refused("_first_of_its_cost", turned, "found to be the best of its part, and the library says otherwise: "
+                     "row 0")
 
     def test_a_wrong_cost(self):
         def cheaper(ranking, part):
@@ -166,12 +168,12 @@ class Checked(unittest.TestCase):
 
     def test_a_part_taken_for_empty(self):
         def none(ranking, part, *words):
-            return _plans._Search(None, {}, {}, [0] * (ranking.n_columns + 1))
+            return _PathSearch(None, {}, {}, [0] * (ranking.n_columns + 1))
         self.refused("_search", none, "a group was found to be short, and the library says otherwise")
 
     def test_a_plan_taken_for_the_only_one(self):
         result = nushbaret.solve([[1, 1], [1, 1]])
-        ranking = Ranking(result._source.read(), result)
+        ranking = result._ranking()
         self.assertTrue(ranking.has_other())
         ranking.whole = ranking.whole._replace(row_duals=[dual + 1 for dual in ranking.whole.row_duals])
         with self.assertRaisesRegex(RuntimeError, "along pairs of reduced cost 0, and the library says otherwise"):
@@ -186,8 +188,8 @@ class Bottlenecks(unittest.TestCase):
             n_rows, n_columns = len(costs), len(costs[0])
             served = len(nushbaret.solve(form, maximize, partial=True, missing="forbid").rows)
             sign = -1 if maximize else 1
-            wanted = min((max((sign * costs[row][column] for row, column in enumerate(own) if column < n_columns), default=0), sign * cost)
-                         for cost, own in ordered(costs, maximize, served))
+            wanted = min((max((sign * costs[row][column] for row, column in enumerate(own) if column < n_columns),
+                              default=0), sign * cost) for cost, own in ordered(costs, maximize, served))
             result = nushbaret.bottleneck(form, maximize, partial=True, missing="forbid")
             worst = max((sign * costs[row][column] for row, column in result.pairs), default=0)
             self.assertEqual((worst, sign * result.cost, len(result.rows)), (*wanted, served))
@@ -199,16 +201,18 @@ class Bottlenecks(unittest.TestCase):
         self.assertGreater(partial, 40)
 
     def test_refusals(self):
-        with self.assertRaisesRegex(ValueError, 'nan at row 0, column 1: None or an infinite cost forbids a pair, and missing="forbid"'):
+        with self.assertRaisesRegex(ValueError, 'nan at row 0, column 1: None or an infinite cost forbids a pair, and '
+                                    'missing="forbid"'):
             nushbaret.bottleneck([[1, float("nan")]])
         with self.assertRaisesRegex(ValueError, "missing is 'drop': it must be 'refuse' or 'forbid'"):
             nushbaret.bottleneck([[1]], missing="drop")
         self.assertEqual(nushbaret.bottleneck([]).cost, 0)
 
     def test_too_few_pairs(self):
-        for module, call in (("_bottleneck", nushbaret.bottleneck), ("_solving", nushbaret.solve)):
+        for module, call in (("api.bottleneck", nushbaret.bottleneck), ("lap.solving", nushbaret.solve)):
             with mock.patch(f"nushbaret.{module}.most_served", return_value=1):
-                with self.assertRaisesRegex(RuntimeError, "1 pairs were found to be the most, and the library says otherwise"):
+                with self.assertRaisesRegex(RuntimeError, "1 pairs were found to be the most, and the library says "
+                                            "otherwise"):
                     call([[1, None, None], [2, 3, None], [4, None, None]], partial=True)
 
 

@@ -1,16 +1,17 @@
-"""Problems of unequal numbers: what the library is asked, duals and prices either way round, and plans held against prices."""
+"""Problems of unequal numbers: what the library is asked, duals and prices either way round, and plans held against
+prices."""
 import unittest
 from unittest import mock
 
 import nushbaret
-from nushbaret import _library as library
+from nushbaret.lap import library
 from drawn import best, drawing, matrix
 from optional import np
 
 
 def asked(run):
     """The names, sizes and numbers of pairs of the library's calls that something makes."""
-    calls, call, room_for = [], library.call, library.room_for
+    calls, call, room_for = [], library.call, library.workspace_for
 
     def noted(name, sense, n, m, *lists, **words):
         calls.append((name, n, m, len(lists[0])))
@@ -28,17 +29,18 @@ def asked(run):
         return room
 
     # Rooms made meanwhile are dropped afterwards.
-    with mock.patch.object(library, "call", noted), mock.patch.object(library, "room_for", noting_room), \
-            mock.patch.dict(library._rooms, clear=True):
+    with mock.patch.object(library, "call", noted), mock.patch.object(library, "workspace_for", noting_room), \
+            mock.patch.dict(library._workspaces, clear=True):
         run()
     return calls
 
 
 def proved(costs, pairs, prices, maximize):
-    """Whether whole prices of columns prove a plan, by the definition: each row has one of its best columns, who is out prefers no
-    column more than those who are in want theirs, and no unused column costs more than another one."""
+    """Whether whole prices of columns prove a plan, by the definition: each row has one of its best columns, who is out
+    prefers no column more than those who are in want theirs, and no unused column costs more than another one."""
     sign = -1 if maximize else 1
-    worth = [[None if cost is None else sign * cost + prices[column] for column, cost in enumerate(row)] for row in costs]
+    worth = [[None if cost is None else sign * cost + prices[column] for column, cost in enumerate(row)]
+             for row in costs]
     least = [min((cost for cost in row if cost is not None), default=None) for row in worth]
     own = [worth[row][column] for row, column in pairs]
     if any(cost is None or cost > least[row] for (row, _), cost in zip(pairs, own)):
@@ -57,14 +59,16 @@ class Asked(unittest.TestCase):
             self.assertEqual(asked(lambda: nushbaret.solve(costs)), [("dense", n, m, cells)])
             rows, columns = zip(*[(row, column) for row in range(n_rows) for column in range(n_columns)])
             flat = [cost for row in costs for cost in row]
-            self.assertEqual(asked(lambda: nushbaret.solve_sparse(n_rows, n_columns, rows, columns, flat)), [("sparse", n, m, cells)])
+            self.assertEqual(asked(lambda: nushbaret.solve_sparse(n_rows, n_columns, rows, columns, flat)),
+                             [("sparse", n, m, cells)])
             result = nushbaret.solve(costs)
             self.assertEqual(len(result.row_duals), n_rows)
             self.assertEqual([call[:3] for call in asked(result.verify)], [("check", n, m)])
             self.assertEqual(asked(lambda: nushbaret.solve(costs, start=result)), [("dense_from", n, m, cells)])
 
     def test_only_as_many_dummies_as_stay_out(self):
-        costs = [[None if column % 2 and row < 3 else row * column for column in range(9)] for row in range(3)] + [[None] * 9]
+        costs = [[None if column % 2 and row < 3 else row * column for column in range(9)]
+                 for row in range(3)] + [[None] * 9]
         for form, served in (costs, 3), ([list(column) for column in zip(*costs)], 3):
             calls = asked(lambda: nushbaret.solve(form, partial=True))
             self.assertEqual(calls[0][1:3], (4, 9))
@@ -93,7 +97,8 @@ class Asked(unittest.TestCase):
                 costs[1][0] = sign * 10**30
                 for form in [costs] + ([np.array(costs, object)] if np else []):
                     result = nushbaret.solve(form, maximize)
-                    self.assertEqual((result.cost, bool(result.verify())), (sum(form[row][column] for row, column in result.pairs), True))
+                    self.assertEqual((result.cost, bool(result.verify())),
+                                     (sum(form[row][column] for row, column in result.pairs), True))
                     self.assertNotIn((1, 0), result.pairs)
 
 
@@ -130,8 +135,8 @@ class Prices(unittest.TestCase):
 
 class Checked(unittest.TestCase):
     def test_beside_the_definition(self):
-        """Plans with all pairs that can be made or with fewer, and prices of any kind: the verdict is that of the definition, and a proved
-        plan is best."""
+        """Plans with all pairs that can be made or with fewer, and prices of any kind: the verdict is that of the
+        definition, and a proved plan is best."""
         draw, yes, out = drawing(42), 0, 0
         for _ in range(3000):
             n_rows, n_columns, maximize = draw.randint(1, 4), draw.randint(1, 4), draw.random() < 0.5
@@ -162,10 +167,12 @@ class Checked(unittest.TestCase):
     def test_words(self):
         check = nushbaret.check
         verdict = check([[1, 2, 3]], [0], [0, 0, 5])
-        self.assertEqual((verdict.why, verdict.row, verdict.column), ("column 2 stays unused, and column 0 is cheaper", None, 0))
+        self.assertEqual((verdict.why, verdict.row, verdict.column),
+                         ("column 2 stays unused, and column 0 is cheaper", None, 0))
         self.assertTrue(check([[1, 2, 3]], [0], [0, 0, 0]))
         verdict = check([[1], [2], [0]], [0, None, None], [4])
-        self.assertEqual((verdict.why, verdict.row, verdict.column), ("row 2 would be better off with column 0, at these prices", 2, 0))
+        self.assertEqual((verdict.why, verdict.row, verdict.column),
+                         ("row 2 would be better off with column 0, at these prices", 2, 0))
         verdict = check([[1, 5], [2, 2], [9, 9]], [0, 1, None], [0, 9])
         self.assertEqual((verdict.row, verdict.column), (1, 0))
         verdict = check([[1, None], [2, None], [3, None]], [0, None, None], [0, 3])

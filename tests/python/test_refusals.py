@@ -1,4 +1,5 @@
-"""What the package refuses, with the words that name the place; costs of every kind; limits; the library's constants."""
+"""What the package refuses, with the words that name the place; costs of every kind; limits; the library's
+constants."""
 import ast
 import ctypes
 import math
@@ -14,7 +15,8 @@ from fractions import Fraction
 from unittest import mock
 
 import nushbaret
-from nushbaret import _library as library, _proved as proved
+from nushbaret.costs.limits import GREATEST_PRICE
+from nushbaret.lap import library, proved
 
 TOP = pathlib.Path(__file__).resolve().parent.parent.parent
 MOST = nushbaret.GREATEST_COST
@@ -33,18 +35,21 @@ class Refused(unittest.TestCase):
         self.refused(TypeError, "Cannot cast array data: row 0, column 1 is 'x'", solve, [[1, "x"], [3, 4]])
         self.refused(TypeError, "Cannot cast array data", solve, ["ab", "cd"])
         self.refused(TypeError, "row 0, column 0 is 1j", solve, [[1j]])
-        self.refused(ValueError, "contains invalid numeric entries: nan at row 1, column 0", solve, [[1, 2], [math.nan, 4]])
+        self.refused(ValueError, "contains invalid numeric entries: nan at row 1, column 0", solve,
+                     [[1, 2], [math.nan, 4]])
         self.refused(ValueError, "contains invalid numeric entries: -inf", solve, [[-math.inf]])
         self.refused(ValueError, "contains invalid numeric entries: inf", solve, [[math.inf]], maximize=True)
         self.refused(ValueError, "invalid numeric entries", solve, [[Decimal("sNaN")]])
         self.refused(ValueError, "4194305 columns: at most 4194304", solve, [[0] * 4194305])
         self.refused(ValueError, "4194305 rows", solve, [[0]] * 4194305)
-        self.refused(TypeError, "rows and columns of listed pairs are given together", solve([[1]]).verify, [1], rows=[0])
+        self.refused(TypeError, "rows and columns of listed pairs are given together", solve([[1]]).verify, [1],
+                     rows=[0])
 
     def test_ranges(self):
         solve = nushbaret.solve
         self.assertEqual(solve([[MOST, -MOST], [0, MOST]]).cost, -MOST)
-        for beyond in MOST + 1, -MOST - 1, 2**63, -2**70, Decimal(MOST + 1), float(MOST + 1), 1e300, Decimal("1E+999"), Decimal("-1E-999"):
+        for beyond in (MOST + 1, -MOST - 1, 2**63, -2**70, Decimal(MOST + 1), float(MOST + 1), 1e300, Decimal("1E+999"),
+                       Decimal("-1E-999")):
             exact = Fraction(str(beyond))
             self.assertEqual(Fraction(solve([[1, 2], [beyond, 1]]).cost), min(2, 2 + exact))
             self.assertEqual(Fraction(solve([[1, beyond], [None, 1]], maximize=True).cost), 2)
@@ -57,26 +62,33 @@ class Refused(unittest.TestCase):
 
     def test_places(self):
         solve = nushbaret.solve
-        for value in 0.1 + 0.2, 1e-7, Decimal("0.1234567"), Fraction(1, 3), Decimal("1E-9999"), Decimal("0." + 40 * "7"):
+        for value in 0.1 + 0.2, 1e-7, Decimal("0.1234567"), Fraction(1,
+                                                                     3), Decimal("1E-9999"), Decimal("0." + 40 * "7"):
             exact = value if isinstance(value, Fraction) else Fraction(Decimal(str(value)))
             cost = solve([[value, 9], [9, value]]).cost
-            self.assertEqual((Fraction(cost), type(cost)), (2 * exact, Fraction if isinstance(value, Fraction) else Decimal))
+            self.assertEqual((Fraction(cost), type(cost)),
+                             (2 * exact, Fraction if isinstance(value, Fraction) else Decimal))
         self.assertEqual(solve([[0.1 + 0.2]], decimals=6).cost, Decimal("0.3"))
         self.assertEqual(solve([[Fraction(1, 3)]], decimals=2).cost, Decimal("0.33"))
-        for value, wanted in (2.675, "2.68"), (2.665, "2.66"), (-2.675, "-2.68"), (0.005, "0"), (1.005, "1.00"), (0.015, "0.02"):
+        for value, wanted in ((2.675, "2.68"), (2.665, "2.66"), (-2.675, "-2.68"), (0.005, "0"), (1.005, "1.00"),
+                              (0.015, "0.02")):
             self.assertEqual(solve([[value]], decimals=2).cost, Decimal(wanted), value)
-        self.assertEqual((solve([[2.5]]).cost, solve([[2.0]]).cost, type(solve([[2.0]]).cost)), (Decimal("2.5"), 2, int))
+        self.assertEqual((solve([[2.5]]).cost, solve([[2.0]]).cost, type(solve([[2.0]]).cost)),
+                         (Decimal("2.5"), 2, int))
         self.assertEqual(type(solve([[2]], decimals=2).cost), Decimal)
         self.assertEqual(str(solve([[Fraction(2, 3)]], decimals=30).cost), "0." + 29 * "6" + "7")
         self.refused(ValueError, "decimals is -1: it must be 0 or more", solve, [[1]], decimals=-1)
         for wrong in 1001, 10**5, 10**9, 10**5000:
-            self.refused(ValueError, "decimals is above 1000: costs can be rounded to at most so many places", solve, [[1]], decimals=wrong)
+            self.refused(ValueError, "decimals is above 1000: costs can be rounded to at most so many places", solve,
+                         [[1]], decimals=wrong)
         self.assertEqual(solve([[Fraction(1, 3)]], decimals=1000).cost, Decimal("0." + 1000 * "3"))
-        self.refused(ValueError, "decimals is 'fit': it must be a whole number from 0, or None", solve, [[1]], decimals="fit")
+        self.refused(ValueError, "decimals is 'fit': it must be a whole number from 0, or None", solve, [[1]],
+                     decimals="fit")
         self.refused(TypeError, "", solve, [[1]], decimals=0.5)
 
     def test_kinds(self):
-        for costs in ([[True, False], [True, True]], [array("q", [1, 0]), array("q", [1, 1])], ((1.0, 0), (Decimal(1), Fraction(1)))):
+        for costs in ([[True, False], [True, True]], [array("q", [1, 0]), array("q", [1, 1])],
+                      ((1.0, 0), (Decimal(1), Fraction(1)))):
             self.assertEqual(nushbaret.solve(costs, maximize=True).cost, 2)
         for code in "bBhHiIlLqQfd":
             view = memoryview(array(code, [1, 0, 1, 1, 1, 0])).cast("B").cast(code, (2, 3))
@@ -112,7 +124,8 @@ class Refused(unittest.TestCase):
         self.refused(ValueError, "nan at costs[1] (row 1, column 0)", solve, 2, 2, [0, 1], [1, 0], [1, math.nan])
         self.assertEqual(solve(2, 2, [0, 1], [1, 0], [1, MOST + 1]).cost, MOST + 2)
         self.assertEqual(solve(1, 1, [0, 0], [0, 0], [MOST + 5, MOST + 3], maximize=True).cost, MOST + 3)
-        self.assertEqual(solve(1, 1, [0, 0], [0, 0], [Fraction(5, 7), Decimal("0.5")], maximize=True).cost, Fraction(1, 2))
+        self.assertEqual(solve(1, 1, [0, 0], [0, 0], [Fraction(5, 7), Decimal("0.5")], maximize=True).cost,
+                         Fraction(1, 2))
         self.refused(ValueError, "-1 rows", solve, -1, 2, [], [], [])
         self.refused(ValueError, "4194305 rows", solve, 4194305, 2, [], [], [])
         self.refused(nushbaret.Infeasible, "row 0 may have no column (the first of 2 groups)", solve, 2, 2, [], [], [])
@@ -122,7 +135,8 @@ class Refused(unittest.TestCase):
         self.refused(ValueError, "there are 1 prices, and 2 columns", nushbaret.solve, [[1, 2], [3, 5]], start=[0])
         self.refused(ValueError, "the price of column 1 is nan", nushbaret.solve, [[1, 2], [3, 5]], start=[0, math.nan])
         self.refused(TypeError, "the price of column 0 is 'x'", nushbaret.solve, [[1, 2], [3, 5]], start=["x", 0])
-        for start in [0, 10**20], [0, 10**21], [0, -10**400], (0.5, Fraction(1, 3)), iter([1, 2]), array("q", [1, 2]), map(float, "12"):
+        for start in ([0, 10**20], [0, 10**21], [0, -10**400], (0.5, Fraction(1, 3)), iter([1, 2]), array("q", [1, 2]),
+                      map(float, "12")):
             self.assertEqual(nushbaret.solve([[1, 2], [3, 5]], start=start).cost, 5)
 
     def test_plans(self):
@@ -157,23 +171,22 @@ class Limits(unittest.TestCase):
         rows = list(range(4097))
         result = nushbaret.solve_sparse(4097, 4096, rows[:4096], rows[:4096], [1] * 4096)
         self.assertEqual((result.cost, result.unmatched_rows), (4096, [4096]))
-        with mock.patch.object(proved, "MOST_PERSONS", 8192), self.assertRaisesRegex(ValueError, "of which 1 can be paired, make 8193"):
+        with mock.patch.object(proved, "MOST_PERSONS", 8192), \
+                self.assertRaisesRegex(ValueError, "of which 1 can be paired, make 8193"):
             nushbaret.solve_sparse(4097, 4097, [0] * 4097, rows, [1] * 4097, partial=True)
 
     @unittest.skipUnless(sys.platform == "linux", "limits of memory are Linux's here")
     @unittest.skipIf("NUSHBARET_EMULATED" in os.environ, "an emulator takes more memory")
     def test_memory_refused(self):
         """The memory that a call keeps is less than the search of so many pairs needs."""
-        code = ("import resource, nushbaret\nfrom array import array\nfrom nushbaret import _library as library\n"
-                "n = 2000\n"
-                "pairs = [array('I', [k // n + 1 for k in range(n * n)]), array('I', range(1, n + 1)) * n, array('q', bytes(8 * n * n))]\n"
-                "room = array('I', bytes(4 * n)), array('I', bytes(4 * n)), array('q', bytes(8 * n))\n"
-                "nushbaret.solve([[1]])\n"
-                "used = int(open('/proc/self/statm').read().split()[0]) * 4096\n"
-                "resource.setrlimit(resource.RLIMIT_AS, (used + 4 * 2**20, resource.RLIM_INFINITY))\n"
-                "try:\n    library.searched(False, n, n, pairs, None, room)\nexcept MemoryError as fault:\n    print(fault)\n"
-                "resource.setrlimit(resource.RLIMIT_AS, (resource.RLIM_INFINITY, resource.RLIM_INFINITY))\n"
-                "print(library.searched(False, n, n, pairs, None, room)[0])\n")
+        code = ("import resource, nushbaret\nfrom array import array\nfrom nushbaret.lap import library\nn = "
+                "2000\npairs = [array('I', [k // n + 1 for k in range(n * n)]), array('I', range(1, n + 1)) * n, "
+                "array('q', bytes(8 * n * n))]\nroom = array('I', bytes(4 * n)), array('I', bytes(4 * n)), array('q', "
+                "bytes(8 * n))\nnushbaret.solve([[1]])\nused = int(open('/proc/self/statm').read().split()[0]) * "
+                "4096\nresource.setrlimit(resource.RLIMIT_AS, (used + 4 * 2**20, resource.RLIM_INFINITY))\ntry:\n    "
+                "library.searched(False, n, n, pairs, None, room)\nexcept MemoryError as fault:\n    "
+                "print(fault)\nresource.setrlimit(resource.RLIMIT_AS, (resource.RLIM_INFINITY, "
+                "resource.RLIM_INFINITY))\nprint(library.searched(False, n, n, pairs, None, room)[0])\n")
         ran = subprocess.run([sys.executable, "-c", code], capture_output=True, text=True, check=True, env=os.environ)
         self.assertEqual(ran.stdout, "the library was refused memory\nBEST\n")
 
@@ -183,20 +196,23 @@ class Library(unittest.TestCase):
         header = (TOP / "c/nushbaret.h").read_text()
         codes = {name: int(code) for name, code in re.findall(r"NUSHBARET_(?!ROWS_)(\w+) = (\d+)", header)}
         self.assertEqual({name: code for code, name in enumerate(library.CODES)}, codes)
-        self.assertIn(f"NUSHBARET_MOST_PERSONS {library.MOST_PERSONS}\n", header)
-        self.assertIn(f"NUSHBARET_GREATEST_COST INT64_C({library.GREATEST_COST})\n", header)
+        self.assertIn(f"NUSHBARET_MOST_PERSONS {nushbaret.MOST_PERSONS}\n", header)
+        self.assertIn(f"NUSHBARET_GREATEST_COST INT64_C({nushbaret.GREATEST_COST})\n", header)
         self.assertIn(f'NUSHBARET_VERSION "{library.VERSION}"', header)
-        self.assertIn(f"NUSHBARET_GREATEST_PRICE INT64_C({library.GREATEST_PRICE})\n", header)
+        self.assertIn(f"NUSHBARET_GREATEST_PRICE INT64_C({GREATEST_PRICE})\n", header)
         for struct, held in ("info", library.Info), ("record", library.Record):
             fields = re.search(rf"struct nushbaret_{struct} \{{(.*?)\n\}}", header, re.S)[1]
-            kinds = [(name, f"{'u' * (kind(-1).value > 0)}int{8 * ctypes.sizeof(kind)}_t") for name, kind in held._fields_]
+            kinds = [(name, f"{'u' * (kind(-1).value > 0)}int{8 * ctypes.sizeof(kind)}_t")
+                     for name, kind in held._fields_]
             self.assertEqual([(name, kind) for kind, name in re.findall(r"(\w+) (\w+);", fields)], kinds)
 
     def test_no_library(self):
-        code = ("import pathlib, nushbaret, nushbaret._library as library\nlibrary.PLACES = (pathlib.Path('/nowhere.so'),)\n"
-                "try:\n    nushbaret.solve([[1]])\nexcept OSError as fault:\n    print(type(fault).__name__, fault)\n")
+        code = ("import pathlib, nushbaret, nushbaret.lap.library as library\nlibrary.PLACES = "
+                "(pathlib.Path('/nowhere.so'),)\ntry:\n    nushbaret.solve([[1]])\nexcept OSError as fault:\n    "
+                "print(type(fault).__name__, fault)\n")
         ran = subprocess.run([sys.executable, "-c", code], capture_output=True, text=True, check=True, env=os.environ)
-        self.assertEqual(ran.stdout, "LibraryNotFound libnushbaret.so isn't there: c/build.sh makes it, at the top of a checkout of Nushbaret\n")
+        self.assertEqual(ran.stdout, "LibraryNotFound libnushbaret.so isn't there: c/build.sh makes it, at the top of "
+                         "a checkout of Nushbaret\n")
 
     def test_grammar_of_python_3_9(self):
         for file in sorted((TOP / "python").rglob("*.py")):

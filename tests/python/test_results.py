@@ -1,4 +1,5 @@
-"""What a result keeps: costs that are changed after the call, pickles and copies, attributes, prices; and forms of costs."""
+"""What a result keeps: costs that are changed after the call, pickles and copies, attributes, prices; and forms of
+costs."""
 import copy
 import ctypes
 import multiprocessing
@@ -9,7 +10,7 @@ from decimal import Decimal
 from fractions import Fraction
 
 import nushbaret
-from nushbaret import _result
+from nushbaret.api import results as _result
 from drawn import KINDS, doubles, drawing
 from optional import np, pd, sparse
 
@@ -115,7 +116,9 @@ class Changed(unittest.TestCase):
         if id(value) in seen or isinstance(value, type(sys)):
             return 0
         seen.add(id(value))
-        parts = [*value.keys(), *value.values()] if isinstance(value, dict) else value if isinstance(value, (list, tuple)) else []
+        parts = [*value.keys(), *value.values()] if isinstance(value, dict) else value if isinstance(value,
+                                                                                                     (list,
+                                                                                                      tuple)) else []
         own = getattr(value, "__dict__", None)
         size = sys.getsizeof(value) + (value.nbytes if hasattr(value, "nbytes") else 0)
         return size + sum(self.size_of(part, seen) for part in parts) + (self.size_of(own, seen) if own else 0)
@@ -140,8 +143,9 @@ class Kept(unittest.TestCase):
 
     def described(self, result):
         rows, columns = list(map(int, result.rows)), list(map(int, result.columns))
-        return (rows, columns, result.cost, result.row_duals, result.column_duals, result.prices, result.pairs, result.is_unique,
-                bool(result.verify()), str(result.next_best()), list(result.unmatched_rows), list(result.unmatched_columns), repr(result))
+        return (rows, columns, result.cost, result.row_duals, result.column_duals, result.prices, result.pairs,
+                result.is_unique, bool(result.verify()), str(result.next_best()), list(result.unmatched_rows),
+                list(result.unmatched_columns), repr(result))
 
     def test_pickled_and_copied(self):
         for result in self.results():
@@ -155,7 +159,8 @@ class Kept(unittest.TestCase):
     def test_sent_to_a_pool(self):
         results = list(self.results())[:3]
         with multiprocessing.get_context("spawn").Pool(1) as pool:
-            self.assertEqual([described for described in pool.map(_cost_of, results)], [result.cost for result in results])
+            self.assertEqual([described for described in pool.map(_cost_of, results)],
+                             [result.cost for result in results])
 
     def test_attributes_cant_be_set(self):
         result = nushbaret.solve([[1, 2], [3, 5]])
@@ -178,18 +183,21 @@ class Prices(unittest.TestCase):
     def test_one_unit(self):
         draw = drawing(72)
         for turn in range(200):
-            costs = doubles(draw, draw.randint(1, 4), draw.randint(1, 4), list(KINDS)[turn % len(KINDS)], draw.choice([1, 0.7]))
+            costs = doubles(draw, draw.randint(1, 4), draw.randint(1, 4), list(KINDS)[turn % len(KINDS)],
+                            draw.choice([1, 0.7]))
             maximize = turn % 2 == 0
             result = nushbaret.solve(costs, maximize, partial=True)
             columns = [None] * len(costs)
             for row, column in result.pairs:
                 columns[row] = column
             sign = 1 if maximize else -1
-            self.assertEqual(len({Fraction(price) - sign * Fraction(dual) for price, dual in zip(result.prices, result.column_duals)}), 1)
+            self.assertEqual(len({Fraction(price) - sign * Fraction(dual)
+                                  for price, dual in zip(result.prices, result.column_duals)}), 1)
             self.assertEqual(min(result.prices), 0)
             for prices in result.prices, iter(result.prices), tuple(result.prices):
                 self.assertEqual(bool(nushbaret.check(costs, columns, prices, maximize=maximize)), True)
-            self.assertEqual(nushbaret.solve(costs, maximize, start=iter(result.prices), partial=True).cost, result.cost)
+            self.assertEqual(nushbaret.solve(costs, maximize, start=iter(result.prices), partial=True).cost,
+                             result.cost)
 
     @unittest.skipUnless(np, "NumPy isn't there")
     def test_arrays(self):
@@ -207,22 +215,25 @@ class Forms(unittest.TestCase):
         costs = [[1, nan], [nan, 3]]
         forms = [costs] + ([np.array(costs)] if np else [])
         for form in forms:
-            self.assertEqual([list(map(int, part)) for part in nushbaret.linear_sum_assignment(form, missing="forbid")], [[0, 1], [0, 1]])
+            self.assertEqual([list(map(int, part)) for part in nushbaret.linear_sum_assignment(form, missing="forbid")],
+                             [[0, 1], [0, 1]])
             self.assertTrue(nushbaret.check(form, [0, 1], [0, 0], missing="forbid"))
             self.assertEqual(nushbaret.compare(form, [0, 1], missing="forbid").worse, 0)
             self.assertTrue(nushbaret.solve([[1, 9], [9, 3]]).verify(form, missing="forbid"))
             for call in (lambda: nushbaret.check(form, [0, 1], [0, 0]), lambda: nushbaret.compare(form, [0, 1]),
-                         lambda: nushbaret.solve([[1, 9], [9, 3]]).verify(form), lambda: nushbaret.linear_sum_assignment(form)):
+                         lambda: nushbaret.solve([[1, 9], [9, 3]]).verify(form),
+                         lambda: nushbaret.linear_sum_assignment(form)):
                 with self.assertRaisesRegex(ValueError, "contains invalid numeric entries: nan at row 0, column 1"):
                     call()
 
     def test_buffers(self):
-        for kind, wanted in ((ctypes.c_double, 5), (ctypes.c_float, 5), (ctypes.c_int, 5), (ctypes.c_longlong, 5), (ctypes.c_ubyte, 5),
-                             (ctypes.c_short, 5)):
+        for kind, wanted in ((ctypes.c_double, 5), (ctypes.c_float, 5), (ctypes.c_int, 5), (ctypes.c_longlong, 5),
+                             (ctypes.c_ubyte, 5), (ctypes.c_short, 5)):
             held = ((kind * 2) * 2)((1, 2), (3, 5))
             for form in held, memoryview(held):
                 result = nushbaret.solve(form)
-                self.assertEqual((result.cost, bool(result.verify()), [*map(list, nushbaret.linear_sum_assignment(form))]),
+                self.assertEqual((result.cost, bool(result.verify()),
+                                  [*map(list, nushbaret.linear_sum_assignment(form))]),
                                  (wanted, True, [[0, 1], [1, 0]]))
         turned = memoryview(array("d", [1, 3, 2, 5])).cast("B").cast("d", (2, 2))
         self.assertEqual(nushbaret.solve(turned).cost, 5)
@@ -234,7 +245,8 @@ class Forms(unittest.TestCase):
             nushbaret.solve(costs)
         self.assertEqual(nushbaret.solve(costs, missing="forbid").cost, 5)
         self.assertEqual(costs.data.tolist(), [[1, 0], [2, 4]])
-        self.assertEqual(nushbaret.solve(np.ma.array([[1, 0], [2, 4]], mask=[[0, 1], [0, 0]]), missing="forbid").cost, 5)
+        self.assertEqual(nushbaret.solve(np.ma.array([[1, 0], [2, 4]], mask=[[0, 1], [0, 0]]), missing="forbid").cost,
+                         5)
         self.assertEqual(nushbaret.solve(np.ma.array([[1, 2], [3, 5]])).cost, 5)
         self.assertEqual(nushbaret.linear_sum_assignment(costs)[1].tolist(), [1, 0])
 
@@ -243,7 +255,8 @@ class Forms(unittest.TestCase):
         entries = sparse.coo_matrix(([3, 4, 0.1, 1e20], ([0, 0, 1, 1], [1, 1, 0, 1])), (2, 2))
         for form in entries, entries.tocsr(), entries.tocsc(), entries.tolil():
             result = nushbaret.solve(form)
-            self.assertEqual((result.cost, bool(result.verify()), bool(result.verify(form))), (Decimal("7.1"), True, True))
+            self.assertEqual((result.cost, bool(result.verify()), bool(result.verify(form))),
+                             (Decimal("7.1"), True, True))
             self.assertEqual(nushbaret.compare(form, [1, 0]).worse, 0)
             self.assertEqual(nushbaret.bottleneck(form).cost, Decimal("7.1"))
         with self.assertRaises(nushbaret.Infeasible):
@@ -260,7 +273,8 @@ class Forms(unittest.TestCase):
         self.assertTrue(nushbaret.check(frame, result.columns, result.prices, missing="forbid"))
         verdict = nushbaret.check(frame, ["early", "late"], result.prices, rows=["Ada", "Ben"], missing="forbid")
         self.assertIn("row Ada would be better off with column late", verdict.why)
-        self.assertEqual(nushbaret.check(frame, ["late", "night"], [0, 0, 0], missing="forbid").why, "row Ben may not have column night")
+        self.assertEqual(nushbaret.check(frame, ["late", "night"], [0, 0, 0], missing="forbid").why,
+                         "row Ben may not have column night")
         self.assertEqual(nushbaret.compare(frame, ["early", "late"], missing="forbid").worse, 4)
         frame.loc["Ben"] = [None, 3, None]
         frame.loc["Cleo"] = [None, 1, None]
@@ -271,8 +285,9 @@ class Forms(unittest.TestCase):
 
     @unittest.skipUnless(pd, "pandas isn't there")
     def test_numbers_in_frames(self):
-        for costs, kind in (([[4, 1], [2, 3]], "int64"), ([[0.5, 0.1], [0.3, 1]], "float64"), ([[Decimal("0.1")]], "float64"),
-                            ([[Decimal("0.12345678901234567890123")]], "object"), ([[10**30]], "object"), ([[Fraction(1, 3)]], "object")):
+        for costs, kind in (([[4, 1], [2, 3]], "int64"), ([[0.5, 0.1], [0.3, 1]], "float64"),
+                            ([[Decimal("0.1")]], "float64"), ([[Decimal("0.12345678901234567890123")]], "object"),
+                            ([[10**30]], "object"), ([[Fraction(1, 3)]], "object")):
             self.assertEqual(str(nushbaret.solve(costs).to_frame()["cost"].dtype), kind)
         self.assertEqual(nushbaret.solve([[0.1, 1], [1, 0.3]]).to_frame()["cost"].tolist(), [0.1, 0.3])
 
@@ -281,7 +296,8 @@ class Forms(unittest.TestCase):
                             (lambda: nushbaret.solve([["a"]]), "row 0, column 0 is 'a', which is no number"),
                             (lambda: nushbaret.solve(["ab", "cd"]), "row 0 is the text 'ab'"),
                             (lambda: nushbaret.solve([{1, 2}]), "row 0 is a set, which has no order"),
-                            (lambda: nushbaret.solve([[1]], timeout=-1), "timeout is -1: it must be a number of seconds, 0 or more")):
+                            (lambda: nushbaret.solve([[1]], timeout=-1), "timeout is -1: it must be a number of "
+                             "seconds, 0 or more")):
             with self.assertRaisesRegex((ValueError, TypeError), words):
                 call()
         self.assertEqual(nushbaret.check([[1, 2], [3, 4]], [0, None], [0, 0]).why, "1 row of 2 has a column, and 2 can")

@@ -1,26 +1,22 @@
 """Decision diagrams, prices and trees of drawn rows, held against searches of all plans."""
 import itertools
-import pathlib
 import random
-import sys
 import time
 import unittest
 from unittest import mock
 
-sys.path.insert(0, str(pathlib.Path(__file__).resolve().parents[2] / "python"))
-
-from nushbaret._row_check import shows_here
-from nushbaret._row_model import Certificate, Limits, Model, flat
+from nushbaret.rows.check import shows_here
+from nushbaret.rows.model import Certificate, Limits, Model, flat
 
 import row_models as models
 
 if models.scipy:
     import numpy as np
-    from nushbaret import _row_diagrams as diagrams, _row_prices as prices
-    from nushbaret._row_chains import Closing, chain
-    from nushbaret._row_parts import Part
-    from nushbaret._row_prices import SCALE, Pricing
-    from nushbaret._row_trees import Open, Trees
+    from nushbaret.rows import diagrams, prices
+    from nushbaret.rows.chains import Closing, chain
+    from nushbaret.rows.parts import Part
+    from nushbaret.rows.prices import SCALE, Pricing
+    from nushbaret.rows.trees import Open, Trees
 
 CASES = 300
 
@@ -53,7 +49,8 @@ class Diagrams(unittest.TestCase):
     def check_each(self, model, costs_of, found):
         for value, variable in itertools.product((0, 1), range(model.variables)):
             least = min((price for plan, price in costs_of.items() if plan[variable] == value), default=None)
-            self.assertEqual(None if found[value, variable] >= diagrams.TOO_MUCH // 2 else found[value, variable], least)
+            self.assertEqual(None if found[value, variable] >= diagrams.TOO_MUCH // 2 else found[value, variable],
+                             least)
 
     def test_too_wide(self):
         rows = [Limits(1000, tuple((variable, 3**variable) for variable in range(12)), 100_000)]
@@ -76,7 +73,8 @@ class Trees_(unittest.TestCase):
             with self.subTest(seed=seed):
                 try:
                     tree = trees.tree(model.costs, most)
-                    self.assertTrue(shows_here(Certificate(model.variables, (*rows, Limits(None, terms, most)), None, flat(tree))))
+                    self.assertTrue(shows_here(Certificate(model.variables, (*rows, Limits(None, terms, most)), None,
+                                                           flat(tree))))
                     self.assertGreater(min(prices, default=most + 1), most)
                     counts[0] += 1
                 except Open:
@@ -89,7 +87,8 @@ class Trees_(unittest.TestCase):
 class Prices(unittest.TestCase):
     def proof(self, model, make, target):
         """The certificate of a proof that no plan costs `target` or less."""
-        rows = (*limits(model), Limits(None, tuple((variable, cost) for variable, cost in enumerate(model.costs) if cost), target))
+        rows = (*limits(model), Limits(None, tuple((variable, cost) for variable, cost in enumerate(model.costs)
+                                                   if cost), target))
         return Certificate(model.variables, rows, None, flat(make()))
 
     def months(self):
@@ -113,7 +112,8 @@ class Prices(unittest.TestCase):
                     chain(pricing, bound, target + 1, end())
 
     def test_closing(self):
-        """From poor prices, too, a tree after the persons' links shows the least cost; for more it comes upon a plan."""
+        """From poor prices, too, a tree after the persons' links shows the least cost; for more it comes upon a
+        plan."""
         for model, least in self.months():
             pricing = Pricing(model, end())
             bound = pricing.bound(np.zeros(len(pricing.shared), dtype=np.int64))

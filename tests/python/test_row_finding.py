@@ -9,11 +9,9 @@ import time
 import unittest
 from unittest import mock
 
-sys.path.insert(0, str(pathlib.Path(__file__).resolve().parents[2] / "python"))
-
-from nushbaret import _row_finding as finding
-from nushbaret._row_check import shows
-from nushbaret._row_model import Model, Row
+from nushbaret.rows import finding
+from nushbaret.rows.check import shows
+from nushbaret.rows.model import Model, Row
 
 import row_models as models
 
@@ -24,7 +22,7 @@ needs_scipy = unittest.skipUnless(models.scipy, "SciPy isn't there")
 LONG = """
 import random, sys
 sys.path[:0] = [{package!r}, {tests!r}]
-from nushbaret import _row_finding as finding
+from nushbaret.rows import finding
 import row_models
 popen = finding.subprocess.Popen
 def started(*arguments, **options):
@@ -78,8 +76,8 @@ class Months(unittest.TestCase):
     """Months by prices and persons' trees, however small."""
 
     def setUp(self):
-        from nushbaret import _row_bounds
-        patched = mock.patch.object(_row_bounds, "_SMALL", 0)
+        from nushbaret.rows import bounds
+        patched = mock.patch.object(bounds, "_SMALL", 0)
         patched.start()
         self.addCleanup(patched.stop)
 
@@ -151,7 +149,7 @@ class Untrusted(unittest.TestCase):
     MODEL = Model(2, (2, 4), (Row(1, ((0, 1), (1, 1)), None, "one"), Row(None, ((0, 1), (1, 1)), 0, "none")), (0, 1))
 
     def test_plans(self):
-        search = finding._Search(self.MODEL._replace(rows=self.MODEL.rows[:1]))
+        search = finding._PlanSearch(self.MODEL._replace(rows=self.MODEL.rows[:1]))
         for plan in ((0, 0), (1,), (2, 0), (1, 0, 0)):
             self.assertFalse(search.take_plan(plan))
         self.assertTrue(search.take_plan((0, 1)))
@@ -159,7 +157,7 @@ class Untrusted(unittest.TestCase):
         self.assertEqual(search.finding()[:3], ("undecided", (0, 1), 4))
 
     def test_bounds(self):
-        search = finding._Search(self.MODEL._replace(rows=self.MODEL.rows[:1]))
+        search = finding._PlanSearch(self.MODEL._replace(rows=self.MODEL.rows[:1]))
         self.assertEqual(search.unit, 2)
         self.assertFalse(search.take_bound(0, (0, 1, 0, 1)))
         self.assertTrue(search.take_bound(0, (0, 2, 0, 1, 1, -1)))
@@ -170,7 +168,7 @@ class Untrusted(unittest.TestCase):
         self.assertTrue(shows(found.certificate) and models.shows(found.certificate))
 
     def test_reasons(self):
-        search = finding._Search(self.MODEL)
+        search = finding._PlanSearch(self.MODEL)
         told = {"reasons": ["one", "none"], "is_minimal": True, "rows": [0, 1], "tree": [0, 2, 0, 1, 1, 1]}
         self.assertFalse(search.take_reasons(told))
         self.assertTrue(search.take_reasons({**told, "tree": [0, 2, 0, 1, 1, -1]}))

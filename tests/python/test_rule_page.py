@@ -23,14 +23,15 @@ def sessions():
 @unittest.skipIf(optimize is None or np is None, "needs SciPy")
 class Page(unittest.TestCase):
     def test_sessions(self):
-        """One shell runs them all, with this interpreter as python3, and with more time than they take on a busy machine."""
+        """One shell runs them all, with this interpreter as python3, and with more time than they take on a busy
+        machine."""
         with tempfile.TemporaryDirectory() as work:
             folder = pathlib.Path(work)
             (folder / "bin").mkdir()
             (folder / "bin" / "python3").symlink_to(sys.executable)
             (folder / "examples").symlink_to(TOP / "examples")
-            environment = {**os.environ, "PATH": f"{folder / 'bin'}:{os.environ['PATH']}", "PYTHONPATH": str(TOP / "python"),
-                           "PYTHONDONTWRITEBYTECODE": "1"}
+            environment = {**os.environ, "PATH": f"{folder / 'bin'}:{os.environ['PATH']}",
+                           "PYTHONPATH": str(TOP / "python"), "PYTHONDONTWRITEBYTECODE": "1"}
             found = [(command.replace("--rules ", "--time 900 --rules "), below) for command, below in sessions()]
             script = "\n".join(f"echo '$ {number}'\n{command}" for number, (command, _) in enumerate(found))
             ran = subprocess.run(["bash", "-c", script], cwd=work, env=environment, capture_output=True, text=True)

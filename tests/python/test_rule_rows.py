@@ -1,17 +1,14 @@
-"""The rows that say rules, next to the second reader, which looks at days and kinds: both accept and refuse the same plans."""
-import pathlib
+"""The rows that say rules, next to the second reader, which looks at days and kinds: both accept and refuse the same
+plans."""
 import random
-import sys
 import unittest
 from collections import Counter
 
-sys.path.insert(0, str(pathlib.Path(__file__).resolve().parents[2] / "python"))
-
 from drawn_rules import SHAPES, drawn_case
-from nushbaret._roster import PlanLine
-from nushbaret._row_sums import Rows, Work
-from nushbaret._rule_rows import Making, add_rules
-from nushbaret._rules_kept import broken_by, plan_of
+from nushbaret.roster.roster import PlanLine
+from nushbaret.roster.sums import Rows, Work
+from nushbaret.roster.rule_rows import Making, add_rules
+from nushbaret.roster.rules_kept import broken_by, plan_of
 
 
 def drawn_plan(r, roster, past):
@@ -19,7 +16,8 @@ def drawn_plan(r, roster, past):
     allowed = {}
     for person, object_, cost in zip(roster.of_persons, roster.of_objects, roster.costs):
         if object_ not in roster.past:
-            allowed.setdefault((person, roster.groups.of_objects[object_]), []).append(PlanLine(person, object_, 2, cost))
+            allowed.setdefault((person, roster.groups.of_objects[object_]),
+                               []).append(PlanLine(person, object_, 2, cost))
     shares = [r.choice((0.0, 0.15, 0.3, 0.5, 0.7, 1.0)) for _ in roster.persons]
     favourite = [r.choice((None, 0, 1, 2)) for _ in roster.persons]
     plan = list(past)
@@ -31,7 +29,8 @@ def drawn_plan(r, roster, past):
 
 def rows_of(roster, month, rules, past):
     """The rows of the rules alone, and the variable of each pair."""
-    pairs = [(person, object_) for person, object_ in zip(roster.of_persons, roster.of_objects) if object_ not in roster.past]
+    pairs = [(person, object_) for person, object_ in zip(roster.of_persons, roster.of_objects)
+             if object_ not in roster.past]
     variables = {pair: number for number, pair in enumerate(pairs)}
     work = Work(month, variables, [(pair.person, pair.object) for pair in past])
     rows = Rows([0] * len(pairs), [person for person, _ in pairs])
@@ -44,12 +43,14 @@ def meets(rows, variables, plan):
     taken = {variables[pair.person, pair.object] for pair in plan if (pair.person, pair.object) in variables}
     values = [int(number in taken) for number in range(len(rows.costs))]
     for helper in range(len(variables), len(values)):
-        own = [row for row in rows.rows if (helper, 1) in row.terms and all(other <= helper and (other == helper or other < len(variables))
-                                                                              for other, _ in row.terms)]
+        own = [row for row in rows.rows if (helper, 1) in row.terms
+               and all(other <= helper and (other == helper or other < len(variables)) for other, _ in row.terms)]
         values[helper] = 1
-        values[helper] = int(all(row.most is None or sum(values[one] * factor for one, factor in row.terms) <= row.most for row in own))
+        values[helper] = int(all(row.most is None or sum(values[one] * factor for one, factor in row.terms) <= row.most
+                                 for row in own))
     sums = [sum(values[one] * factor for one, factor in row.terms) for row in rows.rows]
-    return all((row.least is None or row.least <= total) and (row.most is None or total <= row.most) for row, total in zip(rows.rows, sums))
+    return all((row.least is None or row.least <= total) and (row.most is None or total <= row.most)
+               for row, total in zip(rows.rows, sums))
 
 
 class BothReaders(unittest.TestCase):

@@ -1,4 +1,5 @@
-"""SciPy's call raises what SciPy's raises, and takes what SciPy's takes, with and without NumPy; nothing of NumPy's comes through."""
+"""SciPy's call raises what SciPy's raises, and takes what SciPy's takes, with and without NumPy; nothing of NumPy's
+comes through."""
 import subprocess
 import sys
 import os
@@ -26,16 +27,15 @@ class Neither:
 
 
 # What is given, and what is raised, or the columns that are found.
-PLAIN = (
-    ([], ValueError), ([[]], []), ([[], []], []), ([[[1]]], ValueError), ([[[1, 2], [3, 4]]], ValueError), ([1, 2], ValueError),
-    ("abc", ValueError), ("", ValueError), (b"ab", ValueError), (3, ValueError), (2.5, ValueError), (None, ValueError),
-    ({1: 2}, TypeError), ({1, 2}, TypeError), ([{1, 2}], TypeError), ([{1: 2}], TypeError), (Neither(), TypeError),
-    ([["x"]], ValueError), ([["1", "2.5"], ["3", " 4 "]], [0, 1]), ([["inf", "1"]], [1]), ([["1", 2], [3.5, "0.25"]], [0, 1]),
-    (["ab"], ValueError), ([[10**400]], OverflowError), ([[10**300, 1], [2, 3]], [1, 0]), ([[Index(), 1]], [1]), ([[Floating(), 3]], [0]),
-    ([[1, 2], [3]], ValueError), ([[1j]], TypeError), ([[Neither()]], TypeError), ([[Decimal("1.5"), 1]], [1]), ([[Fraction(1, 2), 1]], [0]),
-    ([range(3)], [0]), ([[True, False]], [1]), (([1], [2]), [0]), ([[float("nan")]], ValueError), ([[float("-inf")]], ValueError),
-    ([[float("inf")]], ValueError), ((row for row in [[1, 2]]), TypeError),
-)
+PLAIN = (([], ValueError), ([[]], []), ([[], []], []), ([[[1]]], ValueError), ([[[1, 2], [3, 4]]], ValueError),
+         ([1, 2], ValueError), ("abc", ValueError), ("", ValueError), (b"ab", ValueError), (3, ValueError),
+         (2.5, ValueError), (None, ValueError), ({1: 2}, TypeError), ({1, 2}, TypeError), ([{1, 2}], TypeError),
+         ([{1: 2}], TypeError), (Neither(), TypeError), ([["x"]], ValueError), ([["1", "2.5"], ["3", " 4 "]], [0, 1]),
+         ([["inf", "1"]], [1]), ([["1", 2], [3.5, "0.25"]], [0, 1]), (["ab"], ValueError), ([[10**400]], OverflowError),
+         ([[10**300, 1], [2, 3]], [1, 0]), ([[Index(), 1]], [1]), ([[Floating(), 3]], [0]), ([[1, 2], [3]], ValueError),
+         ([[1j]], TypeError), ([[Neither()]], TypeError), ([[Decimal("1.5"), 1]], [1]), ([[Fraction(1, 2), 1]], [0]),
+         ([range(3)], [0]), ([[True, False]], [1]), (([1], [2]), [0]), ([[float("nan")]], ValueError),
+         ([[float("-inf")]], ValueError), ([[float("inf")]], ValueError), ((row for row in [[1, 2]]), TypeError),)
 # What SciPy refuses and this call takes.
 TAKEN = [[None, 1]]
 
@@ -56,14 +56,18 @@ class Errors(unittest.TestCase):
 
     @unittest.skipUnless(optimize, "SciPy isn't there")
     def test_beside_scipy(self):
-        arrays = [np.array([["1"]]), np.zeros((2, 2, 2)), np.zeros(3), np.zeros(()), np.zeros((0, 3)), np.array([[1j]]), np.eye(2, dtype=bool),
-                  np.array([["2020-01-01"]], "M8[D]"), np.array([[1]], "m8[s]"), np.array([[b"1"]]), np.array([[2, 1]], np.float16),
-                  np.ma.array([[1.0, 0], [2, 4]], mask=[[0, 1], [0, 0]]), np.array([[np.nan, 1]]), np.array([[-np.inf, 1]]), 
-                  sparse.coo_matrix(np.eye(2)), sparse.csr_matrix(np.eye(2)), [np.array([1, 2]), np.array([3, 5])], [[np.float32(0.5), np.int8(1)]]]
+        arrays = [np.array([["1"]]), np.zeros((2, 2, 2)), np.zeros(3), np.zeros(()), np.zeros((0, 3)), np.array([[1j]]),
+                  np.eye(2, dtype=bool), np.array([["2020-01-01"]], "M8[D]"), np.array([[1]], "m8[s]"),
+                  np.array([[b"1"]]), np.array([[2, 1]], np.float16),
+                  np.ma.array([[1.0, 0], [2, 4]], mask=[[0, 1], [0, 0]]), np.array([[np.nan, 1]]),
+                  np.array([[-np.inf, 1]]), sparse.coo_matrix(np.eye(2)), sparse.csr_matrix(np.eye(2)),
+                  [np.array([1, 2]), np.array([3, 5])], [[np.float32(0.5), np.int8(1)]]]
         if pd:
-            arrays += [pd.DataFrame([[2, 1]]), pd.DataFrame([[2, 1]], dtype="Int64"), [[pd.NA, 1]], pd.DataFrame([[pd.NA, 1]]), pd.Series([1, 2])]
+            arrays += [pd.DataFrame([[2, 1]]), pd.DataFrame([[2, 1]], dtype="Int64"), [[pd.NA, 1]],
+                       pd.DataFrame([[pd.NA, 1]]), pd.Series([1, 2])]
         for costs in [costs for costs, _ in PLAIN if not hasattr(costs, "__next__")] + arrays:
-            self.assertEqual(found_by(nushbaret.linear_sum_assignment, costs), found_by(optimize.linear_sum_assignment, costs), repr(costs))
+            self.assertEqual(found_by(nushbaret.linear_sum_assignment, costs),
+                             found_by(optimize.linear_sum_assignment, costs), repr(costs))
 
     def test_nothing_of_numpys_comes_through(self):
         """Also where NumPy raises for each fault of floating point."""
@@ -98,11 +102,13 @@ class Errors(unittest.TestCase):
 
     def test_without_numpy(self):
         """The same in a process in which nobody has imported NumPy."""
-        code = ("import sys, test_scipys_errors as tests\n"
-                "for name in [name for name in sys.modules if name.split('.')[0] in ('numpy', 'scipy', 'pandas')]:\n    del sys.modules[name]\n"
-                "tests.np = tests.optimize = None\ntests.Errors('test_plain').debug()\nprint('numpy' in sys.modules)\n")
-        paths = os.pathsep.join(map(os.path.abspath, (os.path.dirname(os.path.dirname(nushbaret.__file__)), os.path.dirname(__file__))))
-        ran = subprocess.run([sys.executable, "-c", code], capture_output=True, text=True, check=True, env={**os.environ, "PYTHONPATH": paths})
+        code = ("import sys, test_scipys_errors as tests\nfor name in [name for name in sys.modules if "
+                "name.split('.')[0] in ('numpy', 'scipy', 'pandas')]:\n    del sys.modules[name]\ntests.np = "
+                "tests.optimize = None\ntests.Errors('test_plain').debug()\nprint('numpy' in sys.modules)\n")
+        paths = os.pathsep.join(map(os.path.abspath, (os.path.dirname(os.path.dirname(nushbaret.__file__)),
+                                                      os.path.dirname(__file__))))
+        ran = subprocess.run([sys.executable, "-c", code], capture_output=True, text=True, check=True,
+                             env={**os.environ, "PYTHONPATH": paths})
         self.assertEqual(ran.stdout, "False\n", ran.stderr)
 
 

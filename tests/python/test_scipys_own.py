@@ -1,5 +1,5 @@
-"""SciPy's own tests of linear_sum_assignment, as SciPy's package brings them, with this package's call put in its place. Where
-pytest isn't there, the two of its words that they use are stood in for."""
+"""SciPy's own tests of linear_sum_assignment, as SciPy's package brings them, with this package's call put in its
+place. Where pytest isn't there, the two of its words that they use are stood in for."""
 import contextlib
 import re
 import sys

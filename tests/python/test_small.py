@@ -1,4 +1,5 @@
-"""Small matrices take a shorter way where NumPy is loaded: plans are compared with a slow search in fractions, and results with the longer way."""
+"""Small matrices take a shorter way where NumPy is loaded: plans are compared with a slow search in fractions, and
+results with the longer way."""
 import pickle
 import unittest
 from decimal import Decimal
@@ -6,20 +7,20 @@ from fractions import Fraction
 from unittest import mock
 
 import nushbaret
-from nushbaret import _levels, _solving
+from nushbaret.api import solve
+from nushbaret.lap import levels
 from drawn import KINDS, best, doubles, drawing, exactly, hungarian, proves
 
-try:
-    import numpy as np
-    from nushbaret import _small
-except ImportError:
-    np = None
+from nushbaret.lap import small as _small
+from optional import np
 
 
 def _tied(draw):
-    """Decimals that add up to the same sum while their doubles don't, and doubles that do while their decimals don't."""
+    """Decimals that add up to the same sum while their doubles don't, and doubles that do while their decimals
+    don't."""
     tenths = draw.randint(1, 9)
-    return draw.choice([tenths / 10, tenths * 0.1, 0.1 + 0.2, 0.3, 1 / 3, 2 / 3, 1 - 1 / 3, 0.1 + 0.2 + draw.randint(0, 2) * 2.0**-54])
+    return draw.choice([tenths / 10, tenths * 0.1, 0.1 + 0.2, 0.3, 1 / 3, 2 / 3, 1 - 1 / 3,
+                        0.1 + 0.2 + draw.randint(0, 2) * 2.0**-54])
 
 
 def _beside(draw):
@@ -30,7 +31,8 @@ def _beside(draw):
 
 def _short(draw):
     """Decimals of 12 to 14 digits."""
-    return float(f"{draw.randint(0, 9)}.{draw.randint(1, 999):03}{draw.choice(['', '000000001', '00000001', '0000000001'])}")
+    whole, part = draw.randint(0, 9), draw.randint(1, 999)
+    return float(f"{whole}.{part:03}{draw.choice(['', '000000001', '00000001', '0000000001'])}")
 
 
 OWN_KINDS = {"tied": _tied, "neighbours": _beside, "12 digits": _short}
@@ -47,7 +49,7 @@ class Small(unittest.TestCase):
         """By the thousand, compared with all plans: lists and arrays, for decimals and for doubles."""
         draw, kinds = drawing(81), [*OWN_KINDS, "tied", "near ties", "small differences", "thirds and M", "even"]
         small, refined = 0, 0
-        with mock.patch.object(_levels, "after_first", side_effect=_levels.after_first) as finer:
+        with mock.patch.object(levels, "after_first", side_effect=levels.after_first) as finer:
             for turn in range(2400):
                 kind, most = kinds[turn % len(kinds)], 5 if turn % 40 == 0 else 4
                 n_rows, n_columns, maximize = draw.randint(1, most), draw.randint(1, most), draw.random() < 0.5
@@ -62,7 +64,8 @@ class Small(unittest.TestCase):
                     result, exact = nushbaret.solve(form, maximize), exactly(costs, True)
                     wanted = best(exact, maximize, served)
                     paid = sum((exact[row][column] for row, column in zip(result.rows, result.columns)), Fraction(0))
-                    self.assertEqual((paid, Fraction(result.cost), len(set(map(int, result.columns)))), (wanted, wanted, served))
+                    self.assertEqual((paid, Fraction(result.cost), len(set(map(int, result.columns)))),
+                                     (wanted, wanted, served))
                     if turn % 20 == 0:
                         self.assertTrue(proves(exact, result, maximize))
                         self.assertTrue(result.verify())
@@ -88,13 +91,15 @@ class Small(unittest.TestCase):
         for turn in range(40):
             n_rows, maximize = draw.randint(8, 40), turn % 2 == 0
             n_columns = draw.choice([n_rows, n_rows, n_rows + 5, max(n_rows - 5, 1)])
-            costs = [[draw.choice([draw.random(), _tied(draw), _beside(draw)]) for _ in range(n_columns)] for _ in range(n_rows)]
+            costs = [[draw.choice([draw.random(), _tied(draw), _beside(draw)]) for _ in range(n_columns)]
+                     for _ in range(n_rows)]
             for form in costs, np.array(costs):
                 exact = exactly(costs, True)
                 self.assertEqual(Fraction(nushbaret.solve(form, maximize).cost), hungarian(exact, maximize))
                 exact = exactly(costs, False)
                 rows, columns = nushbaret.linear_sum_assignment(form, maximize)
-                self.assertEqual(sum(exact[row][column] for row, column in zip(rows, columns)), hungarian(exact, maximize))
+                self.assertEqual(sum(exact[row][column] for row, column in zip(rows, columns)),
+                                 hungarian(exact, maximize))
 
     def test_beside_the_longer_way(self):
         """The same sum in the same form, and lists and arrays of the same kind."""
@@ -109,23 +114,25 @@ class Small(unittest.TestCase):
                 costs = self.costs(draw, kind, n_rows, n_columns)
             for form in (costs,) if kind == "great whole" else (costs, np.array(costs)):
                 result = nushbaret.solve(form, maximize)
-                with mock.patch.object(_solving, "small_arrays", return_value=None):
+                with mock.patch.object(solve, "small_arrays", return_value=None):
                     longer = nushbaret.solve(form, maximize)
                 for own in result, pickle.loads(pickle.dumps(result)):
                     self.assertEqual(self.form_of(own), self.form_of(longer))
                 if turn % 7 == 0 and form is costs:
-                    self.assertEqual((result.is_unique, result.unmatched_rows == longer.unmatched_rows), (longer.is_unique, True))
+                    self.assertEqual((result.is_unique, result.unmatched_rows == longer.unmatched_rows),
+                                     (longer.is_unique, True))
 
     def form_of(self, result):
-        kinds = [type(values) for values in (result.cost, result.rows, result.columns)] + [{type(column) for column in result.columns}]
+        kinds = [type(values) for values in (result.cost, result.rows,
+                                             result.columns)] + [{type(column) for column in result.columns}]
         return str(result.cost), kinds, len(result.rows), result.maximize
 
     def test_other_numbers_go_the_longer_way(self):
         """Floats of other sizes print as other decimals, and an int may be no double."""
         exact = 0.1234567890123456
-        for other, cost in ((np.float32(0.1), "0.1"), (np.float16(0.1), "0.1"), (np.float64(0.1), "0.1"), (Decimal("0.1"), "0.1"),
-                            (True, "1"), (2**53 + 1, "9007199254740993"), (np.int64(2**53 + 1), "9007199254740993"),
-                            (Fraction(1, 3), "1/3")):
+        for other, cost in ((np.float32(0.1), "0.1"), (np.float16(0.1), "0.1"), (np.float64(0.1), "0.1"),
+                            (Decimal("0.1"), "0.1"), (True, "1"), (2**53 + 1, "9007199254740993"),
+                            (np.int64(2**53 + 1), "9007199254740993"), (Fraction(1, 3), "1/3")):
             result = nushbaret.solve([[other, 1e17], [1e17, exact]])
             self.assertEqual(Fraction(result.cost), Fraction(cost) + Fraction(str(exact)))
         for wrong in float("nan"), float("-inf"), "1", 1j:
@@ -145,7 +152,8 @@ class Small(unittest.TestCase):
 
     def test_costs_changed_afterwards(self):
         """A result reads its caller's costs again, and says so where they are others."""
-        for form in [[0.1234567890123456, 2.5], [3.5, 1 / 3]], np.array([[0.1234567890123456, 2.5], [3.5, 1 / 3]]), [[1, 5], [7, 2]]:
+        for form in ([[0.1234567890123456, 2.5], [3.5, 1 / 3]], np.array([[0.1234567890123456, 2.5], [3.5, 1 / 3]]),
+                     [[1, 5], [7, 2]]):
             result = nushbaret.solve(form)
             before = result.cost
             self.assertTrue(result.verify())

@@ -31,11 +31,13 @@ class Drawn(unittest.TestCase):
         """Rows are read one by one: whole numbers, floats that hold whole numbers, and rows of both or of others."""
         rows = [[4, 1, 3], [2.0, -0.0, 5.0], [True, 2.0, 2], [Decimal(3), 2, Fraction(4, 2)]]
         for size in 1, 2, 3, 40:
-            for costs in [row * size for row in rows], [row * size for row in rows[:2]], [row * size for row in rows[1:2]]:
+            for costs in [row * size for row in rows], [row * size for row in rows[:2]], [row * size
+                                                                                          for row in rows[1:2]]:
                 exact = [[int(cost) for cost in row] for row in costs]
                 for form in costs, [tuple(row) for row in costs]:
                     result = nushbaret.solve(form)
-                    self.assertEqual((result.cost, result.columns), (nushbaret.solve(exact).cost, nushbaret.solve(exact).columns))
+                    self.assertEqual((result.cost, result.columns),
+                                     (nushbaret.solve(exact).cost, nushbaret.solve(exact).columns))
                     self.assertIs(type(result.cost), int)
         for wrong in 1.5, "1", 2**63, 1e300, float("nan"):
             for row in [1, 2, wrong], [1.0, 2.0, wrong]:
@@ -59,7 +61,8 @@ class Drawn(unittest.TestCase):
             n_rows, n_columns = draw.randint(1, 5), draw.randint(1, 5)
             costs = matrix(draw, n_rows, n_columns, draw.choice([1, 9, 10**12]), draw.choice([0.3, 0.6, 0.9]))
             maximize, served = draw.random() < 0.5, min(n_rows, n_columns)
-            listed = [(row, column, cost) for row, held in enumerate(costs) for column, cost in enumerate(held) if cost is not None]
+            listed = [(row, column, cost) for row, held in enumerate(costs) for column, cost in enumerate(held)
+                      if cost is not None]
             draw.shuffle(listed)
             lists = [list(part) for part in zip(*listed)] or [[], [], []]
             try:
@@ -77,7 +80,8 @@ class Drawn(unittest.TestCase):
         self.assertGreater(min(found, short), 200)
 
     def hold_proof(self, costs, fault):
-        pairs = {(row, column) for row, held in enumerate(costs) for column, cost in enumerate(held) if cost is not None}
+        pairs = {(row, column) for row, held in enumerate(costs) for column, cost in enumerate(held)
+                 if cost is not None}
         self.assertEqual(fault.groups[0], (fault.rows, fault.columns))
         self.assertEqual(len({len(rows) > len(columns) for rows, columns in fault.groups}), 1)
         for rows, columns in fault.groups:
@@ -99,7 +103,8 @@ class Drawn(unittest.TestCase):
         else:
             self.assertEqual((result.cost, result.unmatched_rows), (0, list(range(len(costs)))))
         n_columns = len(costs[0])
-        self.assertEqual(nushbaret.solve_sparse(len(costs), n_columns, *lists, maximize=maximize, partial=True).cost, result.cost)
+        self.assertEqual(nushbaret.solve_sparse(len(costs), n_columns, *lists, maximize=maximize, partial=True).cost,
+                         result.cost)
 
     def test_decimals(self):
         draw = drawing(4)
@@ -165,7 +170,8 @@ class Duals(unittest.TestCase):
             other = nushbaret.solve(costs, maximize, partial=True)
             answer = other._answer
             other.__dict__["_answer"] = answer._replace(prices=array("q", [price + 7 for price in answer.prices]))
-            self.assertEqual((other.row_duals, other.column_duals, other.prices), (result.row_duals, result.column_duals, result.prices))
+            self.assertEqual((other.row_duals, other.column_duals, other.prices),
+                             (result.row_duals, result.column_duals, result.prices))
             self.assertTrue(proves(costs, other, maximize))
             different += len(set(answer.prices)) > 1
         self.assertGreater(different, 100)
@@ -178,7 +184,8 @@ class Duals(unittest.TestCase):
                 columns[row] = column
             shift = draw.choice([0.5, draw.random(), -draw.random(), 1e3 / 7])
             prices = [price + shift + draw.randint(-1, 1) * 1e-9 for price in result.prices]
-            self.assertTrue(nushbaret.check(costs, columns, prices, maximize=maximize), (costs, columns, prices, maximize))
+            self.assertTrue(nushbaret.check(costs, columns, prices, maximize=maximize),
+                            (costs, columns, prices, maximize))
 
 
 class Results(unittest.TestCase):
@@ -216,7 +223,8 @@ class Results(unittest.TestCase):
         again = pickle.loads(pickle.dumps(caught.exception))
         self.assertEqual((again.rows, again.columns, str(again)), ([0, 1], [0], str(caught.exception)))
         self.assertEqual(again.groups, [([0, 1], [0]), ([2], [])])
-        self.assertEqual(str(again), "cost matrix is infeasible: rows 0, 1 may have column 0 only (the first of 2 groups)")
+        self.assertEqual(str(again), "cost matrix is infeasible: rows 0, 1 may have column 0 only (the first of 2 "
+                         "groups)")
 
     def test_eight_threads(self):
         draw, wrong = drawing(7), []

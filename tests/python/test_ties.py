@@ -4,32 +4,27 @@ from fractions import Fraction
 from unittest import mock
 
 import nushbaret
-from nushbaret import _levels, _ties
+from nushbaret.lap import levels, ties
 from drawn import drawing, exactly, hungarian, proves
 
-try:
-    import numpy as np
-except ImportError:
-    np = None
+from optional import np
 
 # Costs of a matrix, from the row, the column and a draw.
-KINDS = {
-    "rows": lambda draw, row, column: 1 / (row + 3),
-    "columns": lambda draw, row, column: 1 / (column + 3),
-    "near": lambda draw, row, column: 0.1234567890123456 + draw.randint(0, 2) * 2.0**-54,
-    "near and far": lambda draw, row, column: draw.choice([0.1234567890123456 + draw.randint(0, 2) * 2.0**-54, 1e3 / 7]),
-    "thirds": lambda draw, row, column: draw.randint(0, 3) / 3,
-    "thirds and more": lambda draw, row, column: draw.randint(0, 60) / 3 if draw.random() < 0.5 else float(draw.randint(0, 1)),
-    "many near": lambda draw, row, column: draw.randint(0, 12) / 3 + draw.randint(0, 1) * 1e-12,
-    "whole and small": lambda draw, row, column: draw.randint(1, 3) + draw.randint(0, 2) * 1e-13,
-    "row and small": lambda draw, row, column: 1000 / (row + 3) + draw.randint(0, 2) * 1e-13,
-    "zeros": lambda draw, row, column: draw.choice([0.0, -0.0, 0.1 + 0.2, 0.3]),
-    "signs": lambda draw, row, column: draw.choice([-1 / 3, 1 / 3, -2 / 3, 0.0]),
-    "great": lambda draw, row, column: draw.choice([1e22 / 3, 2e22 / 3, 1e22]),
-    "small": lambda draw, row, column: draw.choice([1e-200 / 3, 2e-200 / 3, 1e-200]),
-    "wide": lambda draw, row, column: draw.choice([1e-9 / 3, 1e9 / 3, 2e9 / 3]),
-    "late": lambda draw, row, column: 1 / 3 if column < 14 or row < 5 else 1 / 3 + draw.randint(0, 3) * 1e-12 / 7,
-}
+KINDS = {"rows": lambda draw, row, column: 1 / (row + 3), "columns": lambda draw, row, column: 1 / (column + 3),
+         "near": lambda draw, row, column: 0.1234567890123456 + draw.randint(0, 2) * 2.0**-54,
+         "near and far": lambda draw, row, column: draw.choice([0.1234567890123456 + draw.randint(0, 2) * 2.0**-54,
+                                                                1e3 / 7]),
+         "thirds": lambda draw, row, column: draw.randint(0, 3) / 3,
+         "thirds and more": lambda draw, row, column: draw.randint(0, 60) / 3 if draw.random() < 0.5
+         else float(draw.randint(0, 1)), "many near": lambda draw, row, column: draw.randint(0, 12) / 3
+         + draw.randint(0, 1) * 1e-12, "whole and small": lambda draw, row, column: draw.randint(1, 3)
+         + draw.randint(0, 2) * 1e-13, "row and small": lambda draw, row, column: 1000 / (row + 3)
+         + draw.randint(0, 2) * 1e-13, "zeros": lambda draw, row, column: draw.choice([0.0, -0.0, 0.1 + 0.2, 0.3]),
+         "signs": lambda draw, row, column: draw.choice([-1 / 3, 1 / 3, -2 / 3, 0.0]),
+         "great": lambda draw, row, column: draw.choice([1e22 / 3, 2e22 / 3, 1e22]),
+         "small": lambda draw, row, column: draw.choice([1e-200 / 3, 2e-200 / 3, 1e-200]),
+         "wide": lambda draw, row, column: draw.choice([1e-9 / 3, 1e9 / 3, 2e9 / 3]),
+         "late": lambda draw, row, column: 1 / 3 if column < 14 or row < 5 else 1 / 3 + draw.randint(0, 3) * 1e-12 / 7}
 
 
 @unittest.skipUnless(np, "NumPy isn't there")
@@ -40,7 +35,8 @@ class Ties(unittest.TestCase):
             result = nushbaret.solve(form, maximize)
             exact = exactly(costs, True)
             self.assertEqual(Fraction(result.cost), hungarian(exact, maximize))
-            self.assertEqual(sum(exact[row][column] for row, column in zip(result.rows, result.columns)), Fraction(result.cost))
+            self.assertEqual(sum(exact[row][column] for row, column in zip(result.rows, result.columns)),
+                             Fraction(result.cost))
             rows, columns = nushbaret.linear_sum_assignment(form, maximize)
             self.assertEqual(len(set(columns.tolist())), min(form.shape))
             exact = exactly(costs, False)
@@ -51,7 +47,7 @@ class Ties(unittest.TestCase):
         """From a call's own first level, and from the one of the longer way."""
         draw, seen = drawing(181), {"best": 0, "after_level": 0}
         wrapped = {name: self.counted(seen, name) for name in seen}
-        with mock.patch.multiple(_ties, **wrapped):
+        with mock.patch.multiple(ties, **wrapped):
             for turn in range(600):
                 kind = list(KINDS)[turn % len(KINDS)]
                 n_rows, n_columns = draw.randint(1, 18), draw.randint(1, 18)
@@ -63,7 +59,7 @@ class Ties(unittest.TestCase):
         self.assertGreater(min(seen.values()), 100, seen)
 
     def counted(self, seen, name):
-        plain = getattr(_ties, name)
+        plain = getattr(ties, name)
 
         def counting(*words):
             found = plain(*words)
@@ -72,15 +68,17 @@ class Ties(unittest.TestCase):
         return counting
 
     def test_larger(self):
-        """Beyond the first sample of rows, and in several parts; a plan is compared with what levels find along lists of pairs."""
+        """Beyond the first sample of rows, and in several parts; a plan is compared with what levels find along lists
+        of pairs."""
         draw = drawing(182)
         for turn, (n_rows, n_columns) in enumerate([(40, 700), (700, 40), (170, 170), (130, 150)] * 2):
             for kind in KINDS:
-                costs = np.array([[KINDS[kind](draw, row, column) for column in range(n_columns)] for row in range(n_rows)])
+                costs = np.array([[KINDS[kind](draw, row, column) for column in range(n_columns)]
+                                  for row in range(n_rows)])
                 for call in nushbaret.solve, nushbaret.linear_sum_assignment:
                     with self.subTest(kind=kind, shape=costs.shape, turn=turn, call=call.__name__):
                         found = self.sum_of(costs, call(costs, turn < 4), call is nushbaret.solve)
-                        with mock.patch.object(_ties, "of_problem", return_value=None):
+                        with mock.patch.object(ties, "of_problem", return_value=None):
                             self.assertEqual(found, self.sum_of(costs, call(costs, turn < 4), call is nushbaret.solve))
 
     def sum_of(self, costs, found, printed):
@@ -100,7 +98,8 @@ class Ties(unittest.TestCase):
         """Where too many costs differ, levels go on along lists of pairs."""
         draw = drawing(183)
         costs = [[draw.choice([0.25, 0.25, 0.25, draw.random() * 1e-7 + 0.25]) for _ in range(60)] for _ in range(60)]
-        with mock.patch.object(_ties, "_MOST_VALUES", 3), mock.patch.object(_levels, "finer", side_effect=_levels.finer) as finer:
+        with mock.patch.object(ties, "_MOST_VALUES", 3), mock.patch.object(levels, "finer",
+                                                                           side_effect=levels.finer) as finer:
             self.judge(costs, False)
         self.assertGreater(finer.call_count, 0)
 

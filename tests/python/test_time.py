@@ -10,7 +10,7 @@ from array import array
 from unittest import mock
 
 import nushbaret
-from nushbaret import _levels, _library as library
+from nushbaret.lap import levels, library
 from drawn import drawing, matrix
 
 TOP = os.path.dirname(os.path.dirname(nushbaret.__file__))
@@ -45,14 +45,15 @@ def endless_call():
 
 def short_pieces(looks):
     """Searches in pieces of so many looks at pairs, to begin with."""
-    return mock.patch.dict(library.PIECES, dict.fromkeys(library.PIECES, library.Piece(looks, 0)))
+    return mock.patch.dict(library.PIECES, dict.fromkeys(library.PIECES, library.PieceSize(looks, 0)))
 
 
 class Interrupts(unittest.TestCase):
     @unittest.skipUnless(os.name == "posix", "signals are sent as POSIX has them")
     def test_ctrl_c_in_another_process(self):
         code = SLOW.format(size=2000)
-        process = subprocess.Popen([sys.executable, "-c", code], stdout=subprocess.PIPE, text=True, env={**os.environ, "PYTHONPATH": TOP})
+        process = subprocess.Popen([sys.executable, "-c", code], stdout=subprocess.PIPE, text=True,
+                                   env={**os.environ, "PYTHONPATH": TOP})
         self.assertEqual(process.stdout.readline(), "ready\n")
         time.sleep(0.2)
         process.send_signal(signal.SIGINT)
@@ -77,7 +78,8 @@ class Interrupts(unittest.TestCase):
 
     def test_small_searches_are_done_in_one_piece(self):
         with endless_call():
-            self.assertEqual(nushbaret.solve([[i * j for j in range(30)] for i in range(30)]).cost, sum(i * (29 - i) for i in range(30)))
+            self.assertEqual(nushbaret.solve([[i * j for j in range(30)] for i in range(30)]).cost,
+                             sum(i * (29 - i) for i in range(30)))
 
 
 class Pieces(unittest.TestCase):
@@ -89,8 +91,12 @@ class Pieces(unittest.TestCase):
             costs = matrix(draw, n_rows, n_columns, draw.choice([9, 10**12]), draw.choice([0.5, 1.0]))
             wanted = nushbaret.solve(costs, maximize, partial=True)
             calls, call = [], library.call
-            with short_pieces(draw.choice([1, 10, 1000])), mock.patch.multiple(library, LONG=0, call=lambda *words, **named: (
-                    calls.append(words[0]), call(*words, **named))[1]):
+
+            def noted(*words, calls=calls, call=call, **named):
+                calls.append(words[0])
+                return call(*words, **named)
+
+            with short_pieces(draw.choice([1, 10, 1000])), mock.patch.multiple(library, LONG=0, call=noted):
                 result = nushbaret.solve(costs, maximize, partial=True)
                 self.assertEqual((result.cost, bool(result.verify(costs))), (wanted.cost, True))
             pieces += len(calls)
@@ -99,7 +105,8 @@ class Pieces(unittest.TestCase):
 
 class Progress(unittest.TestCase):
     # Only one plan is best.
-    COSTS = [[(7919 * row * row + 104729 * column * column + 611953 * row * column) % 1000003 for column in range(40)] for row in range(30)]
+    COSTS = [[(7919 * row * row + 104729 * column * column + 611953 * row * column) % 1000003 for column in range(40)]
+             for row in range(30)]
 
     def noted(self, solve, **words):
         """What progress is called with in a search in small pieces, and what that returns."""
@@ -110,10 +117,12 @@ class Progress(unittest.TestCase):
 
     def test_what_it_is_called_with(self):
         lists = [(row, column, cost) for row, costs in enumerate(self.COSTS) for column, cost in enumerate(costs)]
-        calls = (lambda **words: nushbaret.solve(self.COSTS, **words).cost, lambda **words: nushbaret.linear_sum_assignment(self.COSTS, **words),
+        calls = (lambda **words: nushbaret.solve(self.COSTS, **words).cost,
+                 lambda **words: nushbaret.linear_sum_assignment(self.COSTS, **words),
                  lambda **words: nushbaret.solve([list(column) for column in zip(*self.COSTS)], **words).cost,
                  lambda **words: nushbaret.solve_sparse(30, 40, *zip(*lists), **words).cost,
-                 lambda **words: nushbaret.solve([[cost + 1e15 / 3 for cost in row] for row in self.COSTS], **words).columns)
+                 lambda **words: nushbaret.solve([[cost + 1e15 / 3 for cost in row] for row in self.COSTS],
+                                                 **words).columns)
         numbers = []
         for call in calls:
             noted, found = self.noted(call)
@@ -146,8 +155,10 @@ class Timeouts(unittest.TestCase):
     COSTS = [[0.1, 2, 1e15], [3, 5, 1 / 3], [0.5, 0.25, 7]]
 
     def test_calls(self):
-        calls = (lambda **word: nushbaret.solve(self.COSTS, **word), lambda **word: nushbaret.linear_sum_assignment(self.COSTS, **word),
-                 lambda **word: nushbaret.bottleneck(self.COSTS, **word), lambda **word: list(nushbaret.k_best(self.COSTS, 3, **word)),
+        calls = (lambda **word: nushbaret.solve(self.COSTS, **word),
+                 lambda **word: nushbaret.linear_sum_assignment(self.COSTS, **word),
+                 lambda **word: nushbaret.bottleneck(self.COSTS, **word),
+                 lambda **word: list(nushbaret.k_best(self.COSTS, 3, **word)),
                  lambda **word: nushbaret.solve_sparse(2, 2, [0, 1], [0, 1], [1, 2], **word))
         for call in calls:
             wanted = call()
@@ -185,7 +196,8 @@ class Timeouts(unittest.TestCase):
         self.assertEqual((found, library._end()), ([None], None))
 
     def test_while_python_works(self):
-        """Steps of Python's that would never end, in reading and between two calls of the library, end as by Ctrl-C, in any thread."""
+        """Steps of Python's that would never end, in reading and between two calls of the library, end as by Ctrl-C, in
+        any thread."""
         class Endless:
             def __len__(self):
                 return 2
@@ -203,10 +215,11 @@ class Timeouts(unittest.TestCase):
 
         def ends():
             for call in nushbaret.solve, nushbaret.linear_sum_assignment, nushbaret.bottleneck:
-                with self.assertRaisesRegex(TimeoutError, "^the time is over; nothing of the caller's was changed$") as raised:
+                with self.assertRaisesRegex(TimeoutError, "^the time is over; nothing of the caller's was "
+                                            "changed$") as raised:
                     call([Endless(), Endless()], timeout=0.05)
                 self.assertIs(type(raised.exception), TimeoutError)
-            with mock.patch.object(_levels, "finer", never), self.assertRaises(TimeoutError):
+            with mock.patch.object(levels, "finer", never), self.assertRaises(TimeoutError):
                 nushbaret.solve([[0.1 + 0.2, 0.1], [1 / 3, 1 / 3 - 0.2]] * 40, partial=True, timeout=0.05)
             ended.append(nushbaret.solve([[4, 1], [2, 3]]).cost)
 

@@ -1,11 +1,8 @@
-"""A ward of 28 nurses and 84 shifts, compared with the solver HiGHS where SciPy has it: a plan, one nurse sick, and the past."""
+"""A ward of 28 nurses and 84 shifts, compared with the solver HiGHS where SciPy has it: a plan, one nurse sick, and the
+past."""
 import importlib.util
 import json
-import pathlib
-import sys
 import unittest
-
-sys.path.insert(0, str(pathlib.Path(__file__).resolve().parents[2] / "python"))
 
 from optional import np, optimize, sparse
 from test_command import TOP, Runs
@@ -38,7 +35,8 @@ class Ward(Runs):
         every = {(nurse, shift): SCALE * cost for nurse, shift, cost in self.tables["ward.csv"][1:]}
         own = [pair for pair in every if self.day[pair[1]] >= past]
         places = self.tables["ward_places.csv"][1:]
-        ranges = [self.range(name, least, most, sum(pair[0] == name for pair in fixed)) for name, least, most in self.tables[tasks][1:]]
+        ranges = [self.range(name, least, most, sum(pair[0] == name for pair in fixed))
+                  for name, least, most in self.tables[tasks][1:]]
         ranges += [(name, least, most) if self.day[name] >= past else (name, 0, 0) for name, least, most in places]
         ranges += [((nurse, day), 0, 1) for nurse, _, _ in self.tables[tasks][1:] for day in range(1, 29)]
         rows = {name: row for row, (name, _, _) in enumerate(ranges)}
@@ -46,7 +44,8 @@ class Ward(Runs):
         for column, (nurse, shift) in enumerate(own):
             matrix[[rows[nurse], rows[shift], rows[nurse, self.day[shift]]], column] = 1
         costs = [every[pair] + (-change if pair in kept else change) for pair in own]
-        bounds = optimize.LinearConstraint(matrix.tocsr(), [least for _, least, _ in ranges], [most for _, _, most in ranges])
+        bounds = optimize.LinearConstraint(matrix.tocsr(), [least for _, least, _ in ranges],
+                                           [most for _, _, most in ranges])
         found = optimize.milp(costs, constraints=bounds, integrality=np.ones(len(own)), bounds=optimize.Bounds(0, 1))
         return round(found.fun) + change * len(kept - fixed) + sum(every[pair] for pair in fixed)
 
@@ -67,7 +66,8 @@ class Ward(Runs):
                 changes = len({(pair["person"], pair["object"]) for pair in found["pairs"]} ^ kept)
                 # A change costs half of what is asked for, and without a cost as good as nothing.
                 worth = change * SCALE // 2 or 1
-                self.assertEqual(int(found["cost"]) * SCALE + worth * changes, self.least("ward_sick.csv", kept, worth, past))
+                self.assertEqual(int(found["cost"]) * SCALE + worth * changes,
+                                 self.least("ward_sick.csv", kept, worth, past))
 
 
 if __name__ == "__main__":

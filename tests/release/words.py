@@ -1,7 +1,7 @@
 #!/usr/bin/env python3
-"""Compares the manual's pages and the completions of a release with the help of the roster command, the header for C, and the program's help,
-where the release has a program: tests/release/words.py SHARE COMMAND HEADER [PROGRAM]. COMMAND is a script of Python. Prints what differs,
-and ends with status 1 then. It reads all of them by itself."""
+"""Compares the manual's pages and the completions of a release with the help of the roster command, the header for C,
+and the program's help, where the release has a program: tests/release/words.py SHARE COMMAND HEADER [PROGRAM]. COMMAND
+is a script of Python. Prints what differs, and ends with status 1 then. It reads all of them by itself."""
 import os
 import pathlib
 import re
@@ -40,13 +40,15 @@ def help_of(*command):
 
 def roster_help():
     """The help of the roster command, each entry in a line of its own."""
-    described = subprocess.run([COMMAND, "--help"], capture_output=True, text=True, check=True, env={**os.environ, "COLUMNS": "100000"}).stdout
+    described = subprocess.run([COMMAND, "--help"], capture_output=True, text=True, check=True,
+                               env={**os.environ, "COLUMNS": "100000"}).stdout
     return re.sub(r"\n {6,}", "  ", described)
 
 
 def roster_options():
     """The options that it lists, with their values' names and their texts."""
-    return [tuple(found) for found in re.findall(r"^  (?:-\w, )?(--[\w-]+)(?: (\S+))? {2,}(\S.*)$", roster_help(), flags=re.M)]
+    return [tuple(found) for found in re.findall(r"^  (?:-\w, )?(--[\w-]+)(?: (\S+))? {2,}(\S.*)$", roster_help(),
+                                                 flags=re.M)]
 
 
 def options_in(text):
@@ -74,7 +76,8 @@ def look_at_the_program():
 
 
 def look_at_the_command():
-    """Each line of the roster command's help stands on its page, except how its usage begins, and the page has no other option."""
+    """Each line of the roster command's help stands on its page, except how its usage begins, and the page has no other
+    option."""
     page, described = plain("man1/nushbaret.1"), roster_help()
     for line in described.partition("\n\n")[2].splitlines():
         line = squeezed(line)
@@ -84,7 +87,8 @@ def look_at_the_command():
 
 
 def look_at_its_completions():
-    """bash offers its options and what their values may be; the scripts for zsh and fish have its options, with their texts, and no other."""
+    """bash offers its options and what their values may be; the scripts for zsh and fish have its options, with their
+    texts, and no other."""
     options = roster_options()
     names = sorted(name for name, _, _ in options)
     compare("bash, nushbaret", answers_of_bash("nushbaret", "--"), names)
@@ -99,16 +103,18 @@ def look_at_its_completions():
     fish = (SHARE / "fish/vendor_completions.d/nushbaret.fish").read_text()
     in_zsh = {name.strip("{,"): text for name, text in re.findall(r"(--[\w-]+)=?\}?'?\[((?:\\.|[^]\\])*)\]", zsh)}
     in_fish = dict(re.findall(r"^complete -c nushbaret -l (\S+).* -d '((?:\\'|[^'])*)'$", fish, flags=re.M))
-    compare("zsh, nushbaret", {name: re.sub(r"\\([][:])", r"\1", text.replace("'\\''", "'")) for name, text in in_zsh.items()},
+    compare("zsh, nushbaret", {name: re.sub(r"\\([][:])", r"\1", text.replace("'\\''", "'"))
+                               for name, text in in_zsh.items()}, {name: text for name, _, text in options})
+    compare("fish, nushbaret", {f"--{name}": text.replace("\\'", "'") for name, text in in_fish.items()},
             {name: text for name, _, text in options})
-    compare("fish, nushbaret", {f"--{name}": text.replace("\\'", "'") for name, text in in_fish.items()}, {name: text for name, _, text in options})
 
 
 def look_at_the_header():
-    """Each call has a page with its declaration and its comment; each line of a comment at the margin stands on a page, and each
-    other line of what is declared."""
+    """Each call has a page with its declaration and its comment; each line of a comment at the margin stands on a page,
+    and each other line of what is declared."""
     header = HEADER.read_text()
-    calls = re.findall(r"(?:/\*((?:(?!\*/).)*)\*/\n)?^((?:static inline )?\w+ (nushbaret_\w+)\([^{;]*\))[;\s{]", header, flags=re.M | re.S)
+    calls = re.findall(r"(?:/\*((?:(?!\*/).)*)\*/\n)?^((?:static inline )?\w+ (nushbaret_\w+)\([^{;]*\))[;\s{]", header,
+                       flags=re.M | re.S)
     pages = {}
     for file in sorted((SHARE / "man/man3").iterdir()):
         elsewhere = re.match(r"\.so (\S+)$", file.read_text())
@@ -119,9 +125,11 @@ def look_at_the_header():
             if squeezed(what) not in pages.get(name, ""):
                 differ.append(f"{name}.3 has nothing of: {squeezed(what)}")
     every = " ".join(pages.values())
-    described = [line for comment in re.findall(r"^/\*(.*?)\*/", header, flags=re.M | re.S) for line in comment.splitlines()]
+    described = [line for comment in re.findall(r"^/\*(.*?)\*/", header, flags=re.M | re.S)
+                 for line in comment.splitlines()]
     described += re.findall(r"^#define NUSHBARET_\w+ .*$", header, flags=re.M)
-    described += [line for kind in re.findall(r"^(?:struct|enum) \w+ \{.*?^\};", header, flags=re.M | re.S) for line in kind.splitlines()]
+    described += [line for kind in re.findall(r"^(?:struct|enum) \w+ \{.*?^\};", header, flags=re.M | re.S)
+                  for line in kind.splitlines()]
     for line in described:
         line = re.sub(r"^- ", "", squeezed(line)).replace("Nushbaret for C and C++: ", "").rstrip(".")
         if line not in every:
@@ -130,17 +138,19 @@ def look_at_the_header():
 
 def answers_of_bash(name, *words):
     """What bash offers after the name of a command and these words; the last is to be completed."""
-    asked = (f"source \"$1\" && shift && COMP_WORDS=(\"$@\") && COMP_CWORD=$(($# - 1)) && complete -p {name} > /dev/null"
-             f" && {{ _{name}; printf '%s\\n' \"${{COMPREPLY[@]}}\"; }}")
+    asked = (f"source \"$1\" && shift && COMP_WORDS=(\"$@\") && COMP_CWORD=$(($# - 1)) && complete -p {name} > "
+             f"/dev/null && {{ _{name}; printf '%s\\n' \"${{COMPREPLY[@]}}\"; }}")
     script = SHARE / "bash-completion/completions" / name
-    ran = subprocess.run(["bash", "--norc", "-c", asked, "bash", script, name, *words], capture_output=True, text=True, cwd=SHARE)
+    ran = subprocess.run(["bash", "--norc", "-c", asked, "bash", script, name, *words], capture_output=True, text=True,
+                         cwd=SHARE)
     if ran.returncode or ran.stderr:
         differ.append(f"bash completes {name} {words} with status {ran.returncode}: {ran.stderr}")
     return sorted(ran.stdout.split())
 
 
 def look_at_bash():
-    compare("bash, the first word", answers_of_bash("auction_cli", ""), sorted(["-h", "help", *COMMANDS, *listed_options(help_of())]))
+    compare("bash, the first word", answers_of_bash("auction_cli", ""),
+            sorted(["-h", "help", *COMMANDS, *listed_options(help_of())]))
     compare("bash, help", answers_of_bash("auction_cli", "help", ""), sorted(COMMANDS))
     for command in COMMANDS:
         described = help_of(command)
@@ -163,7 +173,8 @@ def look_at_the_others():
     for command in COMMANDS:
         described = help_of(command)
         part = re.search(rf"\n +{command}\)\n(.*?);;", zsh, flags=re.S)[1]
-        compare(f"zsh, {command}", sorted(set(re.findall(r"(--[\w-]+)=?\[|,(--[\w-]+)\}", part))), sorted((name, "") if name != "--help" else ("", name) for name in listed_options(described)))
+        compare(f"zsh, {command}", sorted(set(re.findall(r"(--[\w-]+)=?\[|,(--[\w-]+)\}", part))),
+                sorted((name, "") if name != "--help" else ("", name) for name in listed_options(described)))
         lines = re.findall(rf"__fish_seen_subcommand_from {command}' -l (\S+).* -d '(.*)'$", fish, flags=re.M)
         compare(f"fish, {command}", sorted(f"--{name}" for name, _ in lines), sorted(listed_options(described)))
         for name, text in lines:

@@ -1,0 +1,1 @@
+"""The calls and results that users import from nushbaret."""

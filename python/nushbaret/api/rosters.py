@@ -1,0 +1,263 @@
+"""Rosters with rules, from Python."""
+from array import array
+from datetime import date
+from typing import Any, Dict, Iterable, List, Mapping, NamedTuple, Optional, Sequence, Tuple, Union
+
+from ..costs.numbers import Number, Ratio, in_unit, ratio_of, unit_of
+from ..counts.nodes import Bounds
+from ..roster.answer import Request
+from ..roster.by_rules import Proved, Task, answer_by_rules
+from ..roster.month import Before, month_of
+from ..roster.output.rule_texts import sentence_of
+from ..roster.roster import Earlier, Groups, PlanLine, Roster
+from ..roster.roster_rows import OwnRow
+from ..roster.rule_file import RuleLine, rules_of
+from ..rows.model import Certificate
+
+Named = Tuple[str, str]
+Count = Union[int, Tuple[int, int]]
+# The most that a cost may be, in units of the last decimal that any has.
+MOST_UNITS = 10**15
+
+
+class RosterPlan(NamedTuple):
+    """What was found of a roster with rules, and what was proved of it.
+
+    Attributes
+    ----------
+    proved : str
+        'best': no plan that keeps the rules is better. 'within': none is more than `better` better. 'impossible': no
+        plan keeps them. 'undecided': nothing was proved in the time.
+    pairs : list of tuple, or None
+        The persons and objects of the plan, person by person; None where there is no plan.
+    cost : int, decimal.Decimal, fractions.Fraction or None
+        The sum of their costs, exactly.
+    better : int, decimal.Decimal, fractions.Fraction or None
+        By how much another plan may be better at most; 0 where this one is best.
+    reasons : list of str
+        Where no plan keeps the rules: sentences that can't hold together.
+    is_minimal : bool
+        Whether none of the reasons can be left out.
+    even : list of tuple
+        Of each rule of evenness the sentence, and the least and the greatest count.
+    certificate : Certificate or None
+        What proves the answer, for `write_certificate`.
+
+    >>> import nushbaret
+    >>> nushbaret.RosterPlan._fields[:4]
+    ('proved', 'pairs', 'cost', 'better')
+    """
+
+    proved: str
+    pairs: Optional[List[Named]]
+    cost: Optional[Number]
+    better: Optional[Number]
+    reasons: List[str]
+    is_minimal: bool
+    even: List[Tuple[str, int, int]]
+    certificate: Optional[Certificate]
+
+    def write_certificate(self, path: str) -> None:
+        """Writes what proves the answer; `nushbaret --check FILE` checks it alone.
+
+        Raises ValueError where nothing was proved, and OSError where the file can't be written.
+        """
+        from ..rows.certificates import write_certificate
+        if self.certificate is None:
+            raise ValueError("nothing was proved, so there is no certificate")
+        write_certificate(path, self.certificate)
+
+
+def plan_roster(costs: Mapping[Named, Any], days: Mapping[str, Union[str, date]], rules: Iterable[Sequence[str]] = (),
+                *, kinds: Optional[Mapping[str, str]] = None, tasks: Optional[Mapping[str, Count]] = None,
+                places: Optional[Mapping[str, Count]] = None, fixed: Iterable[Named] = (),
+                before: Iterable[Tuple[str, Union[str, date], str]] = (), rows: Iterable[Sequence[Any]] = (),
+                maximize: bool = False, seconds: float = 60) -> RosterPlan:
+    """Finds a plan of least cost that keeps rules, and proves how good it is. SciPy finds; the proof is checked in
+    whole numbers.
+
+    Parameters
+    ----------
+    costs : mapping of (str, str) to number
+        The allowed pairs of a person and an object, and what each costs, exactly: ints, floats as they print, Decimals
+        or Fractions.
+    days : mapping of str to str or datetime.date
+        The day of each object, in order. Nobody takes two objects of one day. Where all are dates, weeks begin on
+        Monday.
+    rules : iterable of sequences of str
+        Each a rule, its value and maybe names, as in a file of rules: ('rest', 'Late > Early'), ('Night per month',
+        '4', 'Ada, Ben').
+    kinds : mapping of str to str, optional
+        The kind of each object. Without it, its name without that of its day.
+    tasks : mapping of str to int or (int, int), optional
+        How many objects persons take, or at least and at most; others take as many as they may.
+    places : mapping of str to int or (int, int), optional
+        How many persons objects take, or at least and at most; others take exactly one.
+    fixed : iterable of (str, str), optional
+        Pairs that the plan must have.
+    before : iterable of (str, str or datetime.date, str), optional
+        What was worked on earlier days, in order: a person, the day and the kind.
+    rows : iterable of (least, terms, most, text), optional
+        Rules of your own. `terms` maps pairs to whole numbers: the sum of those of the plan's pairs is from `least` to
+        `most`, each an int or None. `text` says the rule.
+    maximize : bool, optional
+        Whether the sum is to be the greatest.
+    seconds : float, optional
+        How long to find and prove, by the clock.
+
+    Returns
+    -------
+    RosterPlan
+
+    Raises
+    ------
+    ValueError
+        A rule, a name, a count or a number is refused.
+    TypeError
+        A cost is no number.
+    ImportError
+        SciPy isn't there.
+
+    >>> import nushbaret
+    >>> try:
+    ...     nushbaret.plan_roster({("Ada", "Early Mon"): 1}, {"Early Mon": "Mon"}, [("rest", "Late > Early")])
+    ... except ValueError as fault:
+    ...     print(fault)
+    rules, line 1, column 2: no kind of shift is 'Late': the kinds are Early
+    """
+    listed = dict(costs)
+    ratios = [_ratio(pair, cost) for pair, cost in listed.items()]
+    unit = unit_of(ratios)
+    units = [in_unit(ratio, unit) for ratio in ratios]
+    if any(abs(own) > MOST_UNITS for own in units):
+        raise ValueError(f"a cost is more than {MOST_UNITS} times the unit that all costs have in common")
+    roster = _roster(list(listed), units, days, kinds)
+    earlier = [(person, str(day), kind) for person, day, kind in before]
+    roster = _with_counts(roster, tasks or {}, places or {})
+    groups = _groups(roster, earlier)
+    month = month_of(roster, groups, "days", Before("before",
+                                                    [(person, _earlier_name(day, kind), number)
+                                                     for number, (person, day, kind) in enumerate(earlier, 1)]))
+    lines = [_line(rule, number) for number, rule in enumerate(rules, 1)]
+    ruled = rules_of("rules", lines, roster, month)
+    wish = Request(_fixed(roster, fixed), maximize)
+    own = [_own_row(roster, row) for row in rows]
+    answer, proved = answer_by_rules(Task(roster, month._replace(holidays=ruled.holidays), ruled, wish, seconds, own))
+    pairs = None if answer.plan is None else [(roster.persons[pair.person], roster.objects[pair.object])
+                                              for pair in answer.plan.pairs]
+    return _result(proved, pairs, None if answer.plan is None else unit.shown(answer.plan.cost),
+                   None if proved.better is None else unit.shown(proved.better))
+
+
+def _result(proved: Proved, pairs: Optional[List[Named]], cost: Optional[Number],
+            better: Optional[Number]) -> RosterPlan:
+    return RosterPlan(proved.kind, pairs, cost, better, list(map(sentence_of, proved.reasons)), proved.is_minimal,
+                      [(even.sentence, even.least, even.most) for even in proved.even], proved.certificate)
+
+
+def _ratio(pair: Named, cost: Any) -> Ratio:
+    """A cost as a ratio."""
+    try:
+        ratio = ratio_of(cost, False)
+    except (TypeError, AttributeError):
+        raise TypeError(f"the cost of {pair!r} is {cost!r}, which is no number") from None
+    except (ValueError, OverflowError):
+        raise ValueError(f"the cost of {pair!r} is {cost!r}, which isn't finite") from None
+    if abs(ratio[0]) > MOST_UNITS or ratio[1] > MOST_UNITS:
+        raise ValueError(f"the cost of {pair!r} is {cost!r}, which has too many digits")
+    return ratio
+
+
+def _numbers(names: Iterable[str]) -> Dict[str, int]:
+    return {name: number for number, name in enumerate(dict.fromkeys(names))}
+
+
+def _roster(pairs: List[Named], costs: List[int], days: Mapping[str, Union[str, date]],
+            kinds: Optional[Mapping[str, str]]) -> Roster:
+    """A roster of pairs, whose groups are days."""
+    persons, objects = _numbers(person for person, _ in pairs), _numbers([*days, *(object_ for _, object_ in pairs)])
+    for name in kinds or {}:
+        if name not in objects:
+            raise ValueError(f"kinds: there is no object {name!r}")
+    names = _numbers(map(str, days.values()))
+    groups = Groups("day", list(names), {objects[name]: names[str(day)] for name, day in days.items()}, {},
+                    {objects[name]: kind for name, kind in (kinds or {}).items()}, kinds is not None)
+    order = sorted(range(len(pairs)), key=lambda place: (persons[pairs[place][0]], objects[pairs[place][1]]))
+    return Roster(list(persons), list(objects), persons, objects,
+                  array("I", (persons[pairs[place][0]] for place in order)),
+                  array("I", (objects[pairs[place][1]] for place in order)),
+                  array("q", (costs[place] for place in order)), 0, ("person", "object", "cost"), ",", False,
+                  by_persons=True, groups=groups)
+
+
+def _with_counts(roster: Roster, tasks: Mapping[str, Count], places: Mapping[str, Count]) -> Roster:
+    of_persons = _bounds("tasks", roster.person_numbers, tasks, Bounds(0, len(roster.objects)))
+    of_objects = _bounds("places", roster.object_numbers, places, Bounds(1, 1))
+    least = tuple({number: bounds.least for number, bounds in own.items()} for own in (of_persons, of_objects))
+    return roster._replace(least=(least[0], least[1]),
+                           tasks={number: bounds.most for number, bounds in of_persons.items()},
+                           places={number: bounds.most for number, bounds in of_objects.items()})
+
+
+def _bounds(what: str, numbers: Mapping[str, int], counts: Mapping[str, Count], default: Bounds) -> Dict[int, Bounds]:
+    """How many each name takes."""
+    found = dict.fromkeys(numbers.values(), default)
+    for name, count in counts.items():
+        least, most = count if isinstance(count, (tuple, list)) else (count, count)
+        if name not in numbers or not (isinstance(least, int) and isinstance(most, int) and 0 <= least <= most):
+            raise ValueError(f"{what}: {name!r}: {count!r}" + ("" if name in numbers else ": no cost has this name"))
+        found[numbers[name]] = Bounds(least, most)
+    return found
+
+
+def _earlier_name(day: str, kind: str) -> str:
+    return f"{kind} {day}, earlier"
+
+
+def _groups(roster: Roster, earlier: Sequence[Tuple[str, str, str]]) -> Groups:
+    """The days, with earlier ones."""
+    if roster.groups is None or not roster.groups.names:
+        raise ValueError("no object has a day")
+    named = {(day, kind): Earlier(_earlier_name(day, kind), day, kind, None, number)
+             for number, (_, day, kind) in enumerate(earlier, 1)}
+    return roster.groups._replace(earlier=tuple(named.values()))
+
+
+def _line(rule: Sequence[str], number: int) -> RuleLine:
+    """A rule as a line: names may be a list too."""
+    if isinstance(rule, str) or not 1 <= len(rule) <= 3:
+        raise ValueError(f"rules: {rule!r} is no rule, value and names")
+    cells = [*rule, "", ""][:3]
+    names = cells[2] if isinstance(cells[2], str) else "; ".join(cells[2])
+    return RuleLine(cells[0], str(cells[1]), names, number)
+
+
+def _fixed(roster: Roster, fixed: Iterable[Named]) -> List[PlanLine]:
+    """Fixed pairs by number."""
+    places = [(_pair(roster, pair), number) for number, pair in enumerate(dict.fromkeys(fixed), 1)]
+    costs = roster.costs_of({pair for pair, _ in places})
+    for pair, _ in places:
+        if pair not in costs:
+            raise ValueError(f"fixed: {roster.persons[pair[0]]!r}, {roster.objects[pair[1]]!r} has no cost, so it "
+                             "isn't allowed")
+    return [PlanLine(*pair, number, costs[pair]) for pair, number in places]
+
+
+def _pair(roster: Roster, pair: Named) -> Tuple[int, int]:
+    person, object_ = pair
+    if person not in roster.person_numbers or object_ not in roster.object_numbers:
+        raise ValueError(f"there is no person {person!r}" if person not in roster.person_numbers
+                         else f"there is no object {object_!r}")
+    return roster.person_numbers[person], roster.object_numbers[object_]
+
+
+def _own_row(roster: Roster, row: Sequence[Any]) -> OwnRow:
+    """A row of somebody's own rule."""
+    least, terms, most, text = row
+    numbers = [*dict(terms).values(), *(bound for bound in (least, most) if bound is not None)]
+    if not all(isinstance(number, int) and abs(number) < MOST_UNITS for number in numbers):
+        raise ValueError(f"rows: {text!r}: whole numbers are needed")
+    if least is not None and most is not None and least > most:
+        raise ValueError(f"rows: {text!r}: at least {least} and at most {most}")
+    return OwnRow(least, [(_pair(roster, pair), factor) for pair, factor in dict(terms).items() if factor], most,
+                  str(text))

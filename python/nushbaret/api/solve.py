@@ -1,0 +1,225 @@
+"""The solving calls."""
+from typing import Any, Callable, List, Optional, Sequence, Tuple, Union, overload
+
+from ..costs import problem as reading, reading as exact, source as sources
+from ..costs.problem import Problem
+from ..costs.source import FixedProblem, Source
+from ..lap import library, proved
+from ..lap.small import small_arrays
+from ..lap.solving import Began, most, solved
+from .infeasible import infeasible
+from .results import Result
+
+Start = Union[Result, Sequence[Any], None]
+# What is called with the rows served so far, and how many there are.
+Progress = Optional[Callable[[int, int], Any]]
+
+
+def _answer(problem: Problem, start: Start, partial: bool) -> proved.Assignment:
+    began = None if start is None else began_at(problem, start)
+    answer = solved(problem, began)
+    if not isinstance(answer, proved.HallSet):
+        return answer
+    if not partial:
+        raise infeasible(problem)
+    return most(problem, began)
+
+
+def began_at(problem: Problem, start: Start) -> Began:
+    """Where a search begins, from a result or from prices of the caller's. None where those of a result need costs that
+    were changed since."""
+    if not isinstance(start, Result):
+        if not hasattr(start, "__iter__"):
+            raise TypeError(f"start is {start!r}: it must be a result, or a list of prices")
+        return proved.WarmStart(proved.exact_prices(problem, start, "start"))
+    try:
+        prices = start._exact_rents
+    except ValueError:
+        return None
+    return proved.WarmStart(proved.exact_prices(problem, prices), *start._pairs)
+
+
+def solve_served(problem: Problem, served: int, source: Optional[Source] = None) -> Optional[Result]:
+    """The best plan of so many pairs; None if the library proves that there is none."""
+    answer = solved(problem, None, served)
+    return None if isinstance(answer, proved.HallSet) else Result(source or FixedProblem(problem), problem, answer)
+
+
+def solve_problem(problem: Problem, start: Start = None, partial: bool = False,
+                  source: Optional[Source] = None) -> Result:
+    """The result of a problem; Infeasible where it has no plan and none is to be partial."""
+    return Result(source or FixedProblem(problem), problem, _answer(problem, start, partial))
+
+
+def solve_source(source: Source, start: Start = None, partial: bool = False, timeout: Optional[float] = None,
+                 progress: Progress = None) -> Result:
+    """The result of what a call was given."""
+    with library.limited(timeout, progress):
+        return solve_problem(source.read(), start, partial, source)
+
+
+def solve(costs: Any, maximize: bool = False, decimals: Optional[int] = None, start: Start = None,
+          partial: bool = False, missing: str = "refuse", timeout: Optional[float] = None,
+          progress: Progress = None) -> Result:
+    """A best assignment of the rows and columns of a matrix, with exact duals that prove it.
+
+    Each row gets a column, no column twice. With unequal numbers as many pairs as possible are made, and some rows or
+    columns stay out. The plan is best for the costs as given, whatever their size.
+
+    Parameters
+    ----------
+    costs : matrix
+        A list of rows, a NumPy array, a DataFrame of pandas, a sparse matrix of SciPy's, or a buffer of two dimensions.
+        Whole numbers, floats, Decimals or Fractions; a float of any size is the decimal that it prints as. None or
+        infinity (under maximize -infinity) forbids a pair. At most 4194304 rows and columns.
+    maximize : bool, optional
+        Whether to find the greatest sum, not the least.
+    decimals : int, optional
+        Rounds each cost to so many decimal places first, 0 to 1000, halves to even. If it isn't given, nothing is
+        rounded.
+    start : Result or list of numbers, optional
+        The result of a similar problem, or prices to start from: one for each column, in the unit of the costs, as
+        those of `check`. The cost is the same whatever they are.
+    partial : bool, optional
+        If not all can be paired, makes as many pairs as possible, at the best sum among these plans, instead of
+        raising.
+    missing : {"refuse", "forbid"}, optional
+        Whether NaN, and what the mask of an array covers, is refused, or forbids its pair.
+    timeout : float, optional
+        After so many seconds TimeoutError is raised, in reading too. Nothing of the caller's is changed, and nothing
+        goes on.
+    progress : callable, optional
+        Is called as progress(served, all) after each piece of a search, some tenth of a second: so many of all rows
+        have a column then, or of columns a row where these are fewer. Where levels or dummies take several searches,
+        each counts from 0. What it raises ends the call.
+
+    Returns
+    -------
+    Result
+
+    Raises
+    ------
+    Infeasible
+        If there is no assignment; `rows` and `columns` prove it. A ValueError.
+    ValueError
+        If the costs are no matrix or too many, or one is NaN. The text says where.
+    TypeError
+        If a cost is no number.
+    TimeoutError
+        If the time is over.
+    MemoryError
+        If memory is refused.
+    LibraryNotFound
+        If the shared library is missing. An OSError.
+    RuntimeError
+        If the library's search finds nothing that its checker accepts. Nobody has seen it.
+
+    Notes
+    -----
+    The time grows as the cube of the size at worst. The interpreter's lock is free while the library works, and Ctrl-C
+    ends the call.
+
+    >>> import nushbaret
+    >>> nushbaret.solve([[0.1 + 0.2, 2.5], [3, 1e15]]).cost
+    Decimal('5.5')
+    """
+    if decimals is None and start is None and timeout is None and progress is None and missing == "refuse":
+        arrays = small_arrays()
+        found = arrays and arrays.found(costs, bool(maximize))
+        if found:
+            return Result._of(Source(costs, None, None, None, exact.Manner(found.shape.maximize)), found)
+    source = Source(sources.lasting(costs), None, None, None, exact.manner(maximize, decimals, missing))
+    return solve_source(source, start, partial, timeout, progress)
+
+
+def solve_sparse(n_rows: Any, n_columns: Optional[int] = None, rows: Any = None, columns: Any = None, costs: Any = None,
+                 maximize: bool = False, decimals: Optional[int] = None, start: Start = None, partial: bool = False,
+                 missing: str = "refuse", timeout: Optional[float] = None, progress: Progress = None) -> Result:
+    """A best assignment where only the listed pairs may be used.
+
+    Parameters
+    ----------
+    n_rows, n_columns : int
+        How many rows and columns there are, 0 to 4194304 each. Or one sparse matrix of SciPy's instead of these and of
+        the three lists; its stored entries are the pairs, also those that are 0. Entries of one place add up, as in
+        SciPy.
+    rows, columns, costs : lists or NumPy arrays of one length
+        Row rows[k] may have column columns[k] at costs[k]; numbers from 0. A pair that is given several times counts
+        once, at its least cost, also under maximize. Costs are as those of `solve`.
+    maximize, decimals, start, partial, missing, timeout, progress
+        As in `solve`.
+
+    Returns
+    -------
+    Result
+
+    Raises
+    ------
+    Infeasible, ValueError, TypeError, TimeoutError, MemoryError, LibraryNotFound
+        As in `solve`.
+
+    >>> import nushbaret
+    >>> nushbaret.solve_sparse(2, 2, rows=[0, 0, 1], columns=[0, 1, 0], costs=[4, 1, 2]).pairs
+    [(0, 1), (1, 0)]
+    """
+    manner = exact.manner(maximize, decimals, missing)
+    lists = n_columns, rows, columns, costs
+    if hasattr(n_rows, "tocsr"):
+        if any(value is not None for value in lists):
+            raise TypeError("a sparse matrix has rows, columns and costs of its own: give the other words by name")
+        source = Source(n_rows, None, None, None, manner)
+    elif any(value is None for value in lists):
+        raise TypeError("n_rows, n_columns, rows, columns and costs are needed, or one sparse matrix")
+    else:
+        source = Source(sources.listed(costs), sources.listed(rows), sources.listed(columns), (n_rows, n_columns),
+                        manner)
+    return solve_source(source, start, partial, timeout, progress)
+
+
+@overload
+def linear_sum_assignment(cost_matrix: Sequence[Sequence[Any]], maximize: bool = ..., *, missing: str = ...,
+                          timeout: Optional[float] = ..., progress: Progress = ...) -> Tuple[List[int], List[int]]: ...
+
+
+@overload
+def linear_sum_assignment(cost_matrix: Any, maximize: bool = ..., *, missing: str = ...,
+                          timeout: Optional[float] = ..., progress: Progress = ...) -> Tuple[Any, Any]: ...
+
+
+def linear_sum_assignment(cost_matrix: Any, maximize: bool = False, *, missing: str = "refuse",
+                          timeout: Optional[float] = None, progress: Progress = None) -> Tuple[Any, Any]:
+    """The call of scipy.optimize, with its results and errors. The plan is best for exactly these costs; a float is its
+    double.
+
+    Parameters
+    ----------
+    cost_matrix : matrix
+        Any that SciPy takes, and None to forbid a pair, as infinity does (under maximize -infinity).
+    maximize : bool, optional
+        Whether to find the greatest sum.
+    missing, timeout, progress
+        As in `solve`; but without "forbid" a mask isn't seen, as in SciPy.
+
+    Returns
+    -------
+    row_ind, col_ind : NumPy arrays for an array, lists otherwise
+        Row row_ind[k] has column col_ind[k]; rows rise.
+
+    Raises
+    ------
+    ValueError, TypeError, OverflowError
+        As SciPy does: OverflowError for a whole number that is no double.
+    TimeoutError, MemoryError, LibraryNotFound
+        As in `solve`.
+
+    >>> import nushbaret
+    >>> nushbaret.linear_sum_assignment([[0.3, 0.1, 1e15], [0.1, 0.3, 1e15], [1e15, 1e15, 0.5]])
+    ([0, 1, 2], [1, 0, 2])
+    """
+    arrays = small_arrays() if timeout is None and progress is None and missing == "refuse" else None
+    found = arrays and (arrays.assignment(cost_matrix, maximize) or arrays.of_rows(cost_matrix, maximize))
+    if found:
+        return found
+    with library.limited(timeout, progress):
+        problem = reading.of_matrix(cost_matrix, exact.manner(maximize, None, missing, True))
+        return proved.rows_and_columns(problem, _answer(problem, None, False))

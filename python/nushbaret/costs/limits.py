@@ -1,0 +1,28 @@
+"""The limits of the library, and lists of numbers as it takes them."""
+import ctypes
+from array import array
+from typing import TYPE_CHECKING
+
+# An array of whole numbers; before Python 3.12 `array` takes no type while a program runs.
+if TYPE_CHECKING:
+    Numbers = array[int]
+else:
+    Numbers = array
+
+MOST_PERSONS = 4194304
+GREATEST_COST = 10**12
+GREATEST_PRICE = 9 * 10**18
+# NumPy returns an array's address slowly: up to so many numbers a copy is faster.
+FEW = 1024
+
+
+class BorrowedNumbers:
+    """A buffer of 64-bit numbers of another owner, which stays as long as this does."""
+
+    def __init__(self, view: memoryview):
+        self.held = (ctypes.c_char * view.nbytes).from_buffer(view)
+        self.place = ctypes.addressof(self.held)
+        self.count = view.nbytes // 8
+
+    def __len__(self) -> int:
+        return self.count

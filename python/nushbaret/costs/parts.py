@@ -1,0 +1,47 @@
+"""Steps over long arrays of NumPy's, a part at a time: a part stays in the processor's cache, and Ctrl-C is heeded in
+between."""
+from typing import Any, Callable, Iterator, List
+
+PART = 2**16
+
+Work = Callable[[slice], Any]
+
+
+def parts(count: int) -> Iterator[slice]:
+    """The places from 0 to `count`, in parts."""
+    return (slice(begin, min(begin + PART, count)) for begin in range(0, count, PART))
+
+
+def filled(numpy: Any, kind: Any, count: int, work: Work) -> Any:
+    """An array of so many numbers; `work` gives those of a part."""
+    found = numpy.empty(count, kind)
+    for part in parts(count):
+        found[part] = work(part)
+    return found
+
+
+def places_where(numpy: Any, count: int, work: Work) -> Any:
+    """The places, of so many, where `work` says yes for a part."""
+    return joined(numpy, numpy.intp, [work(part).nonzero()[0] + part.start for part in parts(count)])
+
+
+def joined(numpy: Any, kind: Any, arrays: List[Any]) -> Any:
+    """Arrays one after the other."""
+    found, begin = numpy.empty(sum(map(len, arrays)), kind), 0
+    for array in arrays:
+        found[begin:begin + len(array)] = array
+        begin += len(array)
+    return found
+
+
+def in_order(numpy: Any, values: Any) -> Any:
+    """The numbers of an array in the order of C; a copy only where they don't stand so in memory."""
+    if values.flags.c_contiguous or values.ndim != 2:
+        return values.ravel()
+    found = numpy.empty(values.shape, values.dtype)
+    turned = abs(values.strides[0]) < abs(values.strides[1])
+    into, source = (found.T, values.T) if turned else (found, values)
+    height = max(1, PART // max(1, source.shape[1]))
+    for begin in range(0, len(source), height):
+        into[begin:begin + height] = source[begin:begin + height]
+    return found.ravel()

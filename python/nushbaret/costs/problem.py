@@ -1,0 +1,506 @@
+"""A problem of rows and columns, as the caller gave it, with its costs in whole numbers."""
+import math
+import operator
+import sys
+from array import array
+from fractions import Fraction
+from itertools import compress
+from typing import Any, Dict, Iterable, List, NamedTuple, Optional, Sequence, Tuple
+
+from . import naming, parts, printing, reading as exact
+from .limits import MOST_PERSONS, BorrowedNumbers
+from .numbers import ONE, Ratio, Unit, in_unit, ratio_of, unit_of
+
+
+Labels = Optional[Tuple[List[Any], List[Any]]]
+
+
+class TooLarge(ValueError):
+    """A problem that is too large for the library: it has too many rows, columns or nodes, or too great costs."""
+
+
+class Problem(NamedTuple):
+    """Costs in a unit. Dense: all costs in order, and `persons` is None. Sparse: row persons[k] - 1 and column
+    objects[k] - 1 are a pair at costs[k].
+
+    Where `raw` is false, costs are whole numbers. Else they are an array of doubles or a list of exact numbers; floats
+    are then what they are if `doubles` is true, and the decimals that they print as if not. `numpy` is the module if
+    the lists are its arrays, and `arrays` if answers are to be. `fractions` says that a cost was given as a Fraction;
+    `labels` are those of the rows and columns of a frame of pandas, and `most` is the greatest size of doubles, where
+    it is known."""
+
+    n_rows: int
+    n_columns: int
+    maximize: bool
+    costs: Any
+    persons: Any = None
+    objects: Any = None
+    unit: Unit = ONE
+    raw: bool = False
+    doubles: bool = False
+    numpy: Any = None
+    arrays: Any = None
+    fractions: bool = False
+    labels: Labels = None
+    most: Optional[float] = None
+
+    def place(self, place: int) -> Tuple[int, int]:
+        """Row and column of a place in the list of costs."""
+        if self.persons is None:
+            return divmod(place, self.n_columns)
+        return int(self.persons[place]) - 1, int(self.objects[place]) - 1
+
+    def numbers(self, values: Sequence[int]) -> Any:
+        """Row or column numbers, as an array if the costs are one."""
+        return values if self.arrays is None else self.arrays.array(values, self.arrays.intp)
+
+    def ratio(self, cost: Any) -> Ratio:
+        """A cost of the list, exactly."""
+        if not self.raw or self.unit != ONE:
+            return int(cost), self.unit.denominator
+        return ratio_of(cost, self.doubles)
+
+    def row_name(self, row: int) -> Any:
+        """A row's label, or else its number."""
+        return self.labels[0][row] if self.labels else row
+
+    def column_name(self, column: int) -> Any:
+        """A column's label, or else its number."""
+        return self.labels[1][column] if self.labels else column
+
+
+def _place_in(n_columns: int, labels: Labels) -> exact.Where:
+    """What a place in a matrix is called, by the labels of a frame."""
+    def where(place: int) -> str:
+        row, column = divmod(place, n_columns)
+        return f"row {labels[0][row]}, column {labels[1][column]}" if labels else f"row {row}, column {column}"
+    return where
+
+
+def _judge_size(n_rows: int, n_columns: int) -> None:
+    if n_rows < 0 or n_columns < 0:
+        raise ValueError(f"{n_rows} rows and {n_columns} columns: neither can be below 0")
+    if max(n_rows, n_columns) > MOST_PERSONS:
+        raise TooLarge(f"{n_rows} rows and {n_columns} columns: at most {MOST_PERSONS} of each are possible")
+
+
+def _rows_of_any(costs: Any, manner: exact.Manner) -> List[Any]:
+    if manner.doubles and (not hasattr(costs, "__len__") or isinstance(costs, (dict, set, frozenset))
+                           or hasattr(costs, "tocsr")):
+        # SciPy takes a sparse matrix with items for a list.
+        if costs is not None and not (hasattr(costs, "tocsr") and hasattr(costs, "__getitem__")):
+            float(costs)
+        raise ValueError("expected a matrix (2-D array), got a 0 array")
+    if isinstance(costs, (dict, set, frozenset)) or isinstance(costs, str) and not costs:
+        raise ValueError(f"expected a matrix (2-D array), got a {type(costs).__name__}")
+    try:
+        rows = [row if hasattr(row, "__len__") else list(row) for row in costs]
+    except TypeError:
+        raise ValueError("expected a matrix (2-D array)") from None
+    for place, row in enumerate(rows):
+        if isinstance(row, (str, bytes)):
+            raise (ValueError if manner.doubles
+                   else TypeError)(f"Cannot cast array data: row {place} is the text {row!r}")
+        if isinstance(row, (dict, set, frozenset)):
+            raise TypeError(f"Cannot cast array data: row {place} is a {type(row).__name__}, which has no order")
+    return rows if manner.doubles else list(map(printing.of_buffer, rows))
+
+
+def _rows_of(costs: Any, manner: exact.Manner) -> Tuple[List[Any], int]:
+    """The rows of a matrix that is no array of NumPy's, and how long they are."""
+    if type(costs) is list and {list}.issuperset(map(type, costs)):
+        rows = costs
+    else:
+        rows = _rows_of_any(costs, manner)
+    if not rows and manner.doubles:
+        raise ValueError("expected a matrix (2-D array), got a 1 array")
+    lengths = set(map(len, rows))
+    if len(lengths) > 1:
+        row = next(row for row, held in enumerate(rows) if len(held) != len(rows[0]))
+        raise ValueError(f"expected a matrix (2-D array): row {row} has {len(rows[row])} costs, row 0 has "
+                         f"{len(rows[0])}")
+    if manner.doubles and any(isinstance(value, (list, tuple)) for row in rows for value in row[:1]):
+        raise ValueError("expected a matrix (2-D array), got a 3 array")
+    return rows, lengths.pop() if rows else 0
+
+
+def native(view: memoryview) -> memoryview:
+    """A view whose format Python reads: that of an array of ctypes has a mark for the order of its bytes."""
+    kind = view.format.lstrip("@=" + ("<" if sys.byteorder == "little" else ">"))
+    if kind == view.format or not view.nbytes:
+        return view
+    held = view.cast("B") if view.c_contiguous else memoryview(view.tobytes())
+    return held.cast(kind, list(view.shape or ()))
+
+
+def _of_view(view: memoryview, manner: exact.Manner) -> Problem:
+    """Of a memoryview of two dimensions: lent if it has the library's own kind of numbers."""
+    if view.ndim != 2:
+        raise ValueError(f"expected a matrix (2-D array), got a {view.ndim} array")
+    n_rows, n_columns = view.shape or (0, 0)
+    _judge_size(n_rows, n_columns)
+    view = native(view)
+    kind = view.format
+    own = kind in ("q", "l") and view.itemsize == 8 and view.c_contiguous and not view.readonly
+    if own and not manner.decimals and view.nbytes:
+        return Problem(n_rows, n_columns, manner.maximize, BorrowedNumbers(view))
+    rows: Any = view.tolist()
+    if kind in ("e", "f") and not manner.doubles:
+        rows = [[printing.shortest(cost, kind) for cost in row] for row in rows]
+    return _dense(n_rows, n_columns, manner, exact.of_rows(rows, n_columns, manner, _place_in(n_columns, None)))
+
+
+def _of_array(numpy: Any, costs: Any, manner: exact.Manner, labels: Labels) -> Problem:
+    costs = numpy.asanyarray(costs)
+    if costs.ndim != 2:
+        raise ValueError(f"expected a matrix (2-D array), got a {costs.ndim} array")
+    n_rows, n_columns = costs.shape
+    _judge_size(n_rows, n_columns)
+    read = exact.of_array(numpy, costs, manner, _place_in(n_columns, labels))
+    return _dense(n_rows, n_columns, manner, read)._replace(arrays=numpy, labels=labels)
+
+
+def _dense(n_rows: int, n_columns: int, manner: exact.Manner, read: exact.ReadCosts) -> Problem:
+    """The problem of all pairs but the forbidden ones."""
+    whole = Problem(n_rows, n_columns, manner.maximize, read.numbers, None, None, read.unit, read.raw, manner.doubles,
+                    read.numpy, None, read.fractions, None, read.most)
+    if not len(read.forbidden):
+        return whole
+    numbers, persons, objects = _without_forbidden(n_rows, n_columns, read)
+    return whole._replace(costs=numbers, persons=persons, objects=objects)
+
+
+def _read_matrix(costs: Any, manner: exact.Manner) -> Problem:
+    numpy = exact.numpy_of(costs)
+    if numpy:
+        return _of_array(numpy, costs, manner, None)
+    if not isinstance(costs, (list, tuple, str)):
+        try:
+            view = memoryview(costs)
+        except TypeError:
+            pass
+        else:
+            return _of_view(view, manner)
+    rows, n_columns = _rows_of(costs, manner)
+    _judge_size(len(rows), n_columns)
+    return _dense(len(rows), n_columns, manner, exact.of_rows(rows, n_columns, manner, _place_in(n_columns, None)))
+
+
+def of_matrix(costs: Any, manner: exact.Manner) -> Problem:
+    """The problem of a matrix. ValueError and TypeError name what is wrong, with row and column from 0."""
+    if hasattr(costs, "tocsr") and not manner.doubles:
+        return of_sparse_matrix(costs, manner)
+    if not naming.is_frame(costs):
+        return _read_matrix(costs, manner)
+    numpy = sys.modules["numpy"]
+    return _of_array(numpy, exact.array_of_frame(numpy, costs, manner), manner,
+                     (list(costs.index), list(costs.columns)))
+
+
+def plain(values: Any) -> Any:
+    """A list of the problem's in a form whose items can be indexed one by one."""
+    if hasattr(values, "held"):
+        return memoryview(values.held).cast("B").cast("q")
+    return values.reshape(-1) if hasattr(values, "reshape") else values
+
+
+def costs_of_pairs(problem: Problem, rows: Any, columns: Any) -> List[Any]:
+    """The costs of some pairs, no two of one row; None where one is forbidden. Of a pair that is given several times
+    the least."""
+    if problem.persons is None:
+        costs = plain(problem.costs)
+        if problem.numpy:
+            places = problem.numpy.asarray(rows, problem.numpy.intp) * problem.n_columns + columns
+            return list(costs[places.astype(problem.numpy.intp)].tolist())
+        return [costs[row * problem.n_columns + column] for row, column in zip(rows, columns)]
+    least: Dict[int, Any] = {}
+    for person, cost in _listed_of_pairs(problem, rows, columns):
+        least[person] = min(cost, least.get(person, cost))
+    return [least.get(row + 1) for row in map(int, rows)]
+
+
+def _listed_of_pairs(problem: Problem, rows: Any, columns: Any) -> Iterable[Tuple[int, Any]]:
+    """The persons and costs of listed pairs that are among some pairs, no two of one row."""
+    if problem.numpy:
+        own = problem.numpy.zeros(problem.n_rows + 1, problem.numpy.uint32)
+        own[problem.numpy.asarray(rows, problem.numpy.intp) + 1] = problem.numpy.asarray(columns,
+                                                                                         problem.numpy.intp) + 1
+        persons, objects = problem.persons, problem.objects
+        places = parts.places_where(problem.numpy, len(persons), lambda part: own[persons[part]] == objects[part])
+        return zip(persons[places].tolist(), plain(problem.costs)[places].tolist())
+    numbers = [0] * (problem.n_rows + 1)
+    for row, column in zip(rows, columns):
+        numbers[row + 1] = column + 1
+    listed_persons = problem.persons.tolist()
+    wanted = map(operator.eq, map(numbers.__getitem__, listed_persons), problem.objects.tolist())
+    return compress(zip(listed_persons, listed_costs(problem)), wanted)
+
+
+def listed_costs(problem: Problem) -> List[Any]:
+    """The costs as a list of Python's."""
+    costs = plain(problem.costs)
+    return costs if isinstance(costs, list) else list(costs.tolist())
+
+
+def owned(problem: Problem) -> Problem:
+    """The problem with costs that the caller can't change."""
+    if isinstance(problem.costs, BorrowedNumbers):
+        return problem._replace(costs=array("q", bytes(problem.costs.held)))
+    return problem._replace(costs=problem.costs.copy()) if problem.numpy else problem
+
+
+def in_whole_numbers(problem: Problem) -> Problem:
+    """The same problem with whole numbers of any size for its costs, in the unit of all."""
+    if not problem.raw:
+        return problem
+    if problem.unit != ONE:
+        return problem._replace(raw=False)
+    ratios = [problem.ratio(cost) for cost in listed_costs(problem)]
+    unit = unit_of(set((1, denominator) for _, denominator in ratios), problem.fractions)
+    costs: Any = [in_unit(ratio, unit) for ratio in ratios]
+    persons, objects = problem.persons, problem.objects
+    if problem.numpy and persons is not None:
+        persons, objects = array("I", persons.tolist()), array("I", objects.tolist())
+    return problem._replace(costs=costs, persons=persons, objects=objects, unit=unit, raw=False, numpy=None)
+
+
+def lists_of(problem: Problem) -> List[Tuple[Sequence[int], Any]]:
+    """The columns of each row, rising, and their costs, to be minimised."""
+    n_rows, n_columns, sign = problem.n_rows, problem.n_columns, -1 if problem.maximize else 1
+    if problem.persons is None:
+        costs = plain(problem.costs)
+        if problem.maximize:
+            costs = _negated(costs)
+        view, columns = costs if isinstance(costs, list) else memoryview(costs), range(n_columns)
+        return [(columns, view[row * n_columns:(row + 1) * n_columns]) for row in range(n_rows)]
+    held: List[Dict[int, int]] = [{} for _ in range(n_rows)]
+    for person, item, cost in zip(problem.persons.tolist(), problem.objects.tolist(), listed_costs(problem)):
+        row = held[person - 1]
+        row[item - 1] = min(cost, row.get(item - 1, cost))
+    return [(sorted(row), [sign * row[column] for column in sorted(row)]) for row in held]
+
+
+def _negated(costs: Any) -> Any:
+    """Whole costs with their signs reversed. The least number of 64 bits has no other sign there."""
+    if hasattr(costs, "dtype") and costs.size and int(costs.min()) > -2**63:
+        return -costs
+    return [-cost for cost in costs.tolist()] if hasattr(costs, "tolist") else list(map(operator.neg, costs))
+
+
+def listed(problem: Problem) -> Problem:
+    """A dense problem as a sparse one."""
+    if problem.persons is not None:
+        return problem
+    n_rows, n_columns, numpy = problem.n_rows, problem.n_columns, problem.numpy
+    if numpy:
+        persons = numpy.repeat(numpy.arange(1, n_rows + 1, dtype=numpy.uint32), n_columns)
+        return problem._replace(persons=persons, objects=numpy.tile(numpy.arange(1, n_columns + 1, dtype=numpy.uint32),
+                                                                    n_rows))
+    persons, objects = array("I"), array("I", range(1, n_columns + 1)) * n_rows
+    for row in range(1, n_rows + 1):
+        persons.extend(array("I", [row]) * n_columns)
+    costs = problem.costs if isinstance(problem.costs, (array, list)) else array("q", bytes(problem.costs.held))
+    return problem._replace(costs=costs, persons=persons, objects=objects)
+
+
+def _chosen(values: Any, places: Any) -> Any:
+    """The values at some places, in a list of the same kind."""
+    if isinstance(values, list):
+        return [values[place] for place in places]
+    return array(values.typecode, [values[place] for place in places]) if isinstance(values, array) else values[places]
+
+
+def kept(problem: Problem, places: Any) -> Problem:
+    """A problem of listed pairs with those at some places alone."""
+    costs, persons, objects = (_chosen(values, places) for values in (problem.costs, problem.persons, problem.objects))
+    return problem._replace(costs=costs, persons=persons, objects=objects, most=None)
+
+
+def within(problem: Problem, worst: Ratio) -> Problem:
+    """The problem without the pairs that are worse than a cost."""
+    bound = Fraction(*worst)
+    if not problem.numpy:
+        problem = in_whole_numbers(problem)
+    problem = listed(problem)
+    # The nearest double is the one that prints as this decimal.
+    most: Any = float(bound) if problem.raw else (math.ceil if problem.maximize
+                                                  else math.floor)(bound * problem.unit.denominator)
+    if problem.numpy and not problem.raw:
+        # Of 64 bits, since NumPy would compare others as doubles.
+        least, greatest = -2**63, 2**63 - 1
+        if not least <= most <= greatest:
+            return (problem if (most < least) == problem.maximize
+                    else kept(problem, problem.numpy.arange(0, dtype=problem.numpy.intp)))
+    if problem.numpy:
+        return kept(problem, problem.costs >= most if problem.maximize else problem.costs <= most)
+    return kept(problem, [place for place, cost in enumerate(problem.costs)
+                          if (cost >= most if problem.maximize else cost <= most)])
+
+
+def without_pair(problem: Problem, row: int, column: int) -> Problem:
+    """The problem with one pair less."""
+    problem = listed(problem)
+    if problem.numpy:
+        return kept(problem, (problem.persons != row + 1) | (problem.objects != column + 1))
+    pair = row + 1, column + 1
+    return kept(problem, [place for place, other in enumerate(zip(problem.persons, problem.objects)) if other != pair])
+
+
+def _without_forbidden(n_rows: int, n_columns: int, read: exact.ReadCosts) -> Tuple[Any, Any, Any]:
+    """Costs, persons and objects of the pairs that aren't forbidden."""
+    numpy = read.numpy
+    if numpy:
+        allowed = numpy.ones(n_rows * n_columns, bool)
+        allowed[numpy.asarray(read.forbidden, numpy.intp)] = False
+        places = numpy.flatnonzero(allowed)
+        persons, objects = numpy.divmod(places, n_columns)
+        return read.numbers[places], (persons + 1).astype(numpy.uint32), (objects + 1).astype(numpy.uint32)
+    forbidden = set(map(int, read.forbidden))
+    places = [place for place in range(n_rows * n_columns) if place not in forbidden]
+    persons = array("I", [place // n_columns + 1 for place in places])
+    objects = array("I", [place % n_columns + 1 for place in places])
+    return _chosen(read.numbers, places), persons, objects
+
+
+def _numbered(values: Any, most: int, what: str) -> Any:
+    """Row or column numbers, from 1 on."""
+    numpy = exact.numpy_of(values)
+    if numpy:
+        values = numpy.asanyarray(values)
+        if values.ndim != 1:
+            raise ValueError(f"{what} must be a list of numbers, not an array of {values.ndim} dimensions")
+        if values.size and values.dtype.kind not in "iuO":
+            raise TypeError(f"{what} must be whole numbers, not {values.dtype}")
+        if values.dtype.kind != "O" and not getattr(values, "mask", numpy.False_).any():
+            if values.size and not (0 <= int(values.min()) and int(values.max()) < most):
+                _all_below(values.tolist(), most, what)
+            # All have room for one more as numbers of 32 bits.
+            return numpy.asarray(values).astype(numpy.uint32) + numpy.uint32(1)
+        values = values.tolist()
+    values = _listed(values, what)
+    try:
+        numbers = [operator.index(value) for value in values]
+    except TypeError:
+        numbers = [exact.whole_number(value, f"{what}[{place}]") for place, value in enumerate(values)]
+    _all_below(numbers, most, what)
+    return array("I", [number + 1 for number in numbers])
+
+
+def _listed(values: Any, what: str) -> List[Any]:
+    try:
+        return list(values)
+    except TypeError:
+        raise TypeError(f"{what} is {values!r}: it must be a list") from None
+
+
+def _all_below(numbers: List[int], most: int, what: str) -> None:
+    for place, number in enumerate(numbers):
+        if not 0 <= number < most:
+            raise ValueError(f"{what}[{place}] is {number}: it must be from 0 to {most - 1}")
+
+
+def _pair_costs(costs: Any, manner: exact.Manner, where: exact.Where) -> exact.ReadCosts:
+    numpy = exact.numpy_of(costs)
+    if numpy:
+        costs = numpy.asanyarray(costs)
+        if costs.ndim != 1:
+            raise ValueError(f"costs must be a list of numbers, not an array of {costs.ndim} dimensions")
+        return exact.of_array(numpy, costs, manner, where)
+    costs = _listed(costs if manner.doubles else printing.of_buffer(costs), "costs")
+    return exact.of_rows([costs], len(costs), manner, where)
+
+
+def of_pairs(n_rows: Any, n_columns: Any, rows: Any, columns: Any, costs: Any, manner: exact.Manner) -> Problem:
+    """The problem of listed pairs, whose costs may be infinite or None to forbid a pair after all."""
+    n_rows, n_columns = exact.whole_number(n_rows, "n_rows"), exact.whole_number(n_columns, "n_columns")
+    _judge_size(n_rows, n_columns)
+    arrays = next(filter(None, map(exact.numpy_of, (costs, rows, columns))), None)
+    persons, objects = _numbered(rows, n_rows, "rows"), _numbered(columns, n_columns, "columns")
+
+    def where(place: int) -> str:
+        pair = f" (row {persons[place] - 1}, column {objects[place] - 1})" if place < min(len(persons),
+                                                                                          len(objects)) else ""
+        return f"costs[{place}]{pair}"
+
+    read = _pair_costs(costs, manner, where)
+    if not len(persons) == len(objects) == len(read.numbers):
+        raise ValueError(f"rows, columns and costs must be of one length: they have {len(persons)}, {len(objects)} and "
+                         f"{len(read.numbers)}")
+    numpy = read.numpy or (arrays if not read.raw else None)
+    lists = [persons, objects, read.numbers]
+    if numpy:
+        lists = [numpy.asarray(values, kind) for values, kind in zip(lists,
+                                                                     ("uint32", "uint32",
+                                                                      "float64" if read.raw else "int64"))]
+    elif exact.numpy_of(persons) or exact.numpy_of(objects):
+        lists[:2] = array("I", map(int, persons)), array("I", map(int, objects))
+    problem = Problem(n_rows, n_columns, manner.maximize, lists[2], lists[0], lists[1], read.unit, read.raw,
+                      manner.doubles, numpy, arrays, read.fractions)
+    if len(read.forbidden):
+        forbidden = set(map(int, read.forbidden))
+        problem = kept(problem, [place for place in range(len(persons)) if place not in forbidden])
+    # The library would take the greatest cost of a pair under maximize.
+    return once(problem) if problem.raw or manner.maximize else problem
+
+
+def once(problem: Problem) -> Problem:
+    """The problem in which a pair that is given several times has its least cost alone."""
+    if problem.numpy:
+        places = _places_once(problem)
+        return problem if places is None else kept(problem, places)
+    keys = [MOST_PERSONS * int(person) + int(item) for person, item in zip(problem.persons, problem.objects)]
+    if len(set(keys)) == len(keys):
+        return problem
+    least: Dict[int, int] = {}
+    for place, key in enumerate(keys):
+        before = least.setdefault(key, place)
+        if before != place and _is_less(problem, place, before):
+            least[key] = place
+    return kept(problem, sorted(least.values()))
+
+
+def _places_once(problem: Problem) -> Any:
+    """The places of the first of the least costs of each pair, rising; None where no pair is given twice. Doubles are
+    in the order of the decimals that they print as."""
+    numpy = problem.numpy
+    keys = (problem.persons.astype(numpy.int64) - 1) * problem.n_columns + problem.objects - 1
+    if (keys[1:] > keys[:-1]).all() or _are_different(numpy, keys, problem.n_rows * problem.n_columns):
+        return None
+    order = numpy.lexsort((problem.costs, keys))
+    return numpy.sort(order[numpy.diff(keys[order], prepend=-1) > 0])
+
+
+def _are_different(numpy: Any, keys: Any, most: int) -> bool:
+    """Whether no two of some numbers from 0 below a bound are the same."""
+    if most > 64 * len(keys):
+        ordered = numpy.sort(keys)
+        return bool((ordered[1:] > ordered[:-1]).all())
+    seen = numpy.zeros(most, bool)
+    seen[keys] = True
+    return bool(numpy.count_nonzero(seen) == len(keys))
+
+
+def _is_less(problem: Problem, place: int, other: int) -> bool:
+    (number, denominator), (others, other_denominator) = (problem.ratio(plain(problem.costs)[place]),
+                                                          problem.ratio(plain(problem.costs)[other]))
+    return number * other_denominator < others * denominator
+
+
+def of_sparse_matrix(matrix: Any, manner: exact.Manner) -> Problem:
+    """The problem of a sparse matrix of SciPy's, whose stored entries are its pairs, also those that are 0."""
+    once = getattr(matrix, "has_canonical_format", False)
+    entries = matrix.tocoo(copy=not once)
+    if not once:
+        entries.sum_duplicates()
+    n_rows, n_columns = matrix.shape
+    return of_pairs(n_rows, n_columns, entries.row, entries.col, entries.data, manner)
+
+
+def of_whole_numbers(n_rows: int, n_columns: int, rows: Sequence[int], columns: Sequence[int],
+                     costs: Sequence[int]) -> Problem:
+    """The problem of listed pairs, none twice, numbered from 0, at whole costs of any size; the sum is to be least."""
+    persons, objects = (array("I", [number + 1 for number in numbers]) for numbers in (rows, columns))
+    try:
+        return Problem(n_rows, n_columns, False, array("q", costs), persons, objects)
+    except OverflowError:
+        return Problem(n_rows, n_columns, False, costs, persons, objects, raw=True)

@@ -1,0 +1,79 @@
+"""The costs of a call as its caller holds them, to be read again when a result needs them: a result keeps no copy."""
+import pickle
+from typing import Any, NamedTuple, Optional, Tuple
+
+from . import problem as reading, reading as exact
+from .numbers import Ratio
+from .problem import Problem
+
+
+def lasting(costs: Any) -> Any:
+    """Costs that can be read twice: what an iterator yields is kept."""
+    if type(costs) is list and {list}.issuperset(map(type, costs)) or isinstance(costs,
+                                                                                 (str, bytes, dict, set, frozenset)):
+        return costs
+    if isinstance(costs, (list, tuple)) or not hasattr(costs, "__len__") and hasattr(costs, "__next__"):
+        return [list(row) if hasattr(row, "__next__") else row for row in costs]
+    return costs
+
+
+def listed(values: Any) -> Any:
+    """A list of pairs that can be read twice."""
+    return values if hasattr(values, "__len__") or not hasattr(values, "__iter__") else list(values)
+
+
+class Source(NamedTuple):
+    """What a call was given: costs, for listed pairs also their rows, columns and the sizes, how they are read, the
+    pairs that are left out, and the worst cost that a pair may have."""
+
+    costs: Any
+    rows: Any
+    columns: Any
+    sizes: Optional[Tuple[Any, Any]]
+    manner: exact.Manner
+    less: Tuple[Tuple[int, int], ...] = ()
+    worst: Optional[Ratio] = None
+
+    def read(self) -> Problem:
+        """The problem, as its costs are now."""
+        problem = problem_of(self.costs, self.rows, self.columns, self.sizes, self.manner)
+        for row, column in self.less:
+            problem = reading.without_pair(problem, row, column)
+        return problem if self.worst is None else reading.within(problem, self.worst)
+
+    def __reduce__(self) -> Tuple[Any, ...]:
+        return Source, (_portable(self.costs), _portable(self.rows), _portable(self.columns), *self[3:])
+
+
+class FixedProblem(NamedTuple):
+    """A problem that nobody else can change."""
+
+    problem: Problem
+
+    def read(self) -> Problem:
+        """The problem."""
+        return self.problem
+
+
+def _portable(values: Any) -> Any:
+    """The same values in an object that can be pickled: a view of memory becomes a list."""
+    if not isinstance(values, memoryview):
+        try:
+            pickle.dumps(values)
+            return values
+        except (TypeError, ValueError, pickle.PicklingError, AttributeError):
+            pass
+    return reading.native(memoryview(values)).tolist()
+
+
+def problem_of(costs: Any, rows: Any, columns: Any, sizes: Optional[Tuple[Any, Any]], manner: exact.Manner) -> Problem:
+    """The problem of a matrix, of a sparse matrix, or of listed pairs. If sizes are given, it must have these."""
+    if (rows is None) != (columns is None):
+        raise TypeError("rows and columns of listed pairs are given together")
+    if rows is not None and sizes is not None:
+        return reading.of_pairs(*sizes, rows, columns, costs, manner)
+    found = reading.of_matrix(costs, manner)
+    if sizes is not None and sizes != (found.n_rows, found.n_columns):
+        raise ValueError(f"the costs have {found.n_rows} rows and {found.n_columns} columns, the plan was made for "
+                         f"{sizes[0]} and {sizes[1]}")
+    return found

@@ -1,0 +1,175 @@
+"""Levels over NumPy's arrays: what `reduced` and `levels` do to lists, with all pairs at a time."""
+import math
+import sys
+from array import array
+from typing import Any, List, Tuple
+
+from ..costs import parts
+from ..costs.problem import Problem
+from ..costs.reading import size_of
+from . import proved
+from .level import Level, Pairs
+
+# So many costs are looked at together, since they stay in the processor's cache.
+BLOCK = 2**14
+# Whole numbers of 64 bits stay below this, so that sums of two don't overflow.
+MOST_BITS = 61
+# Beyond these powers of two a factor may be no double.
+MOST_SHIFT = 900
+
+
+def rounded(problem: Problem, bits: int) -> Tuple[Any, int]:
+    """Costs of at most so many bits, and the shift that made them so."""
+    costs = problem.costs
+    if not problem.raw:
+        most = max(int(costs.max()).bit_length(), int(costs.min()).bit_length())
+        shift = min(0, bits - most)
+        if not shift:
+            return costs, 0
+        return (costs >> -shift) + (costs >> -shift - 1 & 1), shift
+    shift = shift_of(problem, bits)
+    return whole_of(problem.numpy, costs, shift), shift
+
+
+def shift_of(problem: Problem, bits: int) -> int:
+    """The shift that gives the greatest of a problem's doubles so many bits."""
+    return bits - math.frexp(_most(problem))[1]
+
+
+def _most(problem: Problem) -> float:
+    return size_of(problem.costs) if problem.most is None else problem.most
+
+
+def is_extreme(problem: Problem) -> bool:
+    """Whether the greatest cost is so small or so great that a unit, or a sum, may be no double."""
+    return not -850 < math.frexp(_most(problem))[1] < 1000
+
+
+def as_list(problem: Problem) -> Problem:
+    """The problem with lists of Python's."""
+    if problem.persons is not None:
+        problem = problem._replace(persons=array("I", problem.persons.tolist()),
+                                   objects=array("I", problem.objects.tolist()))
+    return problem._replace(costs=problem.costs.tolist(), numpy=None, most=None)
+
+
+def whole_of(numpy: Any, costs: Any, shift: int) -> Any:
+    """Doubles times 2**shift, rounded to the nearest whole numbers, which have less than 51 bits."""
+    if not -MOST_SHIFT < shift < MOST_SHIFT:
+        return numpy.rint(numpy.ldexp(costs, shift)).astype(numpy.int64)
+    # Whatever is added to this double is rounded at its last place, and the bits of the sum count these places.
+    adder = numpy.array(1.5 * 2.0**(52 - shift))
+    found = numpy.empty(costs.shape, numpy.int64)
+    for part in parts.parts(len(costs)):
+        numpy.add(costs[part], adder, found[part].view(numpy.float64))
+        found[part] -= adder.view(numpy.int64)
+    return found
+
+
+def duals_of(asked: proved.Instance, answer: proved.Assignment, sign: int) -> Tuple[Any, Any]:
+    """The duals of persons and of objects, each after a 0."""
+    numpy = _module(asked)
+    objects = numpy.array(answer.objects, numpy.intp)
+    of_objects = numpy.zeros(asked.m + 1, numpy.int64)
+    of_objects[1:] = -whole_prices(numpy, answer)
+    of_persons = numpy.zeros(asked.n + 1, numpy.int64)
+    if len(asked.persons):
+        places = parts.places_where(numpy, len(asked.persons),
+                                    lambda part: objects[asked.persons[part].astype(numpy.intp) - 1]
+                                    == asked.objects[part])
+        of_persons[asked.persons[places]] = sign * asked.costs[places]
+    else:
+        of_persons[1:] = sign * asked.costs[numpy.arange(0, asked.n * asked.m, asked.m) + objects - 1]
+    of_persons[1:] -= of_objects[objects]
+    return of_persons, of_objects
+
+
+def _module(asked: proved.Instance) -> Any:
+    return sys.modules["numpy"]
+
+
+def whole_prices(numpy: Any, answer: proved.Assignment) -> Any:
+    """The prices of an answer, the least 0."""
+    prices = numpy.frombuffer(answer.prices, numpy.int64)
+    return prices - prices.min()
+
+
+def kept(level: Level, most: int) -> Tuple[Any, Any, Any]:
+    """The persons, objects and places of the pairs whose reduced cost is at most so many units."""
+    asked, sign = level.asked, level.sign
+    numpy = _module(asked)
+    if len(asked.persons):
+        def are_near(part: slice) -> Any:
+            duals = level.of_persons[asked.persons[part]] + level.of_objects[asked.objects[part]]
+            return sign * asked.costs[part] - duals <= most
+        places = parts.places_where(numpy, len(asked.persons), are_near)
+        return asked.persons[places], asked.objects[places], places
+    costs, bounds, duals = asked.costs.reshape(asked.n, asked.m), level.of_persons[1:,
+                                                                                   None] + most, level.of_objects[1:]
+    height, found = max(1, BLOCK // asked.m), []
+    if sign < 0:
+        duals, bounds = -duals, -bounds
+    compare, room = numpy.less_equal if sign > 0 else numpy.greater_equal, numpy.empty((height, asked.m), numpy.int64)
+    for begin in range(0, asked.n, height):
+        block = costs[begin:begin + height]
+        slack = numpy.subtract(block, duals, room[:len(block)])
+        found.append(compare(slack, bounds[begin:begin + height]).ravel().nonzero()[0] + begin * asked.m)
+    places = parts.joined(numpy, numpy.intp, found)
+    if len(places) < 8 * asked.n:
+        persons, objects = numpy.divmod(places, asked.m)
+        return (persons + 1).astype(numpy.uint32), (objects + 1).astype(numpy.uint32), places
+    starts = numpy.arange(0, (asked.n + 1) * asked.m, asked.m)
+    counts = numpy.diff(numpy.searchsorted(places, starts))
+    persons = numpy.repeat(numpy.arange(1, asked.n + 1, dtype=numpy.uint32), counts)
+    return persons, (places - numpy.repeat(starts[:-1] - 1, counts)).astype(numpy.uint32), places
+
+
+def changes(level: Level, pairs: Pairs) -> Tuple[List[int], List[int]]:
+    """Who takes an object, and from which person, where that isn't the person's own; 0 for an unused object."""
+    numpy = _module(level.asked)
+    own, owner = numpy.zeros(level.asked.n + 1, numpy.uint32), numpy.zeros(level.asked.m + 1, numpy.uint32)
+    own[1:] = level.objects
+    owner[own[1:]] = numpy.arange(1, level.asked.n + 1)
+    other = own[pairs.persons] != pairs.objects
+    return pairs.persons[other].tolist(), owner[pairs.objects[other]].tolist()
+
+
+def taken_off(numpy: Any, level: Level, pairs: Pairs) -> Any:
+    """What a level takes off the costs of pairs, in its unit."""
+    n, m, of_objects = level.asked.n, level.asked.m, level.of_objects
+    if n < m:
+        of_objects = numpy.minimum(of_objects + (2 * n + 2), 0)
+    return parts.filled(numpy, numpy.int64, len(pairs.persons),
+                        lambda part: level.of_persons[pairs.persons[part]] + of_objects[pairs.objects[part]])
+
+
+def _places(numpy: Any, problem: Problem, asked: proved.Instance, places: Any) -> Tuple[Any, Any]:
+    """Where the costs of pairs stand, and which of them are those of dummies."""
+    if len(asked.persons):
+        dummies = places >= problem.costs.size
+        return numpy.where(dummies, 0, places), dummies
+    if proved.is_turned(problem):
+        columns, rows = numpy.divmod(places, asked.m)
+        places = rows * problem.n_columns + columns
+    return places, None
+
+
+def costs_at(numpy: Any, problem: Problem, level: Level, pairs: Pairs) -> Any:
+    def costs_of(part: slice) -> Any:
+        places, dummies = _places(numpy, problem, level.asked, pairs.places[part])
+        costs = level.sign * problem.costs[places]
+        return costs if dummies is None else numpy.where(dummies, 0, costs)
+    return parts.filled(numpy, problem.costs.dtype, len(pairs.places), costs_of)
+
+
+def near_least(numpy: Any, costs: Any, sign: int, prices: List[float]) -> List[List[int]]:
+    """The places in each row of a matrix of doubles where cost and price may be the least, whatever doubles lose."""
+    with numpy.errstate(all="ignore"):
+        added = numpy.array(prices)
+        lost = 2.0**-50 * (float(numpy.abs(costs).max()) + float(numpy.abs(added).max())) + 5e-324
+        found = []
+        for row in range(len(costs)):
+            paid = sign * costs[row] + added
+            near = paid <= paid.min() + lost
+            found.append((numpy.flatnonzero(near | ~numpy.isfinite(paid)) + row * costs.shape[1]).tolist())
+        return found

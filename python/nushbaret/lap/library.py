@@ -1,0 +1,446 @@
+"""The shared library, by ctypes: where it is, its calls, codes and limits. The codes are those of c/nushbaret.h."""
+import contextlib
+import ctypes
+import math
+import pathlib
+import sys
+import threading
+import time
+from array import array
+from typing import Any, Callable, Dict, List, NamedTuple, Optional, Sequence, Tuple, Union
+
+from ..costs.limits import FEW, BorrowedNumbers, Numbers
+
+VERSION = "4.1.0"
+
+CODES = (
+    "BEST", "HALL",
+    "SENSE", "SIZE", "LENGTH", "PERSON", "OBJECT", "COST", "PRICE", "MEMORY",
+    "ANSWER_LENGTH", "UNLISTED", "TWICE", "PRICE_RANGE", "SLACK",
+    "HALL_RANGE", "HALL_ORDER", "HALL_MISSING", "HALL_EXTRA", "HALL_COUNT",
+    "OVERPRICED",
+    "STOPPED",
+)
+
+# What the library is called, where a checkout has it, and what makes it there.
+NAME, _FOLDER, _MADE_BY = ("nushbaret.dll", "windows",
+                           "c/build_windows.sh") if sys.platform == "win32" else ("libnushbaret.so", "", "c/build.sh")
+_PACKAGE = pathlib.Path(__file__).resolve().parent.parent
+PLACES = (_PACKAGE / NAME, _PACKAGE.parent.parent / "c" / "out" / _FOLDER / NAME)
+
+
+class LibraryNotFound(OSError):
+    """The shared library is missing, or it is of another version; the text says which command builds it.
+
+    >>> import nushbaret
+    >>> issubclass(nushbaret.LibraryNotFound, OSError)
+    True
+    """
+
+
+class Info(ctypes.Structure):
+    """What a call reports in addition to its lists."""
+
+    _fields_ = [(name, ctypes.c_int64 if name == "total" else ctypes.c_uint64)
+                for name in ("total", "place", "persons", "objects", "person", "object")]
+
+
+class Record(ctypes.Structure):
+    """Where a search stands that is done in pieces; all 0: it begins."""
+
+    _fields_ = [("stage", ctypes.c_uint32), ("shift", ctypes.c_uint32), ("slackness", ctypes.c_int64),
+                ("bids", ctypes.c_uint64), ("passes", ctypes.c_uint64), ("dummy_bids", ctypes.c_uint32),
+                ("flags", ctypes.c_uint32), ("looks", ctypes.c_uint64)]
+
+
+_INFO = ctypes.sizeof(Info)
+# How many lists each call takes.
+_LISTS = {"dense": 4, "dense_from": 5, "sparse": 6, "sparse_from": 7, "check": 5, "check_hall": 5}
+_loading = threading.Lock()
+_calls: Dict[str, Any] = {}
+
+
+def _open() -> ctypes.CDLL:
+    for place in PLACES:
+        if place.exists():
+            try:
+                return ctypes.CDLL(str(place))
+            except OSError as fault:
+                raise LibraryNotFound(f"{place} can't be loaded: {fault}") from fault
+    raise LibraryNotFound(f"{NAME} isn't there: {_MADE_BY} makes it, at the top of a checkout of Nushbaret")
+
+
+def _load() -> None:
+    library = _open()
+    room = (ctypes.c_uint8 * 32)()
+    library.nushbaret_version.argtypes = [ctypes.c_void_p, ctypes.c_size_t]
+    library.nushbaret_version.restype = ctypes.c_size_t
+    library.nushbaret_version(room, 32)
+    found = bytes(room).split(b"\0")[0].decode()
+    if found != VERSION:
+        raise LibraryNotFound(f"the library is of version {found}, and {VERSION} is needed: {_MADE_BY} builds it again")
+    for name, lists in _LISTS.items():
+        call = getattr(library, f"nushbaret_{name}")
+        sense = [] if name == "check_hall" else [ctypes.c_uint32]
+        piece = [ctypes.c_uint64, ctypes.c_void_p] if name.endswith("_from") else []
+        call.argtypes = sense + [ctypes.c_size_t] * 2 + [ctypes.c_void_p,
+                                                         ctypes.c_size_t] * lists + piece + [ctypes.c_void_p]
+        call.restype = ctypes.c_int32
+        _calls[name] = call
+    with contextlib.suppress(MemoryError):
+        bytes(_KEPT)
+    # Without types, so that prepared arguments aren't converted again.
+    _calls["dense, made ready"], _calls["sparse, made ready"] = library["nushbaret_dense"], library["nushbaret_sparse"]
+
+
+_SPARE = array("Q", [0])
+# A block of this size, which nobody writes to, makes the C library of GNU keep up to twice as much for later calls once
+# it is freed. Otherwise each call on a large problem takes all its pages from the system again, which takes about as
+# long as to solve it.
+_KEPT = 2**25 - 2**16
+_FEW_BYTES = 8 * FEW
+
+
+def _address_and_count(values: Any) -> Tuple[Union[int, bytes], int]:
+    """Address, or bytes that stand for it, and count; the address is never null."""
+    if isinstance(values, array):
+        place, count = values.buffer_info()
+    elif isinstance(values, BorrowedNumbers):
+        place, count = values.place, values.count
+    elif values.nbytes <= _FEW_BYTES:
+        return values.tobytes(), values.size
+    else:
+        place, count = values.__array_interface__["data"][0], values.size
+    return (place, count) if count else (_SPARE.buffer_info()[0], 0)
+
+
+def _loaded() -> Dict[str, Any]:
+    """The calls by their names."""
+    if not _calls:
+        with _loading:
+            if not _calls:
+                _load()
+    return _calls
+
+
+def call(name: str, sense: Optional[bool], n: int, m: int, *lists: Any, piece: Sequence[int] = ()) -> Tuple[str, Info]:
+    """The name of the code, and its record. `sense` is None for `check_hall`; `piece` is a budget, and the address of
+    the record that says where a search stands. MemoryError where memory is refused."""
+    info = Info()
+    words: List[Any] = [n, m] if sense is None else [1 if sense else 0, n, m]
+    for values in lists:
+        words += _address_and_count(values)
+    code = CODES[_loaded()[name](*words, *piece, ctypes.addressof(info))]
+    if code == "MEMORY":
+        raise MemoryError("the library was refused memory")
+    return code, info
+
+
+def searched(sense: bool, n: int, m: int, lists: Sequence[Any], first: Optional[Numbers],
+             written: Sequence[Numbers]) -> Tuple[str, Info]:
+    """What a solving call says to `lists`: the costs of a dense problem, or the persons, objects and costs of listed
+    pairs. It begins at the `first` prices, if there are any, and at what objects `written` holds, which are objects,
+    persons and prices.
+
+    A search that may take long is done in pieces, so that Ctrl-C ends it, and TimeoutError is raised where the time of
+    `limited` is over. After each piece its `progress` is called with how many persons are served."""
+    name, pairs = "dense" if len(lists) == 1 else "sparse", len(lists[-1])
+    progress: Optional[Callable[[int, int], Any]] = getattr(_limits, "progress", None)
+    if first is None and _end() is None and progress is None and n * pairs < LONG:
+        return call(name, sense, n, m, *lists, *written)
+    record, code, info, pace = Record(), "STOPPED", Info(), _Pace(PIECES[name], pairs)
+    while code == "STOPPED":
+        look_at_time()
+        start = _SPARE[:0] if first is None else first
+        code, info = call(name + "_from", sense, n, m, *lists, start, *written,
+                          piece=(pace.budget(), ctypes.addressof(record)))
+        if progress is not None and code in ("BEST", "STOPPED"):
+            progress(n - written[0].count(0), n)
+    return code, info
+
+
+class PieceSize(NamedTuple):
+    """How many looks at pairs a piece of a search has at least: so many, and so many for each pair, since each piece
+    reads all of them."""
+
+    looks: int
+    passes: int
+
+
+class _Pace:
+    """How long the pieces of a search are. Each has up to a quarter of the looks that all before it had, since a search
+    may lose by many short ones; but no more than the time that is left."""
+
+    def __init__(self, piece: PieceSize, pairs: int):
+        self.least, self.looks, self.began = piece.looks + piece.passes * pairs, 0, time.monotonic()
+
+    def budget(self) -> int:
+        """The looks of the next piece."""
+        now, end = time.monotonic(), _end()
+        looks = max(self.least, self.looks // 4)
+        if end is not None and self.looks:
+            looks = max(self.least, min(looks, int(self.looks * (end - now) / max(now - self.began, 1e-9))))
+        self.looks += looks
+        return looks
+
+
+# The alarm of a thread's call, and what is called with its progress.
+_limits = threading.local()
+# A search whose persons times pairs are so many may take long. It is done in pieces of some tenths of a second.
+LONG = 2**27
+PIECES = {"dense": PieceSize(2 * 10**7, 10), "sparse": PieceSize(5 * 10**6, 4)}
+_LONGEST_WAIT = 10.0**5
+_TIME_IS_OVER = "the time is over; nothing of the caller's was changed"
+
+
+class TimeIsOver(TimeoutError):
+    """What an alarm lets Python raise in a thread, between any two of its steps."""
+
+    def __init__(self) -> None:
+        super().__init__(_TIME_IS_OVER)
+
+
+def _raise_in(thread: int, fault: Optional[type]) -> None:
+    """Lets a thread raise this in its next step, or nothing of what it hasn't yet raised so."""
+    python = getattr(ctypes, "pythonapi", None)
+    if python is not None:
+        python.PyThreadState_SetAsyncExc(ctypes.c_ulong(thread), None if fault is None else ctypes.py_object(fault))
+
+
+class _Alarm:
+    """Ends the steps of the thread that makes it, as Ctrl-C would, once it is armed and its time is over, unless it is
+    stopped before. An alarm that has rung limits nothing any more."""
+
+    def __init__(self, end: float):
+        self.end, self.thread, self.rang = end, threading.get_ident(), False
+        self.lock, self.gate, self.stopped = threading.Lock(), threading.Lock(), threading.Event()
+        self.gate.acquire()
+        if end < math.inf:
+            started(threading.Thread(target=self._wait, daemon=True))
+
+    def arm(self) -> None:
+        """From here on it may ring: while a thread is started it must not."""
+        self.gate.release()
+
+    def _wait(self) -> None:
+        self.gate.acquire()
+        while not self.stopped.wait(min(max(self.end - time.monotonic(), 0), _LONGEST_WAIT)):
+            if time.monotonic() >= self.end:
+                return self._ring()
+
+    def _ring(self) -> None:
+        with self.lock:
+            if not self.stopped.is_set():
+                self.rang = True
+                _raise_in(self.thread, TimeIsOver)
+
+    def stop(self) -> None:
+        """After this it raises nothing."""
+        with self.lock:
+            self.stopped.set()
+        if self.gate.locked():
+            self.gate.release()
+        if self.rang:
+            _raise_in(self.thread, None)
+
+
+def started(thread: threading.Thread) -> None:
+    """Starts a thread; MemoryError where the system has none left."""
+    try:
+        thread.start()
+    except RuntimeError as fault:
+        raise MemoryError(f"no thread could be started: {fault}") from None
+
+
+class limited:
+    """Within, calls and the steps of Python raise TimeoutError after so many seconds; never where that is None. After
+    each piece of a search `progress` is called with the persons served so far, and their number."""
+
+    def __init__(self, timeout: Optional[float], progress: Optional[Callable[[int, int], Any]] = None):
+        if timeout is not None and not hasattr(timeout, "__float__"):
+            raise TypeError(f"timeout is {timeout!r}: it must be a number of seconds")
+        if timeout is not None and not timeout >= 0:
+            raise ValueError(f"timeout is {timeout!r}: it must be a number of seconds, 0 or more")
+        if progress is not None and not callable(progress):
+            raise TypeError(f"progress is {progress!r}: it must be a call of two numbers, how many are served and how "
+                            "many there are")
+        self.timeout, self.progress = timeout, progress
+
+    def __enter__(self) -> None:
+        before: Optional[_Alarm] = getattr(_limits, "alarm", None)
+        # What rings just as a block ends may leave its alarm here.
+        self.before = None if before is None or before.rang else before
+        self.alarm: Optional[_Alarm] = None
+        if self.timeout == 0:
+            raise TimeoutError(_TIME_IS_OVER)
+        self.outer_progress, _limits.progress = getattr(_limits, "progress", None), self.progress
+        if self.timeout is None:
+            return
+        end = time.monotonic() + self.timeout
+        if self.before is None or end < self.before.end:
+            self.alarm = _Alarm(end)
+            try:
+                _limits.alarm = self.alarm
+                self.alarm.arm()
+            except TimeIsOver:
+                self._leave()
+                raise TimeoutError(_TIME_IS_OVER) from None
+
+    def __exit__(self, kind: Any, fault: Any, trace: Any) -> None:
+        try:
+            self._leave()
+        except TimeIsOver:
+            # It rang while it was to be stopped.
+            self._leave()
+            kind = kind or TimeIsOver
+        if kind is TimeIsOver and (self.before is None or not self.before.rang):
+            raise TimeoutError(_TIME_IS_OVER) from None
+
+    def _leave(self) -> None:
+        _limits.alarm, _limits.progress = self.before, self.outer_progress
+        if self.alarm is not None:
+            self.alarm.stop()
+
+
+def _end() -> Optional[float]:
+    """When this thread's call has to end."""
+    alarm = getattr(_limits, "alarm", None)
+    return None if alarm is None or alarm.rang else alarm.end
+
+
+def look_at_time() -> None:
+    """Raises TimeoutError where the time of `limited` is over."""
+    end = _end()
+    if end is not None and time.monotonic() >= end:
+        raise TimeoutError(_TIME_IS_OVER)
+
+
+class CostMemory:
+    """Memory for costs that are to become whole numbers: `doubles`, `numbers` and `flat` are one memory, and `calls`
+    has the arguments for these under minimize and maximize."""
+
+    doubles: Any = None
+    numbers: Any = None
+    flat: Any = None
+    calls: Any = None
+
+    def words(self, sense: Any, costs: Any) -> Tuple[Any, ...]:
+        """The arguments of a call with these costs."""
+        raise NotImplementedError
+
+    def _hold(self, numpy: Any, shape: Tuple[int, ...], senses: Tuple[Any, Any]) -> None:
+        self.doubles = numpy.empty(shape)
+        self.numbers = self.doubles.view(numpy.int64)
+        self.flat = memoryview(self.numbers).cast("B").cast("q")
+        own = address_of(self.numbers)
+        self.calls = tuple(self.words(sense, own) for sense in senses)
+
+
+class Workspace(CostMemory):
+    """What a dense call on an array of NumPy's fills, with its arguments made ready, since to convert them takes as
+    long as a small problem: a sense, sizes, costs, and the rest. The call answers 0 where it found a best assignment,
+    whose objects stand here then. `home` is the list that the room goes back to after a call, if it is kept.
+    `is_rounded` says whether costs were rounded, `places` of how many decimal places they are whole numbers otherwise,
+    `is_turned` whether columns are the persons, and `listed` has the pairs where some are forbidden."""
+
+    def __init__(self, numpy: Any, n: int, m: int, home: Optional[List["Workspace"]]):
+        self.memory, self.shape, self.home = array("Q", bytes(_INFO + 8 * m + 8 * n)), (n, m), home
+        self.rows, self.objects = numpy.arange(n, dtype=numpy.intp), numpy.frombuffer(self.memory, numpy.uint32, n,
+                                                                                      _INFO + 8 * m)
+        info = self.memory.buffer_info()[0]
+        prices, objects, persons = info + _INFO, info + _INFO + 8 * m, info + _INFO + 8 * m + 4 * n
+        sense, count, address = ctypes.c_uint32.from_param, ctypes.c_size_t.from_param, ctypes.c_void_p.from_param
+        many, few = count(m), count(n)
+        self.minimized, self.maximized, self.sizes = sense(0), sense(1), (few, many)
+        self.rest = count(n * m), address(objects), few, address(persons), few, address(prices), many, address(info)
+        self.call = _calls["dense, made ready"]
+        # Where the costs of each row begin, less 1.
+        self.before = range(-1, n * m - 1, m)
+        self.prices = numpy.frombuffer(self.memory, numpy.int64, m, _INFO)
+        self.total = ctypes.c_int64.from_buffer(self.memory)
+        self.is_rounded = self.is_turned = self.of_list = False
+        self.places = 0
+        self.listed: Optional["SparseWorkspace"] = None
+        self.every: Any = None
+
+    def give_back(self) -> None:
+        """Lets another call have the room."""
+        self.listed = None
+        if self.home is not None:
+            self.home.append(self)
+
+    def words(self, sense: Any, costs: Any) -> Tuple[Any, ...]:
+        return (sense, *self.sizes, costs, *self.rest)
+
+    def hold_doubles(self, numpy: Any, shape: Tuple[int, ...]) -> None:
+        """Makes memory for costs that are to become whole numbers."""
+        self._hold(numpy, shape, (self.minimized, self.maximized))
+
+    def every_pair(self, numpy: Any) -> Tuple[Any, Any]:
+        """The persons and the objects of all pairs."""
+        if self.every is None:
+            n, m = self.shape
+            kind = numpy.uint32
+            self.every = numpy.repeat(numpy.arange(1, n + 1, dtype=kind),
+                                      m), numpy.tile(numpy.arange(1, m + 1, dtype=kind), n)
+        persons, objects = self.every
+        return persons, objects
+
+
+class SparseWorkspace(CostMemory):
+    """The pairs of a room's problem, where some are forbidden, and the arguments of a sparse call that fills the room.
+    `places` are those of the pairs among all."""
+
+    def __init__(self, numpy: Any, room: Workspace, places: Any):
+        self.senses = room.minimized, room.maximized
+        persons, objects = room.every_pair(numpy)
+        self.persons, self.objects = persons.take(places), objects.take(places)
+        self.call = _calls["sparse, made ready"]
+        count = ctypes.c_size_t.from_param(len(places))
+        self.before = *room.sizes, argument_of(self.persons), count, argument_of(self.objects), count
+        self.rest = count, *room.rest[1:]
+
+    def words(self, sense: Any, costs: Any) -> Tuple[Any, ...]:
+        return (sense, *self.before, costs, *self.rest)
+
+    def hold_doubles(self, numpy: Any, shape: Tuple[int, ...]) -> None:
+        """As in `Room`."""
+        self._hold(numpy, shape, self.senses)
+
+
+def address_of(numbers: Any) -> Any:
+    """The address of an array, which must live until the call ends."""
+    return ctypes.c_void_p.from_param(numbers.__array_interface__["data"][0])
+
+
+def argument_of(numbers: Any) -> Any:
+    """An array as an argument that was made ready: bytes where it has few numbers, else its address."""
+    return numbers.tobytes() if numbers.size <= FEW else address_of(numbers)
+
+
+# Rooms of calls that have ended, by their sizes; at most so many sizes.
+_MOST_SIZES = 256
+_MOST_KEPT = 4096
+_workspaces: Dict[Tuple[int, int], List[Workspace]] = {}
+
+
+def workspace_for(numpy: Any, n: int, m: int) -> Workspace:
+    """A room that no other call has: give it back after the call."""
+    rooms = _workspaces.get((n, m))
+    if rooms:
+        try:
+            return rooms.pop()
+        except IndexError:
+            pass
+    return Workspace(numpy, n, m, rooms if rooms is not None else _workspaces_for(n, m))
+
+
+def _workspaces_for(n: int, m: int) -> Optional[List[Workspace]]:
+    """A new list of rooms. Larger ones aren't kept: making one takes little time compared with the problem, and it
+    holds much memory."""
+    _loaded()
+    if n * m > _MOST_KEPT:
+        return None
+    if len(_workspaces) >= _MOST_SIZES:
+        _workspaces.clear()
+    return _workspaces.setdefault((n, m), [])

@@ -1,0 +1,337 @@
+"""Problems as the library takes them, and what its answers say of the caller's problem.
+
+The library gives each of n persons one of m objects, proved for n <= m. The fewer of rows and columns are the persons:
+with more rows than columns the problem is turned. If persons may stay out, each also lists dummy objects, as many as
+persons are to stay out. Then at least the requested number of pairs is made, and exactly this number if no plan has
+more."""
+import operator
+from array import array
+from fractions import Fraction
+from typing import Any, List, NamedTuple, NoReturn, Optional, Sequence, Tuple, Union
+
+from ..costs import naming, printing
+from ..costs.limits import GREATEST_PRICE, MOST_PERSONS, Numbers
+from ..costs.numbers import ratio_of
+from ..costs.problem import Problem, TooLarge, listed, lists_of, plain
+from . import library
+
+
+class Instance(NamedTuple):
+    """What is passed to the library: how many persons and objects there are, and three lists; in a dense problem those
+    of persons and objects are empty."""
+
+    n: int
+    m: int
+    persons: Any
+    objects: Any
+    costs: Any
+
+
+class Assignment(NamedTuple):
+    """A best assignment: an object for each person, from 1 on, and prices in the unit of the costs. Where levels found
+    it, there are no prices and no total."""
+
+    n: int
+    m: int
+    total: Optional[int]
+    objects: Any
+    prices: Any
+
+
+class Halves:
+    """The prices of an answer in pickles of 3.0 and 3.1, as multiples of a cost divided by one more than there are
+    prices: of each two words, the lower one first. They have slackness 1 in that unit. There are fewer prices than
+    remainders, so one remainder belongs to none; rounded down from there, prices have none."""
+
+    words: Numbers
+
+    def tolist(self) -> List[int]:
+        """The prices in the unit of the costs."""
+        words = self.words.tolist()
+        prices, unit = [low + (high << 64) for low, high in zip(words[0::2], words[1::2])], len(words) // 2 + 1
+        missing = min(set(range(unit)).difference(price % unit for price in prices))
+        return [(price - missing - 1) // unit for price in prices]
+
+
+class HallSet(NamedTuple):
+    """Persons and objects, from 1 on, that prove that there is no assignment."""
+
+    persons: Any
+    objects: Any
+
+
+class WarmStart(NamedTuple):
+    """Where a search begins: prices of columns in the unit of the costs, and the pairs of an earlier plan."""
+
+    prices: List[Fraction]
+    rows: Sequence[int] = ()
+    columns: Sequence[int] = ()
+
+
+class FirstPrices(NamedTuple):
+    """The same for the library: prices of objects, and an object for each person, from 1 on; 0 for nobody's."""
+
+    prices: Numbers
+    objects: Numbers
+
+
+NONE = array("I")
+
+
+def is_turned(problem: Problem) -> bool:
+    """Whether the columns are the persons."""
+    return problem.n_rows > problem.n_columns
+
+
+def sizes_of(problem: Problem, served: Optional[int]) -> Tuple[int, int, int]:
+    """How many persons there are, how many objects, and how many of these are dummies."""
+    n, most = sorted((problem.n_rows, problem.n_columns))
+    dummies = 0 if served is None else n - served
+    if most + dummies > MOST_PERSONS:
+        raise TooLarge(f"{problem.n_rows} rows and {problem.n_columns} columns, of which {served} can be paired, make "
+                       f"{most + dummies} with dummies: at most {MOST_PERSONS} are possible")
+    return n, most + dummies, dummies
+
+
+def _turned_costs(problem: Problem) -> Any:
+    """The costs of a dense problem, column by column."""
+    n_rows, n_columns = problem.n_rows, problem.n_columns
+    if problem.numpy:
+        return _turned_array(problem.numpy, problem.costs.reshape(n_rows, n_columns))
+    costs, turned = plain(problem.costs), array("q")
+    for column in range(n_columns):
+        turned.frombytes(costs[column::n_columns].tobytes())
+    return turned
+
+
+def _turned_array(numpy: Any, costs: Any) -> Any:
+    """The costs of a matrix, column by column. Some columns at a time are taken, so that Ctrl-C is heeded in
+    between."""
+    turned = numpy.empty(costs.size, costs.dtype)
+    by_columns = turned.reshape(costs.shape[::-1])
+    for begin in range(0, len(by_columns), 64):
+        by_columns[begin:begin + 64] = costs[:, begin:begin + 64].T
+    return turned
+
+
+def given(problem: Problem, served: Optional[int] = None, out: int = 0) -> Instance:
+    """The problem whose assignments have `served` pairs, or as many as the shorter side has nodes. `out` is the cost of
+    staying out."""
+    n, m, dummies = sizes_of(problem, served)
+    if problem.persons is None and not dummies:
+        return Instance(n, m, NONE, NONE, _turned_costs(problem) if is_turned(problem) else problem.costs)
+    problem = listed(problem)
+    lists = [problem.objects, problem.persons, problem.costs] if is_turned(problem) else [problem.persons,
+                                                                                          problem.objects,
+                                                                                          problem.costs]
+    if dummies:
+        lists = [_joined(problem.numpy, own, more) for own, more in zip(lists, _dummies(n, m, dummies, out))]
+    return Instance(n, m, *lists)
+
+
+def _dummies(n: int, m: int, dummies: int, out: int) -> Tuple[Any, Any, Any]:
+    """Persons, objects and costs of the pairs with dummies."""
+    everybody, objects = array("I", range(1, n + 1)), array("I")
+    for item in range(m - dummies + 1, m + 1):
+        objects.extend(array("I", (item,)) * n)
+    return everybody * dummies, objects, array("q", (out,)) * len(objects)
+
+
+def _joined(numpy: Any, own: Any, more: Any) -> Any:
+    return numpy.concatenate((own, more)) if numpy else own + more
+
+
+def refuse(code: str, info: library.Info) -> NoReturn:
+    """Raises what a code of the library means that no lists of this package should get."""
+    raise RuntimeError(f"the library refused its lists: {code} at {info.place}")
+
+
+def answer(problem: Problem, asked: Instance, first: Optional[FirstPrices] = None) -> Union[Assignment, HallSet, None]:
+    """The library's answer, an Answer or a Short; None where a cost is beyond its range. `first` is where to begin."""
+    is_dense = problem.persons is None and not len(asked.persons)
+    lists = (asked.costs,) if is_dense else (asked.persons, asked.objects, asked.costs)
+    code, info, answer_ = _searched(asked, problem.maximize, lists, first)
+    return None if code == "COST" else answer_ or refuse(code, info)
+
+
+def found(asked: Instance, maximize: bool, first: Optional[FirstPrices] = None) -> Union[Assignment, HallSet]:
+    """The library's answer to listed pairs, whose costs are in its range."""
+    code, info, answer_ = _searched(asked, maximize, (asked.persons, asked.objects, asked.costs), first)
+    return answer_ or refuse(code, info)
+
+
+def _searched(asked: Instance, maximize: bool, lists: Sequence[Any],
+              first: Optional[FirstPrices]) -> Tuple[str, library.Info, Union[Assignment, HallSet, None]]:
+    """What the library says to lists, and its answer if it has one."""
+    n, m = asked.n, asked.m
+    objects, persons, prices = (first.objects[:] if first else array("I", bytes(4 * n)), array("I", bytes(4 * n)),
+                                array("q", bytes(8 * m)))
+    code, info = library.searched(maximize, n, m, lists, first and first.prices, (objects, persons, prices))
+    if code == "BEST":
+        return code, info, Assignment(n, m, info.total, objects, prices)
+    return code, info, HallSet(persons[:info.persons], objects[:info.objects]) if code == "HALL" else None
+
+
+def best_of(asked: Instance) -> Assignment:
+    """The library's answer to listed pairs that hold an assignment; the sum is to be least."""
+    answer_ = found(asked, False)
+    if isinstance(answer_, HallSet):
+        raise RuntimeError("some pairs were found to hold a plan, and the library says otherwise")
+    return answer_
+
+
+def no_pairs(problem: Problem) -> Assignment:
+    """The answer without any pair: all stay out, at prices of 0."""
+    n, most = sorted((problem.n_rows, problem.n_columns))
+    return Assignment(n, most + n, 0, array("I", (most + 1,)) * n, array("q", bytes(8 * (most + n))))
+
+
+def pairs_of(problem: Problem, found: Assignment) -> Tuple[List[int], List[int]]:
+    """Rows and columns of the pairs of an answer, rows rising, without dummies."""
+    most = max(problem.n_rows, problem.n_columns)
+    own = [item - 1 for item in found.objects]
+    persons = list(range(found.n))
+    if found.m > most:
+        persons = [person for person in persons if own[person] < most]
+        own = [own[person] for person in persons]
+    if not is_turned(problem):
+        return persons, own
+    columns = sorted(range(len(own)), key=own.__getitem__)
+    return [own[place] for place in columns], [persons[place] for place in columns]
+
+
+def rows_and_columns(problem: Problem, answer: Assignment) -> Tuple[Any, Any]:
+    """The numbers of the pairs of an answer, without dummies, as arrays if the costs were one."""
+    return _arrays_of(problem.arrays, problem, answer) if problem.arrays else pairs_of(problem, answer)
+
+
+def _arrays_of(numpy: Any, problem: Problem, answer: Assignment) -> Tuple[Any, Any]:
+    own = numpy.array(answer.objects, numpy.intp)
+    own -= 1
+    persons = numpy.flatnonzero(own < max(problem.n_rows, problem.n_columns))
+    own = own[persons]
+    if not is_turned(problem):
+        return persons, own
+    order = own.argsort()
+    return own[order], persons[order]
+
+
+class ResultParts(NamedTuple):
+    """What a result is made of: its problem without lists, the answer, the pairs with their costs, and whether they are
+    arrays."""
+
+    shape: Problem
+    answer: Assignment
+    rows: Any
+    columns: Any
+    costs: List[Any]
+    as_arrays: bool
+
+
+# Duals in the field's words, in whole costs.
+
+
+class Duals(NamedTuple):
+    """Whole duals of a problem whose costs are minimised (under maximize, of the negated costs): of each row, of each
+    column, and that of unmatched rows."""
+
+    rows: List[int]
+    columns: List[int]
+    unmatched: int
+
+
+def duals_of(problem: Problem, found: Assignment, prices: List[int], pairs: Sequence[Tuple[int, int]],
+             costs: Sequence[int]) -> Duals:
+    """The duals that follow from whole prices of the objects, the least 0, and from the pairs of a plan with their
+    costs. A row's and a column's sum is at most their pair's cost, and equals it in the plan. Columns have no dual
+    above 0, and 0 if they are unmatched; if all are matched and rows are left over, this holds of rows instead."""
+    n_rows, n_columns = problem.n_rows, problem.n_columns
+    if not len(pairs):
+        return Duals([0] * n_rows, [0] * n_columns, 0)
+    most, turned = max(n_rows, n_columns), is_turned(problem)
+    out = prices[-1] if found.m > most else 0
+    of_objects = [-price for price in prices[:most]]
+    of_persons = [out] * found.n
+    sign = -1 if problem.maximize else 1
+    for (row, column), cost in zip(pairs, costs):
+        person, item = (column, row) if turned else (row, column)
+        of_persons[person] = sign * cost - of_objects[item]
+    if not turned:
+        return Duals(of_persons, of_objects, out)
+    return Duals([dual + out for dual in of_objects], [dual - out for dual in of_persons], out)
+
+
+def whole_prices(found: Assignment) -> List[int]:
+    """The prices of an answer, the least 0."""
+    prices: List[int] = found.prices.tolist()
+    lowest = min(prices)
+    return [price - lowest for price in prices] if lowest else prices
+
+
+def rents(duals: Duals) -> List[int]:
+    """What columns cost in addition to their pairs; the least is 0."""
+    most = max(duals.columns, default=0)
+    return [most - dual for dual in duals.columns]
+
+
+# Prices of the caller's, in the unit of the costs, one for each column.
+
+
+def exact_price(price: Any, name: Any) -> Fraction:
+    """A price of any kind, exactly; a float is the decimal that it prints as. `name` is that of its column."""
+    if isinstance(price, str) or type(price) is bytes:
+        raise TypeError(f"the price of column {name} is {price!r}: it must be a number")
+    try:
+        if hasattr(price, "dtype") and price.dtype.kind == "f":
+            price = printing.of_scalar(price)
+        if hasattr(price, "as_integer_ratio") and not hasattr(price, "dtype"):
+            return Fraction(*ratio_of(price, False))
+        return Fraction(operator.index(price)) if hasattr(price,
+                                                          "__index__") else Fraction(*ratio_of(float(price), False))
+    except (ValueError, OverflowError):
+        raise ValueError(f"the price of column {name} is {price}: it must be finite") from None
+    except TypeError:
+        raise TypeError(f"the price of column {name} is {price!r}: it must be a number") from None
+
+
+def exact_prices(problem: Problem, prices: Any, what: str = "prices") -> List[Fraction]:
+    """The caller's prices, one for each column; `what` is the argument's name."""
+    prices = naming.listed(prices, what, "column", problem.n_columns, problem.labels and problem.labels[1])
+    if len(prices) != problem.n_columns:
+        raise ValueError(f"there are {len(prices)} prices, and {problem.n_columns} columns")
+    return [exact_price(price, problem.column_name(column)) for column, price in enumerate(prices)]
+
+
+def whole_of(problem: Problem, prices: List[Fraction], parts: int = 1) -> Optional[List[int]]:
+    """Prices as whole numbers of the unit of the costs, the least 0; None where they are too far apart for the library.
+    They are rounded to so many `parts` of the unit first, and then down, from a point that none of them is at: with
+    more parts than prices there is one. So an order of sums of costs and prices that holds to within a part holds of
+    the rounded ones exactly."""
+    scale = parts * problem.unit.denominator
+    fine = [round(price * scale) for price in prices]
+    rests = {price % parts for price in fine}
+    missing = next((rest for rest in range(parts) if rest not in rests), -1)
+    whole = [(price - missing - 1) // parts for price in fine]
+    lowest = min(whole, default=0)
+    whole = [price - lowest for price in whole]
+    return None if max(whole, default=0) > GREATEST_PRICE else whole
+
+
+def first_of(problem: Problem, start: WarmStart, served: Optional[int]) -> Optional[FirstPrices]:
+    """Where the library's search begins; prices of dummies are 0. None where prices are too far apart to be of use."""
+    n, _, dummies = sizes_of(problem, served)
+    prices, turned, objects = whole_of(problem, start.prices), is_turned(problem), array("I", bytes(4 * n))
+    if prices is None:
+        return None
+    for row, column in zip(start.rows, start.columns):
+        if row < problem.n_rows and column < problem.n_columns:
+            objects[column if turned else row] = (row if turned else column) + 1
+    return FirstPrices(array("q", (_of_rows(problem, prices) if turned else prices) + [0] * dummies), objects)
+
+
+def _of_rows(problem: Problem, prices: List[int]) -> List[int]:
+    """Prices to start from in the turned problem, the least 0: what rows gain at prices of the columns."""
+    paid = [min((int(cost) + prices[column] for column, cost in zip(*held)), default=None)
+            for held in lists_of(problem)]
+    most = max((price for price in paid if price is not None), default=0)
+    return [0 if price is None else min(most - price, GREATEST_PRICE) for price in paid]

@@ -1,0 +1,3 @@
+from nushbaret.costs.reading import Manner
+
+__all__ = ["Manner"]

@@ -1,0 +1,3 @@
+from nushbaret.api.infeasible import Infeasible, Shortage
+
+__all__ = ["Infeasible", "Shortage"]

@@ -1,0 +1,3 @@
+from nushbaret.lap.proved import Halves
+
+__all__ = ["Halves"]

@@ -1,0 +1,3 @@
+from nushbaret.costs.numbers import Unit
+
+__all__ = ["Unit"]

@@ -1,0 +1,3 @@
+from nushbaret.api.rosters import RosterPlan
+
+__all__ = ["RosterPlan"]

@@ -1,0 +1,3 @@
+from nushbaret.costs.problem import Problem
+
+__all__ = ["Problem"]

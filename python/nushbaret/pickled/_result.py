@@ -1,0 +1,3 @@
+from nushbaret.api.results import Plan, Result
+
+__all__ = ["Plan", "Result"]

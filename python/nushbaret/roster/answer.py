@@ -1,0 +1,264 @@
+"""Answers by names: the plan of a roster, or who is short of what."""
+from collections import Counter
+from itertools import islice
+from typing import Dict, List, NamedTuple, Optional, Sequence, Set, Tuple
+
+from ..costs.limits import Numbers
+from ..lap.duals import duals_of_whole
+from ..lap.matching import short_groups
+from ..lap.proved import rents
+from ..lap.ranking import plans_in_order
+from ..lap.solving import BestPlan, best_plan
+from .groups import missing_of
+from .names import NamesShown, joined, numbered
+from .nodes import (Edges, RosterNodes, Swap, changed, face_of, fewest_changes, is_only_one, least_costs,
+    nodes_without, problem_of, swaps_of)
+from .roster import PlanLine, Roster
+
+MOST_NAMES_SHOWN = 20
+
+
+class Pair(NamedTuple):
+    """A person and an object of a plan, by number, with its cost; `fixed` where it was given."""
+
+    person: int
+    object: int
+    cost: int
+    fixed: bool
+
+
+class ShortGroup(NamedTuple):
+    """Why there is no plan. Where `of_objects` is false these persons need `wanted` and can have no more than `had`, of
+    these objects alone; where it is true it is the other way round. `text` is the sentence that says so, where it isn't
+    `sentence` that does."""
+
+    persons: List[int]
+    objects: List[int]
+    of_objects: bool
+    wanted: int
+    had: int
+    text: str = ""
+
+
+class NamedPlan(NamedTuple):
+    """Pairs in the order of the persons, their cost, who and what gets less than it should, and the rent of each object
+    that isn't fixed, where nobody counts several times. Costs and rents are in the roster's units. `is_only_one` says
+    that no other plan is as good; where others were asked for, `swaps` are the groups that could change places at no
+    cost, and `next_cost` is that of the best other plan, if it costs more. `following` are the next plans in order, as
+    many as were asked for. Where changes are weighed nothing is said of others."""
+
+    pairs: List[Pair]
+    cost: int
+    without: List[int]
+    unused: List[int]
+    rents: Dict[int, int]
+    swaps: Sequence[Swap] = ()
+    is_only_one: bool = True
+    next_cost: Optional[int] = None
+    following: Sequence["NamedPlan"] = ()
+
+
+class Answer(NamedTuple):
+    """A best plan; or the groups that are short, then with the fullest plan where it was asked for."""
+
+    plan: Optional[NamedPlan]
+    groups: List[ShortGroup]
+
+
+class Fair(NamedTuple):
+    """What --fair says: the dearest pair that isn't fixed, if any pair is needed, and the plan of the least cost, with
+    its dearest pair."""
+
+    pair: Optional[Pair]
+    best: NamedPlan
+    best_pair: Pair
+
+
+class Request(NamedTuple):
+    """What is asked of a roster: pairs that stand, whatever they cost; the greatest cost, not the least; where there is
+    no plan for all the fullest one; the pairs of an earlier plan, from which as little is to change as can be at no
+    cost, or where each pair that comes and each that goes costs half of `change`; the best other plan, if it isn't as
+    good; and so many plans in all, in order."""
+
+    fixed: Sequence[PlanLine] = ()
+    maximize: bool = False
+    fullest: bool = False
+    kept: Optional[Set[Tuple[int, int]]] = None
+    change: Optional[int] = None
+    others: bool = False
+    plans: int = 1
+
+
+def nodes_around(roster: Roster, fixed: Sequence[PlanLine]) -> RosterNodes:
+    """What is left to solve around the fixed pairs."""
+    nodes = RosterNodes(list(range(len(roster.persons))), list(range(len(roster.objects))), roster.of_persons,
+                        roster.of_objects, roster.costs, Edges(roster.of_persons, roster.of_objects), roster.by_persons,
+                        roster.is_full)
+    return nodes_without(nodes, [(pair.person, pair.object) for pair in fixed]) if fixed else nodes
+
+
+def answer_of(roster: Roster, wish: Request) -> Answer:
+    """The answer to a roster in which each name counts once; TooLarge where it is so for the library."""
+    nodes = nodes_around(roster, wish.fixed)
+    costs = least_costs(nodes, wish.maximize)
+    if wish.kept is not None and wish.change:
+        costs = changed(costs, nodes.edges, wish.kept, wish.change)
+    problem = problem_of(nodes, costs)
+    best = best_plan(problem)
+    groups: List[ShortGroup] = []
+    if best is None:
+        groups = shortages(nodes, short_groups(problem))
+        best = best_plan(problem, True) if wish.fullest else None
+    return Answer(None if best is None else _plan(roster, wish, nodes, costs, best), groups)
+
+
+def _plan(roster: Roster, wish: Request, nodes: RosterNodes, costs: Numbers, best: BestPlan) -> NamedPlan:
+    prices = rents(duals_of_whole(best))
+    of_objects, chosen = dict(zip(nodes.of_columns, prices)), nodes.pairs(best.rows, best.columns)
+    plan = plan_of(roster, wish.fixed, chosen, of_objects)
+    if wish.kept is not None and wish.change is not None:
+        return plan
+    face = face_of(nodes, costs, best, prices)
+    if wish.kept is not None:
+        first, chosen = plan, fewest_changes(nodes, face, len(best.rows), wish.kept)
+        plan = plan_of(roster, wish.fixed, chosen, of_objects)
+        if (len(plan.pairs), plan.cost) != (len(first.pairs), first.cost):
+            raise RuntimeError("a plan with fewest changes was found to be as good as the best, and isn't")
+    swaps = swaps_of(nodes, face, chosen) if wish.others else []
+    plan = plan._replace(swaps=swaps, is_only_one=not swaps if wish.others else is_only_one(nodes, face, chosen))
+    is_next_shown = wish.others and plan.is_only_one
+    count = max(wish.plans - 1, int(is_next_shown))
+    # The library's first plan may be another one than that with the fewest changes.
+    ranked = plans_in_order(best, count + 1) if count else iter(())
+    others = (pairs for pairs in (nodes.pairs(*other) for other in ranked) if pairs != chosen)
+    following = [plan_of(roster, wish.fixed, pairs, {}) for pairs in islice(others, count)]
+    return with_following(plan, following, is_next_shown)
+
+
+def with_following(plan: NamedPlan, following: Sequence[NamedPlan], is_next_shown: bool) -> NamedPlan:
+    """A plan with those after it; where none is as good, the cost of the next one is known."""
+    if is_next_shown and following and following[0].cost == plan.cost:
+        raise RuntimeError("no other plan was found to be as good, and then one was")
+    return plan._replace(following=following, next_cost=following[0].cost if is_next_shown and following else None)
+
+
+def shortages(nodes: RosterNodes, groups: Sequence[Tuple[List[int], List[int]]]) -> List[ShortGroup]:
+    """All groups that are short, by the roster's numbers."""
+    of_objects = len(nodes.of_rows) > len(nodes.of_columns)
+    shorts = []
+    for rows, columns in groups:
+        persons, objects = [nodes.of_rows[row] for row in rows], [nodes.of_columns[column] for column in columns]
+        wanted, had = (len(objects), len(persons)) if of_objects else (len(persons), len(objects))
+        shorts.append(ShortGroup(persons, objects, of_objects, wanted, had))
+    return shorts
+
+
+def plan_of(roster: Roster, fixed: Sequence[PlanLine], chosen: List[Tuple[int, int]],
+            rents: Dict[int, int]) -> NamedPlan:
+    """A plan of the fixed pairs and of those chosen for the others."""
+    costs = roster.costs_of(set(chosen))
+    pairs = [Pair(pair.person, pair.object, pair.cost, True) for pair in fixed]
+    pairs += [Pair(person, object_, costs[person, object_], False) for person, object_ in chosen]
+    pairs.sort()
+    had = Counter(pair.person for pair in pairs)
+    used = Counter(pair.object for pair in pairs)
+    return NamedPlan(
+        pairs, sum(pair.cost for pair in pairs),
+        [person for person in range(len(roster.persons)) if had[person] < roster.tasks_of(person)],
+        [object_ for object_ in range(len(roster.objects)) if used[object_] < roster.places_of(object_)], rents)
+
+
+class Out(NamedTuple):
+    """Names of persons (side 0) or of objects (side 1) that take less than they may, and how that is called."""
+
+    how: str
+    side: int
+    names: List[str]
+
+
+def left_out(roster: Roster, plan: NamedPlan) -> List[Out]:
+    """Who gets less than it should, and what has places left, as far as there are any; with bounds what misses its
+    least count, and who and what is in no pair."""
+    had, used = Counter(pair.person for pair in plan.pairs), Counter(pair.object for pair in plan.pairs)
+    by_bounds = roster.least is not None
+    without = [_part_of(roster.persons[number], had[number], 1 if by_bounds else roster.tasks_of(number))
+               for number in plan.without]
+    unused = [_part_of(roster.objects[number], used[number], 1 if by_bounds else roster.places_of(number))
+              for number in plan.unused]
+    outs = [Out("missing", side, [f"{missing.name}: {missing.had} of {missing.least}"
+                                  for missing in missing_of(roster, plan.pairs) if missing.side == side])
+            for side in (1, 0)]
+    return [out for out in (*outs, Out("without", 0, without), Out("unused", 1, unused)) if out.names]
+
+
+def _part_of(name: str, had: int, wanted: int) -> str:
+    return name if wanted == 1 else f"{name} ({had} of {wanted})"
+
+
+# Titles are in any language, so plurals are of these words alone.
+PLURALS = {"person": "people", **{word: word + "s" for word in ("object", "pair", "nurse", "doctor", "worker", "driver",
+                                                                "teacher", "student", "volunteer", "vehicle", "shift",
+                                                                "job", "task", "place", "day", "room", "course",
+                                                                "project", "seat")}}
+
+
+def counted(count: int, word: str) -> str:
+    """A count of things: 1 shift, 2 shifts, 3 people, 2 Schicht."""
+    return f"{count} {word if count == 1 else plural(word)}"
+
+
+def plural(word: str) -> str:
+    """The plural of a title, as far as it is known."""
+    return PLURALS.get(word, word)
+
+
+def listed(names: List[str], numbers: List[int]) -> str:
+    """Names in a row, the first twenty of many."""
+    more = len(numbers) - MOST_NAMES_SHOWN
+    return joined([names[number] for number in numbers[:MOST_NAMES_SHOWN]]) + (f" and {more} more" if more > 0 else "")
+
+
+def named(numbers: List[int], word: str, names: List[str]) -> str:
+    """How many, and who: 2 shifts (night, weekend)."""
+    return f"{counted(len(numbers), word)} ({listed(names, numbers)})"
+
+
+def sentence(roster: Roster, short: ShortGroup, some_fixed: bool) -> str:
+    """What a manager reads of a group that is short, with marks around names."""
+    if short.text:
+        return short.text
+    shown = NamesShown(len(short.persons), len(short.objects))
+    persons, objects = numbered(roster.persons, short.persons), numbered(roster.objects, short.objects)
+    person, object_ = roster.titles[0], roster.titles[1]
+    if short.of_objects:
+        many = counted(len(objects), object_) + shown.bracketed(1, objects)
+        said = f"{many} can go to {_only(persons, person, shown, 0)}: {_advice_on_objects(short)}"
+    else:
+        many = counted(len(persons), person) + shown.bracketed(0, persons)
+        said = f"{many} can take {_only(objects, object_, shown, 1)}: {_advice_on_persons(person, short)}"
+    return "around the fixed pairs, " + said if some_fixed else said
+
+
+def _only(names: List[str], word: str, shown: NamesShown, side: int) -> str:
+    return f"only {counted(len(names), word)} between them{shown.bracketed(side, names)}" if names else f"no {word}"
+
+
+def _few(short: ShortGroup) -> str:
+    lack = short.wanted - short.had
+    return "one" if lack == 1 else str(lack)
+
+
+def _advice_on_persons(word: str, short: ShortGroup) -> str:
+    if short.objects:
+        return f"allow {_few(short)} of them another, or leave {_few(short)} out"
+    if len(short.persons) == 1:
+        return f"allow one, or leave this {word} out"
+    return "allow each one, or leave them out"
+
+
+def _advice_on_objects(short: ShortGroup) -> str:
+    if short.persons:
+        return f"allow {_few(short)} of them to another, or leave {_few(short)} open"
+    if len(short.objects) == 1:
+        return "allow it to somebody, or leave it open"
+    return "allow each to somebody, or leave them open"

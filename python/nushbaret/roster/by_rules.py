@@ -1,0 +1,281 @@
+"""Answers to rosters with rules: stages of finding, and what was proved of each."""
+import time
+from typing import Callable, Dict, List, NamedTuple, Optional, Sequence, Tuple
+
+from ..rows.model import Certificate, Finding, Row
+from .answer import Answer, NamedPlan, Request
+from .by_counts import plan_around
+from .month import Month
+from .roster import Roster
+from .roster_rows import Built, OwnRow, built
+from .rule_even import even_counted, even_rules, start_of
+from .rule_file import Rules
+
+BEST, WITHIN, IMPOSSIBLE, UNDECIDED = "best", "within", "impossible", "undecided"
+# What is said while something is found: the goal, what is being done, the cost of the best plan, and what no plan costs
+# less than.
+Progress = Callable[[str, str, Optional[int], Optional[int]], None]
+# The share of the time that a stage before the costs gets, and that is left for one after them.
+SHARE = 0.25
+# The goals, as progress shows them.
+MISSING, UNEVEN, COSTS, CHANGES = "missing", "evenness", "costs", "changes"
+
+
+class Task(NamedTuple):
+    """What is asked: a roster, its calendar and rules, rows of own rules, and for how many seconds."""
+
+    roster: Roster
+    month: Month
+    rules: Rules
+    wish: Request
+    seconds: float
+    own: Sequence[OwnRow] = ()
+    progress: Optional[Progress] = None
+
+
+class Reason(NamedTuple):
+    """A sentence, and who and what it is about."""
+
+    sentence: str
+    about: List[str]
+
+
+class Evenness(NamedTuple):
+    """A rule of evenness: its sentence, and the least and the greatest count of those that it compares."""
+
+    sentence: str
+    least: int
+    most: int
+
+
+class Proved(NamedTuple):
+    """What was proved of an answer.
+
+    `kind` is that of the costs; `better` is by how much another plan may be better at most, None where nothing is
+    known; `with_changes` is the cost with what changes cost, where they do. `reasons` can't hold together; `is_minimal`
+    says that none can be left out. `missing` is by how many least counts are missed, and `least_missing` that no plan
+    misses less. `even` says how even counts are, `is_most_even` that no plan is more even, and `otherwise` what a plan
+    without the rules of evenness would cost. `fewer_changes` says that fewer changes may be enough. Costs are in units
+    of the roster, those with changes in halves.
+    """
+
+    kind: str
+    seconds: float
+    better: Optional[int] = None
+    with_changes: Optional[int] = None
+    reasons: Sequence[Reason] = ()
+    is_minimal: bool = False
+    is_around_past: bool = False
+    missing: int = 0
+    least_missing: Optional[int] = None
+    even: Sequence[Evenness] = ()
+    is_most_even: bool = True
+    otherwise: Optional["Proved"] = None
+    otherwise_cost: Optional[int] = None
+    fewer_changes: bool = False
+    certificate: Optional[Certificate] = None
+
+    @property
+    def is_impossible(self) -> bool:
+        """Whether no plan keeps all rules and counts."""
+        return self.kind == IMPOSSIBLE or bool(self.reasons)
+
+
+def answer_by_rules(task: Task) -> Tuple[Answer, Proved]:
+    """The answer to a roster with rules, and what was proved of it.
+
+    Raises ImportError where SciPy isn't there.
+    """
+    end = time.monotonic() + task.seconds
+    stages = _Stages(task, end)
+    finding = stages.costs()
+    if finding.kind == IMPOSSIBLE:
+        proved = Proved(IMPOSSIBLE, task.seconds, reasons=_reasons(stages.built, finding.reasons),
+                        is_minimal=finding.is_minimal, is_around_past=_is_around_past(task),
+                        certificate=finding.certificate)
+        return _fullest(task, proved, end) if task.wish.fullest else (Answer(None, []), proved)
+    if finding.plan is None:
+        return Answer(None, []), Proved(UNDECIDED, task.seconds, certificate=finding.certificate)
+    return stages.answer(finding)
+
+
+def _is_around_past(task: Task) -> bool:
+    return bool(task.roster.past) or bool(task.month.worked)
+
+
+def _fullest(task: Task, why: Proved, end: float) -> Tuple[Answer, Proved]:
+    """The plan that misses as few least counts as can be, and costs the least then, or is as good as was found until
+    the end."""
+    stages = _Stages(task, end, True)
+    finding = stages.costs()
+    if finding.plan is None:
+        # Rules are never missed, so there may be no plan.
+        kept = why._replace(reasons=_reasons(stages.built, finding.reasons), is_minimal=finding.is_minimal,
+                            certificate=finding.certificate) if finding.kind == IMPOSSIBLE else why
+        return Answer(None, []), kept
+    answer, proved = stages.answer(finding)
+    return answer, proved._replace(reasons=why.reasons, is_minimal=why.is_minimal, is_around_past=why.is_around_past)
+
+
+def _reasons(found: Built, texts: Sequence[str]) -> List[Reason]:
+    """The sentences of rows, those of one sentence together."""
+    about: Dict[str, List[str]] = {}
+    for text in texts:
+        said = found.rows.said.get(text)
+        own = about.setdefault(said.sentence if said else text, [])
+        own += [said.about] if said and said.about else []
+    return [Reason(sentence, names) for sentence, names in about.items()]
+
+
+class _Stages:
+    """One goal after the other: what is missing, evenness rule by rule, costs, changes. What one has reached bounds the
+    next. All ends at a time of the monotonic clock."""
+
+    def __init__(self, task: Task, end: float, may_miss: bool = False, is_even: bool = True):
+        self.task, self._end, self._may_miss = task, end, may_miss
+        self.is_even = is_even and bool(even_rules(task.rules.rules))
+        self._spreads: List[int] = []
+        self.built = self._build(False)
+        self._rows: List[Row] = []
+        self._start: Optional[Sequence[int]] = None
+        self._reached: List[Finding] = []
+        self._missing: Optional[Finding] = None
+
+    def _build(self, is_measured: bool) -> Built:
+        task = self.task
+        return built(task.roster, task.rules, task.month, task.wish, task.own, self._may_miss, self._spreads,
+                     is_measured)
+
+    def _left(self, share: float = 1.0) -> float:
+        """A share of the time that is left."""
+        return max(0.1, (self._end - time.monotonic()) * share)
+
+    def _find(self, goal: str, costs: Sequence[int], seconds: float) -> Finding:
+        from ..rows.finding import find
+        show = self.task.progress
+
+        def named(done: str, cost: Optional[int], bound: Optional[int]) -> None:
+            if show is not None:
+                show(goal, done, cost, bound)
+
+        finding = find(self.built.rows.model(costs, self._rows), seconds, named, self._start)
+        self._start = finding.plan if finding.plan is not None else self._start
+        return finding
+
+    def _weighed(self, factors: Dict[int, int]) -> List[int]:
+        """Costs that are factors of some variables alone."""
+        return [factors.get(variable, 0) for variable in range(len(self.built.rows.costs))]
+
+    def _pair_costs(self) -> List[int]:
+        """What variables cost, twice where half of what a change costs counts for each."""
+        wish, costs = self.task.wish, list(self.built.rows.costs)
+        if wish.kept is not None and wish.change is not None:
+            costs = [2 * cost for cost in costs]
+            for variable, pair in enumerate(self.built.pairs):
+                costs[variable] += -wish.change if pair in wish.kept else wish.change
+        return costs
+
+    def costs(self) -> Finding:
+        """The plan of least cost, of those that miss the least and are the most even; or why an earlier goal has
+        none."""
+        if self.built.missing:
+            self._missing = self._find(MISSING, self._weighed(self.built.missing), self._left(SHARE))
+            if self._missing.plan is None:
+                return self._missing
+            self._rows.append(Row(None, tuple(sorted(self.built.missing.items())), self._missing.cost, MISSING))
+        for _ in even_rules(self.task.rules.rules) if self.is_even else ():
+            finding = self._more_even()
+            if finding.plan is None:
+                return finding
+        needs_more = self.is_even or self._counts_changes
+        return self._find(COSTS, self._pair_costs(), self._left(1 - SHARE if needs_more else 1.0))
+
+    def _more_even(self) -> Finding:
+        """Makes the counts of the next rule of evenness differ as little as can be, and keeps it so."""
+        before, self.built = self._start, self._build(True)
+        self._start = None
+        finding = self._find(UNEVEN, self._weighed(self.built.evenness.excess), self._left(SHARE))
+        self._reached.append(finding)
+        if finding.plan is None:
+            self._start = before
+            return finding
+        prefix = finding.plan[:self.built.before_even]
+        self._spreads.append(1 + (finding.cost or 0))
+        self.built = self._build(False)
+        self._start = start_of(self.built.evenness, prefix)
+        return finding
+
+    @property
+    def _counts_changes(self) -> bool:
+        """Whether of plans of one cost that with the fewest changes is asked for."""
+        return self.task.wish.kept is not None and self.task.wish.change is None
+
+    def answer(self, finding: Finding) -> Tuple[Answer, Proved]:
+        """The answer by a plan that was found, and what was proved of it."""
+        wish, costs = self.task.wish, self._pair_costs()
+        changed = self._with_fewest_changes(finding, costs) if self._counts_changes else finding
+        values = changed.plan if changed.plan is not None else finding.plan or ()
+        plan = self._plan(values)
+        cost = sum(own for own, value in zip(costs, values) if value)
+        better = None if finding.bound is None else cost - finding.bound
+        kind = UNDECIDED if better is None else WITHIN if better else BEST
+        missing = self._missing
+        proved = Proved(kind, self.task.seconds, better, self._with_changes(cost) if wish.change is not None else None,
+                        missing=0 if missing is None or missing.cost is None else missing.cost,
+                        least_missing=None if missing is None else missing.bound,
+                        is_most_even=all(reached.kind == BEST for reached in self._reached),
+                        even=self._even(plan) if self.is_even else (),
+                        fewer_changes=changed is not finding and changed.kind != BEST, certificate=finding.certificate)
+        return Answer(plan, []), self._with_otherwise(proved)
+
+    def _plan(self, values: Sequence[int]) -> NamedPlan:
+        fixed = {(pair.person, pair.object) for pair in self.task.wish.fixed}
+        chosen = [pair for pair, value in zip(self.built.pairs, values) if value and pair not in fixed]
+        return plan_around(self.task.roster, self.task.wish.fixed, sorted(chosen))
+
+    def _with_fewest_changes(self, finding: Finding, costs: Sequence[int]) -> Finding:
+        """Of plans that cost no more one with the fewest changes from the kept plan."""
+        kept = self.task.wish.kept or set()
+        factors = {variable: -1 if pair in kept else 1 for variable, pair in enumerate(self.built.pairs)}
+        terms = tuple((variable, cost) for variable, cost in enumerate(costs) if cost)
+        self._rows.append(Row(None, terms, finding.cost, COSTS))
+        self._start = finding.plan
+        return self._find(CHANGES, self._weighed(factors), self._left(0.5 if self.is_even else 1.0))
+
+    def _with_changes(self, cost: int) -> int:
+        """What a plan costs with its changes, in halves: a kept pair that goes costs too."""
+        kept = self.task.wish.kept or set()
+        still = sum(pair in kept for pair in self.built.pairs)
+        return (-1 if self.task.wish.maximize else 1) * (cost + still * (self.task.wish.change or 0)
+                                                         + 2 * self._past_cost())
+
+    def _past_cost(self) -> int:
+        sign = -1 if self.task.wish.maximize else 1
+        return sign * sum(pair.cost for pair in self.task.wish.fixed if pair.object in self.task.roster.past)
+
+    def _even(self, plan: NamedPlan) -> List[Evenness]:
+        """How even a plan is."""
+        found, month = [], self.task.month
+        for rule in even_rules(self.task.rules.rules):
+            persons = even_counted(self.built.making.work, rule)
+            counts = dict.fromkeys(persons, 0)
+            for pair in plan.pairs:
+                shift = month.shifts.get(pair.object)
+                if pair.person in counts and shift is not None and (rule.kinds is None or shift.kind in rule.kinds):
+                    counts[pair.person] += not rule.of_weekends or month.is_weekend(shift.day)
+            if counts:
+                found.append(Evenness(rule.sentence, min(counts.values()), max(counts.values())))
+        return found
+
+    def _with_otherwise(self, proved: Proved) -> Proved:
+        """What a plan without the rules of evenness would cost, as far as the time that is left shows it."""
+        if not self.is_even:
+            return proved
+        task = self.task
+        other = _Stages(task._replace(wish=task.wish._replace(kept=None, change=None)), self._end, self._may_miss,
+                        False)
+        finding = other.costs()
+        if finding.plan is None:
+            return proved._replace(otherwise=Proved(UNDECIDED, task.seconds))
+        answer, others = other.answer(finding)
+        return proved._replace(otherwise=others, otherwise_cost=None if answer.plan is None else answer.plan.cost)

@@ -1,0 +1,153 @@
+"""Names that are dates with a year, such as 2027-03-01, 01.03.2027 or, where another has the year, Mo 01.03."""
+import re
+from bisect import bisect_left
+from datetime import date, timedelta
+from typing import Dict, FrozenSet, List, NamedTuple, Optional, Sequence, Set, Tuple
+
+DAY_NAMES = ("Mon", "Tue", "Wed", "Thu", "Fri", "Sat", "Sun")
+SATURDAY = 5
+HALF_A_YEAR = timedelta(days=183)
+# The days of the week from Monday, in English, German, French, Spanish, Italian and Dutch.
+WEEKS = (
+    "monday tuesday wednesday thursday friday saturday sunday",
+    "montag dienstag mittwoch donnerstag freitag samstag sonntag",
+    "- - - - - sonnabend -",
+    "lundi mardi mercredi jeudi vendredi samedi dimanche",
+    "lunes martes miércoles jueves viernes sábado domingo",
+    "lunedì martedì mercoledì giovedì venerdì sabato domenica",
+    "maandag dinsdag woensdag donderdag vrijdag zaterdag zondag",
+)
+WORD = r"[^\W\d_]{2,}"
+DATE = re.compile(
+    rf"(?:(?P<before>{WORD})[.,]{{0,2}}\s*)?"
+    r"(?:(?P<year>[0-9]{4})-(?P<month>[0-9]{1,2})-(?P<day>[0-9]{1,2})"
+    r"|(?P<own_day>[0-9]{1,2})\.\s?(?P<own_month>[0-9]{1,2})(?:\.\s?(?P<own_year>[0-9]{4})?)?)"
+    rf"(?:,?\s*\(?(?P<after>{WORD})\.?\)?)?")
+
+
+class _Written(NamedTuple):
+    """A name read as a date: its month and day, its year where it has one, and the days of the week that its word may
+    mean."""
+
+    name: str
+    year: Optional[int]
+    month: int
+    day: int
+    weekdays: FrozenSet[int]
+
+
+class Dates(NamedTuple):
+    """The dates of some names, None where these aren't dates with a year; then `why` says which one isn't."""
+
+    all: Optional[List[date]]
+    why: str = ""
+
+
+def weekdays_of(word: str) -> FrozenSet[int]:
+    """The days of the week, from 0, that a word may mean: it is one, or the first two letters or more of one."""
+    word = word.casefold()
+    found: Set[int] = set()
+    for week in WEEKS:
+        found.update(number for number, day in enumerate(week.split()) if len(word) > 1 and day.startswith(word))
+    return frozenset(found)
+
+
+def is_weekend_name(name: str) -> bool:
+    """Whether a name begins with a word for Saturday or Sunday."""
+    word = re.match(WORD, name)
+    days = weekdays_of(word[0]) if word else frozenset()
+    return bool(days) and min(days) >= SATURDAY
+
+
+def has_weekday(name: str) -> bool:
+    """Whether a name has a word for a day of the week."""
+    return any(map(weekdays_of, re.findall(WORD, name)))
+
+
+def dates_of(names: Sequence[str]) -> Dates:
+    """The dates of names, if each is one and any has a year. A name without one has the year in which it is nearest to
+    a date with one."""
+    written: List[_Written] = []
+    for name in names:
+        found = _written(name)
+        if found is None:
+            return Dates(None, f"{name} is no date")
+        written.append(found)
+    wrong = [own.name for own in written if own.year is not None and _dated(own) is None]
+    if wrong:
+        return Dates(None, f"{wrong[0]} is no day of the calendar")
+    if all(own.year is None for own in written):
+        return Dates(None, f"no date has a year: {names[0]}" if names else "there are none")
+    return _all_dated(written, sorted(found for found in map(_dated, written) if found is not None))
+
+
+def _all_dated(written: Sequence[_Written], anchors: Sequence[date]) -> Dates:
+    dates: List[date] = []
+    for own in written:
+        found = _dated(own) if own.year is not None else _nearest(own, anchors)
+        if found is None:
+            return Dates(None, f"{own.name} is no day of the calendar")
+        if own.weekdays and found.weekday() not in own.weekdays:
+            return Dates(None, f"{own.name} is a {DAY_NAMES[found.weekday()]}")
+        dates.append(found)
+    return Dates(dates)
+
+
+def _written(name: str) -> Optional[_Written]:
+    """A name read as a date, if it is one; its words must be days of the week."""
+    found = DATE.fullmatch(name)
+    if found is None:
+        return None
+    weekdays = [weekdays_of(word) for word in (found["before"], found["after"]) if word]
+    if not all(weekdays):
+        return None
+    year = found["year"] or found["own_year"]
+    month, day = int(found["month"] or found["own_month"]), int(found["day"] or found["own_day"])
+    return _Written(name, int(year) if year else None, month, day,
+                    frozenset.intersection(*weekdays) if weekdays else frozenset())
+
+
+def _dated(own: _Written, year: Optional[int] = None) -> Optional[date]:
+    """The date, with its own year or a given one; None where the calendar has none."""
+    year = own.year if year is None else year
+    try:
+        return None if year is None else date(year, own.month, own.day)
+    except ValueError:
+        return None
+
+
+def _nearest(own: _Written, anchors: Sequence[date]) -> Optional[date]:
+    """The date in that year in which it is nearest to one of some others, which rise, at most half a year away; of two
+    the earlier."""
+    years = sorted({year for anchor in anchors for year in (anchor.year - 1, anchor.year, anchor.year + 1)})
+    found = [(_apart(one, anchors), one) for one in (_dated(own, year) for year in years) if one is not None]
+    return min(((apart, one) for apart, one in found if apart <= HALF_A_YEAR), default=(None, None))[1]
+
+
+def _apart(one: date, anchors: Sequence[date]) -> timedelta:
+    """How far a date is from the nearest of some others, which rise."""
+    place = bisect_left(anchors, one)
+    return min(abs(one - anchor) for anchor in anchors[max(place - 1, 0):place + 1])
+
+
+def monday_of(day: date) -> date:
+    """The Monday of a day's week."""
+    return day - timedelta(days=day.weekday())
+
+
+def order_by_date(names: Sequence[str]) -> List[int]:
+    """The numbers of names by date where they are dates, and otherwise as they stand."""
+    dates: Dict[int, date] = dict(enumerate(dates_of(names).all or []))
+    return sorted(range(len(names)), key=lambda number: (dates.get(number, date.min), number))
+
+
+def spellings(name: str) -> Tuple[str, ...]:
+    """All common ways to write a name that is a date with a year alone, first as date cells are read; of any other name
+    itself."""
+    written = None if any(map(str.isalpha, name)) else _written(name)
+    day = None if written is None else _dated(written)
+    if day is None:
+        return (name,)
+    days, months = (dict.fromkeys((f"{number:02}", str(number))) for number in (day.day, day.month))
+    return tuple(dict.fromkeys((day.isoformat(), *(f"{one}.{other}.{day.year:04}" for one in days for other in months),
+                                name)))

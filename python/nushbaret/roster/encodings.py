@@ -1,0 +1,77 @@
+"""The text of a file's bytes: in the encoding that was named, or by its BOM, as UTF-8, or as western text of
+Windows."""
+import re
+from typing import NamedTuple, Optional
+
+SAVE = "save the sheet as 'CSV UTF-8'"
+WESTERN = "Windows-1252"
+# Four bytes go first: the shorter marks begin as they do.
+BOMS = ((b"\xff\xfe\x00\x00", "utf-32"), (b"\x00\x00\xfe\xff", "utf-32"), (b"\xef\xbb\xbf", "utf-8-sig"),
+        (b"\xff\xfe", "utf-16"), (b"\xfe\xff", "utf-16"))
+# How files of spreadsheets begin that are no text.
+SPREADSHEETS = (b"PK\x03\x04", b"\xd0\xcf\x11\xe0")
+# Without what other encodings use for common letters: Mac OS Roman has letters at the bytes of Š, Ž, š, ž and Ÿ,
+# Latin-9 the euro at that of the general sign of currency.
+LETTERS = "\u0152\u0153" + "".join(chr(code) for code in range(0xC0, 0x100) if code not in (0xD7, 0xF7))
+MARKS = ("\u20ac\u00a2\u00a3\u00a5\u2013\u2014\u2018\u2019\u201a\u201c\u201d\u201e\u2039\u203a\u00ab\u00bb"
+         "\u00b0\u00a7\u00a0")
+PLAUSIBLE = bytes(range(128)) + (LETTERS + MARKS).encode(WESTERN)
+NOT_PLAUSIBLE = re.compile(b"[^" + re.escape(PLAUSIBLE) + b"]")
+# DOS has letters with accents where Windows has these quotes, which stand between letters in no text.
+QUOTE_IN_WORD = re.compile("[A-Za-z][\u201a\u201c\u201d\u201e][a-z]".encode(WESTERN))
+
+
+class Undecodable(ValueError):
+    """Bytes that aren't the text that they should be; the first of them, if it is known."""
+
+    def __init__(self, text: str, place: Optional[int] = None) -> None:
+        super().__init__(text)
+        self.place = place
+
+
+class Decoded(NamedTuple):
+    """A text; the encoding that it is written again in; whether it had a BOM, and whether its encoding was guessed."""
+
+    text: str
+    encoding: str
+    has_bom: bool = False
+    is_guess: bool = False
+
+
+def decoded(data: bytes, named: Optional[str]) -> Decoded:
+    """The text of bytes. A BOM says more than the name of an encoding.
+
+    Raises `Undecodable` where they are no text in the named encoding, or where without a name they are no UTF-8 and no
+    western text.
+    """
+    by_bom = next((encoding for bom, encoding in BOMS if data.startswith(bom)), None)
+    if by_bom is not None:
+        return Decoded(_strictly(data, by_bom), "utf-8", has_bom=True)
+    if named is not None:
+        return Decoded(_strictly(data, named), named)
+    if data.startswith(SPREADSHEETS):
+        raise Undecodable(f"a spreadsheet that is no .xlsx, and no text: save it as .xlsx, or {SAVE}")
+    try:
+        return Decoded(data.decode(), "utf-8")
+    except UnicodeDecodeError:
+        return Decoded(_western(data), WESTERN, is_guess=True)
+
+
+def _strictly(data: bytes, encoding: str) -> str:
+    try:
+        return data.decode(encoding)
+    except UnicodeDecodeError as error:
+        name = encoding.replace("-sig", "").upper() if encoding.startswith("utf") else encoding
+        raise Undecodable(f"bytes that are no {name}: {SAVE}, or name its encoding by --encoding",
+                          error.start) from error
+    except UnicodeError as error:
+        raise Undecodable(f"bytes that are no {encoding}: {SAVE}, or name its encoding by --encoding") from error
+
+
+def _western(data: bytes) -> str:
+    """Bytes as western text of Windows, if all above 127 are likely there."""
+    odd = NOT_PLAUSIBLE.search(data) or QUOTE_IN_WORD.search(data)
+    if odd is not None:
+        raise Undecodable(f"bytes that are no UTF-8 and no western text in {WESTERN}: {SAVE}, or name its encoding by "
+                          "--encoding", odd.start())
+    return data.decode(WESTERN)

@@ -1,0 +1,142 @@
+"""The files that the command writes: each whole, or not at all."""
+import contextlib
+import os
+import signal
+import stat
+import sys
+import tempfile
+from typing import BinaryIO, Iterator, NamedTuple, Sequence, Tuple, Union
+
+KINDS = ("csv", "json", "html", "xlsx")
+STANDARD_OUTPUT = ("/dev/stdout", "/dev/fd/1", "/proc/self/fd/1")
+
+
+class Output(NamedTuple):
+    """A file to be written, and as what: one of KINDS."""
+
+    path: str
+    kind: str
+
+    @property
+    def is_standard(self) -> bool:
+        """Whether this is standard output, by one of its names."""
+        return self.path in STANDARD_OUTPUT
+
+
+class OutputFault(Exception):
+    """Why an output isn't written."""
+
+
+def refuse_existing(path: str) -> None:
+    """Refuses a file that exists."""
+    if os.path.lexists(path) and not is_device(path):
+        raise OutputFault(f"{path} exists: --force overwrites it")
+
+
+def is_device(path: str) -> bool:
+    """Whether a path is that of a device, or of a pipe that the shell made."""
+    return path.startswith("/dev/") and os.path.exists(path) and not (os.path.isfile(path) or os.path.isdir(path))
+
+
+def make_folder(path: str) -> None:
+    """Makes a folder, with those above it, if it isn't there."""
+    try:
+        os.makedirs(path, exist_ok=True)
+    except OSError as fault:
+        is_file = isinstance(fault, (FileExistsError, NotADirectoryError))
+        raise OutputFault(f"{path}: {'no folder' if is_file else fault.strerror or fault}") from fault
+
+
+def write_files(contents: Sequence[Tuple[str, bytes]], force: bool) -> None:
+    """Writes files, one after the other. While it does Ctrl-C raises, so that what is half written is removed."""
+    with _interrupts_raise():
+        for path, content in contents:
+            write_file(path, content, force)
+
+
+@contextlib.contextmanager
+def _interrupts_raise() -> Iterator[None]:
+    before = signal.getsignal(signal.SIGINT)
+    if before is not signal.SIG_DFL:
+        yield
+        return
+    signal.signal(signal.SIGINT, signal.default_int_handler)
+    try:
+        yield
+    finally:
+        signal.signal(signal.SIGINT, before)
+
+
+def write_file(path: str, content: bytes, force: bool) -> None:
+    """Writes a whole file or none. What exists is replaced under `force`, in one step, and refused otherwise."""
+    try:
+        if is_device(path):
+            with open(path, "wb") as device:
+                device.write(content)
+        elif force:
+            _replace(path, content)
+        else:
+            _fill(open(path, "xb"), path, content)
+    except FileExistsError:
+        raise OutputFault(f"{path} exists: --force overwrites it") from None
+    except OSError as fault:
+        raise OutputFault(f"{path}: {fault.strerror or fault}") from fault
+
+
+def _fill(file: BinaryIO, path: str, content: bytes) -> None:
+    try:
+        with file:
+            file.write(content)
+    except BaseException:
+        os.unlink(path)
+        raise
+
+
+def _replace(path: str, content: bytes) -> None:
+    place = os.path.realpath(path)
+    mode = _mode_of(place)
+    handle, name = tempfile.mkstemp(prefix=".nushbaret.", dir=os.path.dirname(place))
+    _fill(open(handle, "wb"), name, content)
+    try:
+        os.chmod(name, mode)
+        os.replace(name, place)
+    except BaseException:
+        _remove(name)
+        raise
+
+
+def _remove(path: str) -> None:
+    """Removes a file, also one that nobody may write to, which Windows would keep."""
+    try:
+        os.unlink(path)
+    except PermissionError:
+        os.chmod(path, stat.S_IRUSR | stat.S_IWUSR)
+        os.unlink(path)
+
+
+def _mode_of(place: str) -> int:
+    """The permissions of the file that is replaced, or those of a new one. A device or a folder is refused."""
+    if not os.path.lexists(place):
+        mask = os.umask(0)
+        os.umask(mask)
+        return 0o666 & ~mask
+    mode = os.stat(place).st_mode
+    if not stat.S_ISREG(mode):
+        raise OutputFault(f"{place} is no regular file")
+    return stat.S_IMODE(mode)
+
+
+def print_content(content: Union[str, bytes]) -> None:
+    """Writes to standard output, or raises what the stream says. A broken stream is replaced, so that the end of the
+    program prints nothing more."""
+    if sys.stdout is None:
+        raise OutputFault("standard output is closed")
+    try:
+        if isinstance(content, bytes) and hasattr(sys.stdout, "buffer"):
+            sys.stdout.buffer.write(content)
+        else:
+            sys.stdout.write(content if isinstance(content, str) else content.decode())
+        sys.stdout.flush()
+    except OSError as fault:
+        sys.stdout = open(os.devnull, "w")
+        raise OutputFault(f"standard output: {fault.strerror}") from fault

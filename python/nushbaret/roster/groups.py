@@ -1,0 +1,235 @@
+"""Counts and groups of a roster: files that say how many each name takes, and of which objects nobody takes two."""
+import re
+from collections import Counter
+from typing import Dict, Iterator, List, NamedTuple, Optional, Protocol, Sequence, Tuple
+
+from ..costs.limits import MOST_PERSONS
+from ..counts.nodes import Bounds
+from .dates import spellings
+from .names import quoted
+from .roster import Earlier, Groups, PlanLine, Roster, known, looks_like_number
+from .sheets import RosterFault, Sheet, unit_of
+from .times import Times, columns_of, times_of
+
+
+class Counts(NamedTuple):
+    """How many names take, by their numbers; whether any line has two numbers; and the file."""
+
+    bounds: Dict[int, Bounds]
+    are_ranges: bool
+    path: str
+
+
+def read_counts(path: str, roster: Roster, of_objects: bool) -> Counts:
+    """Reads how many each object, or each person, takes: a title line, and lines of a name and one whole number, or
+    two: at least and at most. Of two, where both have a title, either may be left empty: then there is no least or no
+    greatest number.
+
+    Raises `RosterFault` for the first name that the roster doesn't have or that stands twice, number that is none from
+    0 to 4194304, or least number that is greater than the most.
+    """
+    sheet = Sheet(path, reading=roster.reading)
+    line, title = sheet.title()
+    if len(title) < 2:
+        sheet.refuse("each line must have a name and how many it takes", line)
+    if looks_like_number(title[1]):
+        sheet.refuse(f"a title line must come first, and {quoted(title[1])} is a number", line, 2)
+    bounds: Dict[int, Bounds] = {}
+    are_ranges = False
+    limit = len(roster.persons if of_objects else roster.objects)
+    for line, cells in _lines(sheet, len(title)):
+        number = known(sheet, roster, cells[0], line, 2 if of_objects else 1, 1)
+        if number in bounds:
+            sheet.refuse(f"the name {quoted(cells[0])} a second time", line, 1)
+        bounds[number] = _bounds(sheet, cells[1:], limit, line)
+        are_ranges = are_ranges or len(cells) == 3
+    return Counts(bounds, are_ranges, path)
+
+
+def _lines(sheet: Sheet, width: int) -> Iterator[Tuple[int, List[str]]]:
+    """The lines after the title, each with a name and one number or two. An empty cell below a third title is an empty
+    number."""
+    records = sheet.records()
+    next(records)
+    for line, cells in records:
+        if any(cells[max(width, 3):]):
+            sheet.refuse(f"{len(cells)} cells, where a name and one or two numbers are needed", line)
+        has_two = len(cells) > 2 and (width > 2 or cells[2] != "")
+        yield line, cells[:3] if has_two else (cells + [""])[:2]
+
+
+def _bounds(sheet: Sheet, cells: Sequence[str], limit: int, line: int) -> Bounds:
+    """At least and at most so many: one number is both, and an empty one of two is 0 or the limit."""
+    if not any(cells):
+        sheet.refuse("no number: how many are needed", line, 2)
+    least = _count(sheet, cells[0], line, 2) if cells[0] else 0
+    if len(cells) == 1:
+        return Bounds(least, least)
+    most = _count(sheet, cells[1], line, 3) if cells[1] else max(limit, least)
+    if least > most:
+        sheet.refuse(f"at least {least} and at most {most}: the second number can't be less", line, 3)
+    return Bounds(least, most)
+
+
+def _count(sheet: Sheet, cell: str, line: int, column: int) -> int:
+    if re.fullmatch("[0-9]{1,9}", cell) is None or int(cell) > MOST_PERSONS:
+        sheet.refuse(f"{quoted(cell)} is no whole number from 0 to {MOST_PERSONS}", line, column)
+    return int(cell)
+
+
+KIND = "kind"
+
+
+def read_groups(path: str, roster: Roster, has_earlier: bool = False) -> Groups:
+    """Reads groups of objects of which nobody takes two: a title line, and lines of an object and its group; maybe with
+    columns of times, and one of kinds. With `has_earlier` objects that the roster doesn't have are those of earlier
+    days.
+
+    Raises `RosterFault` for the first object that the roster doesn't have or that stands twice, or time that is none.
+    """
+    sheet = Sheet(path, reading=roster.reading)
+    line, title = sheet.title()
+    if len(title) < 2:
+        sheet.refuse("each line must have an object and its group", line)
+    if title[0] in roster.object_numbers:
+        sheet.refuse(f"a title line must come first, and {quoted(title[0])} is an object", line, 1)
+    reading = _Groups(sheet, roster, title, line, has_earlier)
+    for line, cells in sheet.body(len(title)):
+        reading.take(line, cells)
+    if not reading.lines:
+        sheet.refuse("no line after the title", line)
+    return reading.found._replace(earlier=tuple(reading.earlier))
+
+
+class _Groups:
+    """The lines of a file of groups, as they are read."""
+
+    def __init__(self, sheet: Sheet, roster: Roster, title: Sequence[str], line: int, has_earlier: bool):
+        self._sheet, self._roster, self._has_earlier = sheet, roster, has_earlier
+        self._columns, self._kind = columns_of(sheet, title, line), _column_of_kinds(sheet, title, line)
+        self.found = Groups(title[1], [], {}, {}, {}, self._kind is not None)
+        self.earlier: List[Earlier] = []
+        self.lines: Dict[int, int] = {}
+        self._numbers: Dict[str, int] = {}
+        self._earlier_lines: Dict[str, int] = {}
+
+    def take(self, line: int, cells: List[str]) -> None:
+        """Takes a line."""
+        sheet, found = self._sheet, self.found
+        if self._has_earlier and sheet.name(cells[0], line, 1) not in self._roster.object_numbers:
+            group, kind, times = self._rest(line, cells)
+            self._take_earlier(Earlier(sheet.name(cells[0], line, 1), spellings(group)[0], kind, times, line))
+            return
+        object_ = known(sheet, self._roster, cells[0], line, 2, 1)
+        group, kind, times = self._rest(line, cells)
+        if object_ in self.lines:
+            where = f"in {found.names[found.of_objects[object_]]}, since line {self.lines[object_]}"
+            sheet.refuse(f"{quoted(cells[0])} a second time: it is {where}", line, 1)
+        self.lines[object_] = line
+        number = self._numbers.setdefault(spellings(group)[0], len(found.names))
+        found.of_objects[object_] = number
+        found.names.extend([group] if number == len(found.names) else [])
+        found.times.update({object_: times} if times else {})
+        found.kinds.update({object_: kind} if kind else {})
+
+    def _rest(self, line: int, cells: List[str]) -> Tuple[str, str, Optional[Times]]:
+        """The group, the kind and the times of a line."""
+        kind = "" if self._kind is None or not cells[self._kind] else self._sheet.name(cells[self._kind], line,
+                                                                                       self._kind + 1)
+        times = times_of(self._sheet, cells, self._columns, line) if self._columns else None
+        return self._sheet.name(cells[1], line, 2), kind, times
+
+    def _take_earlier(self, one: Earlier) -> None:
+        before = self._earlier_lines.setdefault(one.name, one.line)
+        if before != one.line:
+            self._sheet.refuse(f"{quoted(one.name)} a second time, after line {before}", one.line, 1)
+        self.earlier.append(one)
+
+
+def _column_of_kinds(sheet: Sheet, title: Sequence[str], line: int) -> Optional[int]:
+    """Which cells of a line, from 0, have kinds."""
+    places = [place for place, cell in enumerate(title) if place > 1 and cell.casefold() == KIND]
+    if len(places) > 1:
+        sheet.refuse(f"{len(places)} columns are titled {quoted(KIND)}, where there may be one", line, places[1] + 1)
+    return places[0] if places else None
+
+
+def with_rules(roster: Roster, tasks: Optional[Counts], places: Optional[Counts], groups: Optional[Groups]) -> Roster:
+    """The roster with counts and groups. Where any line has two numbers bounds alone decide: then an object without a
+    line takes exactly one, and a person at most one."""
+    most = [None if counts is None else {number: bound.most for number, bound in counts.bounds.items()}
+            for counts in (tasks, places)]
+    least = None
+    if any(counts is not None and counts.are_ranges for counts in (tasks, places)):
+        of_persons, of_objects = ({number: bound.least for number, bound in counts.bounds.items()} if counts else {}
+                                  for counts in (tasks, places))
+        least = of_persons, {**dict.fromkeys(range(len(roster.objects)), 1), **of_objects}
+    return roster._replace(tasks=most[0], places=most[1], least=least, groups=groups)
+
+
+class Broken(NamedTuple):
+    """A rule that a plan breaks, the persons and objects that it is about, and the line that says so."""
+
+    rule: str
+    persons: List[str]
+    objects: List[str]
+    sentence: str
+
+
+def refuse_two_of_a_group(path: str, roster: Roster, pairs: Sequence[PlanLine]) -> None:
+    """Refuses a plan in which a person has two objects of one group."""
+    groups = roster.groups
+    if groups is None:
+        return
+    first: Dict[Tuple[int, int], PlanLine] = {}
+    for pair in pairs:
+        group = groups.of_objects.get(pair.object)
+        before = None if group is None else first.setdefault((pair.person, group), pair)
+        if group is not None and before is not None and before is not pair:
+            raise RosterFault(path, f"{roster.persons[pair.person]} has {roster.objects[pair.object]} and, in "
+                              f"{unit_of(path)} {before.line}, {roster.objects[before.object]}: two of {groups.title} "
+                              f"{groups.names[group]}", pair.line)
+
+
+class Paired(Protocol):
+    """A person and an object, by number."""
+
+    @property
+    def person(self) -> int: ...
+
+    @property
+    def object(self) -> int: ...
+
+
+def order_of(roster: Roster) -> List[int]:
+    """A rank for each object: by groups and objects in the order of their file, then those in none."""
+    held = {} if roster.groups is None else roster.groups.of_objects
+    order = sorted(held, key=held.__getitem__) + [object_ for object_ in range(len(roster.objects))
+                                                  if object_ not in held]
+    ranks = [0] * len(order)
+    for rank, object_ in enumerate(order):
+        ranks[object_] = rank
+    return ranks
+
+
+class Missing(NamedTuple):
+    """A person (side 0) or an object (side 1) that has fewer than it must."""
+
+    side: int
+    name: str
+    number: int
+    had: int
+    least: int
+
+
+def missing_of(roster: Roster, pairs: Sequence[Paired]) -> List[Missing]:
+    """Which least counts are missed: of objects in the order of groups, then of persons. Without bounds none."""
+    if roster.least is None:
+        return []
+    ranks = order_of(roster)
+    had, used = Counter(pair.person for pair in pairs), Counter(pair.object for pair in pairs)
+    of_persons, of_objects = roster.least
+    objects = sorted((number for number, least in of_objects.items() if used[number] < least), key=ranks.__getitem__)
+    persons = sorted(number for number, least in of_persons.items() if had[number] < least)
+    return ([Missing(1, roster.objects[number], number, used[number], of_objects[number]) for number in objects]
+            + [Missing(0, roster.persons[number], number, had[number], of_persons[number]) for number in persons])

@@ -1,0 +1,183 @@
+"""The calendar of a roster with rules: which day and kind each object has, weeks, weekends, and what was worked before
+the first day."""
+from datetime import date
+from typing import Dict, FrozenSet, List, NamedTuple, Optional, Sequence, Set, Tuple
+
+from .blocks import labels_of, without_group
+from .dates import SATURDAY, dates_of, has_weekday, is_weekend_name
+from .names import quoted
+from .roster import Earlier, Groups, Roster
+from .sheets import RosterFault
+from .times import Times
+
+WEEK = 7
+
+
+class Shift(NamedTuple):
+    """What a person may have on a day: its kind, empty where it has none, and its times, where they are known."""
+
+    day: int
+    kind: str
+    times: Optional[Times]
+
+
+class Week(NamedTuple):
+    """The days of a week that are known, and whether these are all seven."""
+
+    days: List[int]
+    is_whole: bool
+
+
+class Month(NamedTuple):
+    """The days of a plan, by number: ordinals of dates, or the places of groups in their file.
+
+    `shifts` has the day and the kind of each object that is in a group. The plan goes from the day `begin` to `last`;
+    days before it are known from `known` on. Before the day `start` nothing is planned. `worked` has the kinds that a
+    person had on days before `begin`.
+    """
+
+    shifts: Dict[int, Shift]
+    names: Dict[int, str]
+    are_dates: bool
+    known: int
+    begin: int
+    start: int
+    last: int
+    worked: Dict[Tuple[int, int], List[Shift]]
+    holidays: FrozenSet[int] = frozenset()
+
+    @property
+    def kinds(self) -> List[str]:
+        """The kinds, in the order of objects."""
+        earlier = [shift for own in self.worked.values() for shift in own]
+        return list(dict.fromkeys(shift.kind for shift in [*self.shifts.values(), *earlier] if shift.kind))
+
+    @property
+    def days(self) -> range:
+        """The days that are planned or past, from the first to the last."""
+        return range(self.begin, self.last + 1)
+
+    def is_past(self, day: int) -> bool:
+        return day < self.start
+
+    def is_weekend(self, day: int) -> bool:
+        """Whether a day is a Saturday, a Sunday or a holiday. Days without dates or words for days of the week are
+        seven to a week."""
+        if day in self.holidays:
+            return True
+        if self.are_dates:
+            return date.fromordinal(day).weekday() >= SATURDAY
+        if any(map(has_weekday, self.names.values())):
+            return is_weekend_name(self.names.get(day, ""))
+        return day % WEEK >= SATURDAY
+
+    @property
+    def weekends(self) -> List[List[int]]:
+        """Days of weekends side by side are one weekend. Each has a day of the plan."""
+        found: List[List[int]] = []
+        for day in filter(self.is_weekend, range(self.known, self.last + 1)):
+            if found and found[-1][-1] == day - 1:
+                found[-1].append(day)
+            else:
+                found.append([day])
+        return [days for days in found if days[-1] >= self.begin]
+
+    @property
+    def weeks(self) -> List[Week]:
+        """The weeks with a day of the plan: from Monday where days are dates, and else seven days from the first
+        one."""
+        # The ordinal 1 is a Monday.
+        shift = -1 if self.are_dates else 0
+        days: Dict[int, List[int]] = {}
+        for day in range(self.known, self.last + 1):
+            days.setdefault((day + shift) // WEEK, []).append(day)
+        return [Week(own, len(own) == WEEK) for own in days.values() if own[-1] >= self.begin]
+
+    def name(self, day: int) -> str:
+        """What a day is called."""
+        if day in self.names or not self.are_dates:
+            return self.names.get(day, str(day))
+        return date.fromordinal(day).isoformat()
+
+
+class Before(NamedTuple):
+    """What was worked before: the plan's file, and its persons and objects by names."""
+
+    path: str
+    pairs: Sequence[Tuple[str, str, int]]
+
+
+def month_of(roster: Roster, groups: Groups, path: str, before: Optional[Before] = None) -> Month:
+    """The calendar of a roster with groups.
+
+    Raises `RosterFault` where two groups are one day, or where an earlier object isn't before the first day.
+    """
+    days, are_dates = _days_of(groups)
+    _refuse_same_day(groups, days[:len(groups.names)], path)
+    kinds = groups.kinds if groups.has_kinds else dict(enumerate(labels_of(roster)))
+    shifts = {object_: Shift(days[group], kinds.get(object_, ""), groups.times.get(object_))
+              for object_, group in groups.of_objects.items()}
+    planned = days[:len(groups.names)]
+    past = {shifts[object_].day for object_ in roster.past}
+    begin, last = min(planned), max(planned)
+    start = min((day for day in planned if day not in past), default=last + 1)
+    earlier = _earlier_shifts(groups, days[len(groups.names):], begin, path)
+    worked = {} if before is None else _worked(roster, before, earlier)
+    known = min((shift.day for shift in earlier.values()), default=begin)
+    return Month(shifts, dict(zip(planned, groups.names)), are_dates, known, begin, start, last, worked)
+
+
+def _earlier_names(groups: Groups) -> List[str]:
+    return list(dict.fromkeys(one.group for one in groups.earlier))
+
+
+def _days_of(groups: Groups) -> Tuple[List[int], bool]:
+    """The days of the groups, and then of earlier ones; and whether they are dates."""
+    names = _earlier_names(groups)
+    dates = dates_of([*groups.names, *names]).all
+    if dates is not None:
+        return [day.toordinal() for day in dates], True
+    return [*range(len(groups.names)), *range(-len(names), 0)], False
+
+
+def _refuse_same_day(groups: Groups, days: Sequence[int], path: str) -> None:
+    first: Dict[int, str] = {}
+    for name, day in zip(groups.names, days):
+        before = first.setdefault(day, name)
+        if before != name:
+            raise RosterFault(path, f"{quoted(before)} and {quoted(name)} are one day: rules need one name for it")
+
+
+def _earlier_shifts(groups: Groups, days: Sequence[int], begin: int, path: str) -> Dict[str, Shift]:
+    """The days and kinds of objects of earlier days, which are before the first day of the plan."""
+    of_names = dict(zip(_earlier_names(groups), days))
+    for one in groups.earlier:
+        if of_names[one.group] >= begin or one.group in groups.names:
+            raise RosterFault(path, f"the roster has no object {quoted(one.name)}, and {one.group} isn't before its "
+                              "first day", one.line, 1)
+    return {one.name: Shift(of_names[one.group], one.kind or _label_of(one, groups), one.times)
+            for one in groups.earlier}
+
+
+def _label_of(one: Earlier, groups: Groups) -> str:
+    """The kind of an earlier object, where no column has kinds: its name without that of its day."""
+    return "" if groups.has_kinds else without_group(one.name, one.group)
+
+
+def _worked(roster: Roster, before: Before, earlier: Dict[str, Shift]) -> Dict[Tuple[int, int], List[Shift]]:
+    """What persons of the roster had before. Objects whose day isn't known are left out; `undated` names them."""
+    worked: Dict[Tuple[int, int], List[Shift]] = {}
+    for person, object_, line in before.pairs:
+        if object_ in roster.object_numbers:
+            raise RosterFault(before.path, f"{quoted(object_)} is planned now: a plan of earlier days is needed", line,
+                              2)
+        number, shift = roster.person_numbers.get(person), earlier.get(object_)
+        if number is not None and shift is not None:
+            worked.setdefault((number, shift.day), []).append(shift)
+    return worked
+
+
+def undated(groups: Groups, before: Before) -> List[str]:
+    """The objects of an earlier plan that the file of groups doesn't list."""
+    known: Set[str] = {one.name for one in groups.earlier}
+    return [name for name in dict.fromkeys(object_ for _, object_, _ in before.pairs) if name not in known]

@@ -1,0 +1,1 @@
+"""What the command shows and writes: lines, pages, workbooks, JSON and calendars."""

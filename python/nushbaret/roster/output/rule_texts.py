@@ -1,0 +1,115 @@
+"""What is said of an answer to a roster with rules: exactly what was proved."""
+from typing import Dict, List, Optional
+
+from ..answer import NamedPlan
+from ..by_rules import BEST, Proved, Reason
+from ..names import MOST_NAMES, joined
+from ..roster import Roster, decimal_text
+
+Content = Dict[str, object]
+
+
+def first_lines(roster: Roster, plan: Optional[NamedPlan], proved: Proved, maximize: bool) -> List[str]:
+    """Why no plan keeps the rules, or what the plan costs and what is proved of it."""
+    lines = reason_lines(proved) if proved.is_impossible else []
+    if plan is not None:
+        return [*lines, *_missing_lines(proved), _cost_line(roster, plan, proved, maximize)]
+    return lines or [f"not decided in {proved.seconds:g} s"]
+
+
+def reason_lines(proved: Proved) -> List[str]:
+    """The sentences that can't hold together."""
+    around = "around the past, " if proved.is_around_past else ""
+    rest = ("together they can't hold:" if proved.is_minimal
+            else "together they can't hold, and maybe fewer of them can't:")
+    return [f"{around}no plan keeps these rules, proved: {rest}",
+            *("  " + sentence_of(reason) for reason in proved.reasons)]
+
+
+def sentence_of(reason: Reason) -> str:
+    """A sentence with those that it is about, the first of many."""
+    more = len(reason.about) - MOST_NAMES
+    names = joined(reason.about[:MOST_NAMES]) + (f" and {more} others" if more > 1 else f" and {more} other" if more > 0
+                                                 else "")
+    return f"{reason.sentence} ({names})" if reason.about else reason.sentence
+
+
+def _missing_lines(proved: Proved) -> List[str]:
+    """How much is missing, where anything is."""
+    if not proved.missing:
+        return []
+    if proved.least_missing == proved.missing:
+        return [f"{proved.missing} missing in all, proved: no plan that keeps the rules misses less"]
+    if proved.least_missing is None:
+        return [f"{proved.missing} missing in all"]
+    return [f"{proved.missing} missing in all, proved: no plan that keeps the rules misses less than "
+            f"{proved.least_missing}"]
+
+
+def _cost_line(roster: Roster, plan: NamedPlan, proved: Proved, maximize: bool) -> str:
+    title, own = roster.titles[2], roster.shown(plan.cost)
+    if proved.with_changes is not None:
+        title, own = f"{title} with changes", f"{halves(roster, proved.with_changes)} ({title} {own})"
+    title += f" of {len(plan.pairs)} pairs" if proved.missing else ""
+    if proved.kind == BEST:
+        less = "has more" if maximize else "costs less"
+        others = "no plan that keeps the rules and misses no more" if proved.missing else "no plan that keeps the rules"
+        return f"{'greatest' if maximize else 'least'} {title}: {own}, proved: {others} {less}"
+    if proved.better is None:
+        return f"{title} {own}, nothing proved in {proved.seconds:g} s"
+    return f"{title} {own}, proved: no plan is more than {better_text(roster, proved)} better"
+
+
+def better_text(roster: Roster, proved: Proved) -> str:
+    """By how much another plan may be better at most."""
+    better = proved.better or 0
+    return roster.shown(better) if proved.with_changes is None else halves(roster, better)
+
+
+def halves(roster: Roster, count: int) -> str:
+    """So many halves of a unit, as the roster writes costs."""
+    if count % 2 == 0:
+        return roster.shown(count // 2)
+    return decimal_text(count * 5, roster.decimals + 1, "," if roster.comma else ".")
+
+
+def even_lines(roster: Roster, proved: Proved, maximize: bool) -> List[str]:
+    """How even counts are, and what a plan without the rules of evenness would cost."""
+    lines = [f"{even.sentence}: {even.least}" + (f" to {even.most}" if even.most > even.least else " each")
+             for even in proved.even]
+    if any(even.most - even.least > 1 for even in proved.even):
+        lines.append("proved: no plan that keeps the rules is more even" if proved.is_most_even
+                     else "a more even plan may exist")
+    other = proved.otherwise
+    if other is not None and proved.otherwise_cost is not None:
+        cost = f"{roster.titles[2]} {roster.shown(proved.otherwise_cost)}"
+        lines.append(f"without the rules of evenness: {_otherwise(roster, cost, other, maximize)}")
+    return lines
+
+
+def _otherwise(roster: Roster, cost: str, other: Proved, maximize: bool) -> str:
+    if other.kind == BEST:
+        return (f"{'greatest' if maximize else 'least'} {cost}, proved: no plan that keeps the other rules "
+                f"{'has more' if maximize else 'costs less'}")
+    return cost if other.better is None else f"{cost}, proved: no plan is more than {better_text(roster, other)} better"
+
+
+def as_content(roster: Roster, proved: Proved) -> Content:
+    """What was proved, for JSON."""
+    content: Content = {"proved": proved.kind}
+    if proved.better is not None:
+        content["better"] = better_text(roster, proved).replace(",", ".")
+    if proved.with_changes is not None:
+        content["with_changes"] = halves(roster, proved.with_changes).replace(",", ".")
+    if proved.reasons:
+        content["reasons"] = [reason._asdict() for reason in proved.reasons]
+        content["is_minimal"] = proved.is_minimal
+    if proved.missing:
+        content["missing"], content["least_missing"] = proved.missing, proved.least_missing
+    if proved.even:
+        content["even"], content["is_most_even"] = [even._asdict() for even in proved.even], proved.is_most_even
+    if proved.otherwise is not None and proved.otherwise_cost is not None:
+        without = as_content(roster, proved.otherwise)
+        without["cost"] = decimal_text(proved.otherwise_cost, roster.decimals, ".")
+        content["without_evenness"] = without
+    return content

@@ -1,0 +1,398 @@
+"""What the command says: lines for people, and the plan as CSV."""
+import csv
+import io
+from typing import TYPE_CHECKING, Dict, Iterator, List, NamedTuple, Optional, Sequence, Tuple
+
+from ..answer import MOST_NAMES_SHOWN, PLURALS, Answer, Fair, NamedPlan, Pair, counted, left_out, named, sentence
+from ..changes import Lost, OfPerson, by_person, changes_of
+from ..groups import Broken, Counts, order_of
+from ..names import joined, marked, quoted, with_names_marked
+from ..roster import CHANGE, COMES, GOES, NOT_POSSIBLE, TITLES, OldPlan, PlanLine, Roster, alike, like
+from ..sheets import SEPARATORS
+from ..words import Options
+
+if TYPE_CHECKING:
+    from ..by_rules import Proved
+
+
+class Hand(NamedTuple):
+    """A plan from elsewhere, the rules that it breaks, and by how much it and the best plan miss least counts."""
+
+    plan: OldPlan
+    broken: Sequence[Broken]
+    lack: int
+    best_lack: int = 0
+
+    @property
+    def is_comparable(self) -> bool:
+        """Whether it keeps all rules, or misses as much as the best plan and keeps all others."""
+        return self.lack == self.best_lack and all(broken.rule == "least" for broken in self.broken)
+
+
+class Report(NamedTuple):
+    """All that is said of a run: what was asked for, the answer, the plans that were read, what fairness costs, and
+    what was proved of a roster with rules."""
+
+    options: Options
+    roster: Roster
+    answer: Answer
+    kept: Optional[OldPlan] = None
+    hand: Optional[Hand] = None
+    fair: Optional[Fair] = None
+    proved: Optional["Proved"] = None
+
+    @property
+    def alarms(self) -> int:
+        """How many of the first lines say why there is no plan."""
+        of_rules = len(self.proved.reasons) + 1 if self.proved is not None and self.proved.is_impossible else 0
+        return len(self.answer.groups) + of_rules
+
+
+class Note(NamedTuple):
+    """A line on the plan, and what it is about, one by one."""
+
+    line: str
+    details: Sequence[str] = ()
+
+
+def read_lines(path: str, roster: Roster, on_terminal: bool) -> List[str]:
+    """What standard error says of a roster: on a terminal how much was read and how names count, and always which names
+    are hardly two."""
+    lines = []
+    if on_terminal:
+        persons, objects = counted(len(roster.persons), roster.titles[0]), counted(len(roster.objects),
+                                                                                   roster.titles[1])
+        lines.append(f"{persons}, {objects}, {counted(len(roster.costs), 'pair')}{_rule(roster)}")
+    groups = alike(roster.persons) + alike(roster.objects)
+    lines += [f"{path}: {', '.join(map(quoted, group))} differ in case or spaces alone"
+              for group in groups[:MOST_NAMES_SHOWN]]
+    if len(groups) > MOST_NAMES_SHOWN:
+        lines.append(f"{path}: and {len(groups) - MOST_NAMES_SHOWN} more of these names")
+    return lines
+
+
+def with_marks(report: Report) -> Report:
+    """A report whose texts have marks around names."""
+    groups, kept, hand = report.roster.groups, report.kept, report.hand
+    if groups is not None:
+        groups = groups._replace(title=_title(groups.title), names=list(map(marked, groups.names)))
+    if kept is not None:
+        kept = kept._replace(named=[pair._replace(person=marked(pair.person), object=marked(pair.object))
+                                    for pair in kept.named], gone=list(map(marked, kept.gone)))
+    if hand is not None:
+        hand = hand._replace(broken=[broken._replace(sentence=with_names_marked(broken.sentence,
+                                                                                (*broken.persons, *broken.objects)))
+                                     for broken in hand.broken])
+    proved = report.proved
+    if proved is not None:
+        named = [*report.roster.persons, *report.roster.objects]
+        proved = proved._replace(reasons=[reason._replace(sentence=with_names_marked(reason.sentence, named),
+                                                          about=list(map(marked, reason.about)))
+                                          for reason in proved.reasons])
+    persons, objects = list(map(marked, report.roster.persons)), list(map(marked, report.roster.objects))
+    person, object_, cost = map(_title, report.roster.titles)
+    roster = report.roster._replace(persons=persons, objects=objects, groups=groups,
+                                    person_numbers=_numbers_of(persons), object_numbers=_numbers_of(objects),
+                                    titles=(person, object_, cost))
+    return report._replace(roster=roster, kept=kept, hand=hand, proved=proved)
+
+
+def _title(title: str) -> str:
+    """A title with marks, unless it is a word of ours."""
+    return title if title in PLURALS or title in TITLES else marked(title)
+
+
+def _numbers_of(names: List[str]) -> Dict[str, int]:
+    return {name: number for number, name in enumerate(names)}
+
+
+def _rule(roster: Roster) -> str:
+    """Which rule decides, where names may count several times."""
+    if not roster.ruled:
+        return ""
+    return ("; single counts: the side with the smaller sum takes all" if roster.least is None
+            else "; bounds: each name's counts are kept")
+
+
+def forgotten_line(roster: Roster, counts: Counts, side: int) -> Optional[str]:
+    """What standard error says of the persons (side 0) or the objects that have no line in a file of counts; None where
+    all have one."""
+    names = roster.objects if side else roster.persons
+    numbers = [number for number in range(len(names)) if number not in counts.bounds]
+    if not numbers:
+        return None
+    bound = "" if roster.least is None else "exactly " if side else "at most "
+    takes = "takes" if len(numbers) == 1 else "each takes"
+    return f"{counts.path}: no line for {named(numbers, roster.titles[side], names)}: {takes} {bound}one"
+
+
+def gone_line(plan: OldPlan, roster: Roster) -> str:
+    """What an earlier plan has and the roster has no more, or under another name."""
+    names = [name for name in roster.persons + roster.objects if name not in plan.gone]
+    near = [like(name, names) if len(plan.gone) <= MOST_NAMES_SHOWN else [] for name in plan.gone]
+    shown = [name + (f" (did you mean {' or '.join(those)}?)" if those else "") for name, those in zip(plan.gone, near)]
+    return f"{plan.path}: the roster has no {', '.join(shown)}"
+
+
+def first_lines(report: Report) -> List[str]:
+    """A sentence for each group that is short, with marks around names, and the cost of the plan."""
+    roster, answer, fair = report.roster, report.answer, report.fair
+    lines = [sentence(roster, short, bool(report.options.fixed)) for short in answer.groups]
+    if report.proved is not None:
+        from .rule_texts import first_lines as lines_with_rules
+        lines = lines_with_rules(roster, answer.plan, report.proved, report.options.max)
+    elif answer.plan is not None:
+        which = "greatest" if report.options.max else "least"
+        fullest = f" of {len(answer.plan.pairs)} pairs" if answer.groups else ""
+        bound = _bound(report, fair) if fair else ""
+        lines.append(f"{which} {roster.titles[2]}{fullest}{bound}: {roster.shown(answer.plan.cost)}")
+    if answer.plan is not None:
+        chosen = sum(not pair.fixed for pair in answer.plan.pairs)
+        if roster.rounded:
+            lines.append("costs were rounded: another plan may be better for the exact ones, by "
+                         f"{roster.shown(chosen)} at most")
+    return lines
+
+
+def _bound(report: Report, fair: Fair) -> str:
+    """What no pair costs more than."""
+    if fair.pair is None:
+        return " with no pair"
+    return f" with no pair {'below' if report.options.max else 'above'} {report.roster.shown(fair.pair.cost)}"
+
+
+def printed(report: Report) -> List[str]:
+    """The plan by names, who and what stays out, and what there is to say of it."""
+    plan, notes = report.answer.plan, broken_rules(report.hand)
+    lines: List[str] = []
+    if plan is not None:
+        lines = rows_of(report.roster, plan) + [f"{out.how}: {joined(out.names)}"
+                                                for out in left_out(report.roster, plan)]
+        notes = notes_of(report, plan)
+    for note in notes:
+        lines += [note.line, *("  " + detail for detail in note.details)]
+    return lines
+
+
+def notes_of(report: Report, plan: NamedPlan) -> List[Note]:
+    """Other plans, the rents, and how the plan compares with plans that were read."""
+    roster, options = report.roster, report.options
+    notes = [fairness(report, report.fair)] if report.fair else []
+    notes += others(report, plan) if report.proved is None else _of_rules(report, report.proved)
+    if options.plans > 1:
+        notes += [_difference(report, plan, other, f"plan {number}") for number, other in enumerate(plan.following, 2)]
+    if options.rents:
+        notes += [Note(f"rent of {roster.objects[number]}: {roster.shown(rent)}")
+                  for number, rent in plan.rents.items()]
+    notes += [changes(roster, plan, report.kept)] if report.kept else []
+    return notes + broken_rules(report.hand) + ([compared(report, plan, report.hand)] if report.hand else [])
+
+
+def _of_rules(report: Report, proved: "Proved") -> List[Note]:
+    """How even counts are, and whether fewer changes may be enough."""
+    from .rule_texts import even_lines
+    fewer = [Note(f"{report.kept.path}: fewer changes may be enough")] if report.kept and proved.fewer_changes else []
+    return [*map(Note, even_lines(report.roster, proved, report.options.max)), *fewer]
+
+
+def rows_of(roster: Roster, plan: NamedPlan) -> List[str]:
+    """Each person with all of its own, then, if any object may have several, each object with all of its own."""
+    own: Dict[int, List[str]] = {}
+    for pair in plan.pairs:
+        text = f"{roster.objects[pair.object]}, {roster.shown(pair.cost)}{_why_fixed(roster, pair)}"
+        own.setdefault(pair.person, []).append(text)
+    lines = [f"{roster.persons[person]}{_times(roster, len(texts))}: {'; '.join(texts)}"
+             for person, texts in own.items()]
+    return lines + [f"at {roster.objects[object_]}{_times(roster, len(who))}: {joined(who)}"
+                    for object_, who in persons_at(roster, plan)]
+
+
+def _why_fixed(roster: Roster, pair: Pair) -> str:
+    return "" if not pair.fixed else " (past)" if pair.object in roster.past else " (fixed)"
+
+
+def persons_at(roster: Roster, plan: NamedPlan) -> List[Tuple[int, List[str]]]:
+    """Who is at each object that is in a pair, in the roster's order, or the groups'; nothing where no object may have
+    several."""
+    if all(roster.places_of(object_) <= 1 for object_ in range(len(roster.objects))):
+        return []
+    who: Dict[int, List[str]] = {}
+    for pair in plan.pairs:
+        who.setdefault(pair.object, []).append(roster.persons[pair.person])
+    ranks = order_of(roster)
+    return sorted(who.items(), key=lambda those: ranks[those[0]])
+
+
+def _times(roster: Roster, count: int) -> str:
+    """How often a name is used, where that isn't once and isn't what its count says."""
+    return f" ({count})" if count != 1 and (roster.least is not None or roster.groups is not None) else ""
+
+
+def pair_text(roster: Roster, pair: Pair) -> str:
+    """A pair in a line."""
+    return f"{roster.persons[pair.person]}, {roster.objects[pair.object]}, {roster.shown(pair.cost)}"
+
+
+def fairness(report: Report, fair: Fair) -> Note:
+    """Which pair is the dearest, and what fairness costs."""
+    roster, maximize = report.roster, report.options.max
+    kind, which = ("cheapest", "greatest") if maximize else ("dearest", "least")
+    best = f"the {which} {roster.titles[2]} is {roster.shown(fair.best.cost)}, with {pair_text(roster, fair.best_pair)}"
+    if fair.pair is None:
+        return Note(f"no pair is needed; {best}")
+    if fair.best_pair.cost == fair.pair.cost:
+        return Note(f"{kind} pair: {pair_text(roster, fair.pair)}; this is also the {which} {roster.titles[2]} of all")
+    return Note(f"{kind} pair: {pair_text(roster, fair.pair)}; {best}")
+
+
+def others(report: Report, plan: NamedPlan) -> List[Note]:
+    """That there are other best plans, and where it is asked for, who could change places, or the next best plan."""
+    roster, options = report.roster, report.options
+    if not options.others:
+        is_shown = not plan.is_only_one and not options.keep and options.plans < 2 and not options.fair
+        return [Note("other plans are as good: --others shows who could change places")] if is_shown else []
+    if plan.swaps:
+        return [Note(f"could change places at no cost: {named(swap.persons, roster.titles[0], roster.persons)} "
+                     f"on {named(swap.objects, roster.titles[1], roster.objects)}") for swap in plan.swaps]
+    if not plan.following:
+        return [Note("no other plan is as good")]
+    return [_difference(report, plan, plan.following[0], "no other plan is as good: the next best is", " ")]
+
+
+def _difference(report: Report, plan: NamedPlan, other: NamedPlan, name: str, mark: str = ": ") -> Note:
+    """Another plan: its cost, and where it differs."""
+    roster = report.roster
+    more = abs(other.cost - plan.cost)
+    cost = f"{roster.shown(other.cost)}, " + (f"{roster.shown(more)} {'less' if report.options.max else 'more'}" if more
+                                              else "as good")
+    return Note(f"{name}{mark}{cost}", _there(roster, plan, other.pairs))
+
+
+def _there(roster: Roster, plan: NamedPlan, pairs: Sequence[Pair]) -> List[str]:
+    """What each person has in another plan that it hasn't in the plan; that it has nothing there; and where names
+    count, what it hasn't."""
+    own, others = ({(pair.person, pair.object) for pair in those} for those in (plan.pairs, pairs))
+    some = {person for person, _ in others}
+    lines: Dict[int, List[str]] = {}
+    for pair in pairs:
+        if (pair.person, pair.object) not in own:
+            lines.setdefault(pair.person, []).append(f"{roster.objects[pair.object]}, {roster.shown(pair.cost)}")
+    for pair in plan.pairs:
+        if pair.person not in some:
+            lines[pair.person] = ["nothing"]
+        elif roster.ruled and (pair.person, pair.object) not in others:
+            lines.setdefault(pair.person, []).append(f"not {roster.objects[pair.object]}")
+    return [f"there {roster.persons[person]}: {text}" for person in sorted(lines) for text in lines[person]]
+
+
+def changes(roster: Roster, plan: NamedPlan, kept: OldPlan) -> Note:
+    """How many pairs come and go from an earlier plan, and whose; and what can't be any more."""
+    found = changes_of(roster, plan, kept)
+    counts = [counted(len(found.comes), "pair") + _comes(found.comes)] if found.comes else []
+    counts += [(str(len(found.goes)) if counts else counted(len(found.goes), "pair"))
+               + _goes(found.goes)] if found.goes else []
+    details = [f"{own.person}: {'; '.join(_words_of(own))}" for own in by_person(roster, found)]
+    return Note(f"{kept.path}: {', '.join(counts) or 'no pair changes'}", details + _lost_lines(found.lost))
+
+
+def _comes(those: Sequence[object]) -> str:
+    return " comes" if len(those) == 1 else " come"
+
+
+def _goes(those: Sequence[object]) -> str:
+    return " goes" if len(those) == 1 else " go"
+
+
+def _words_of(own: OfPerson) -> List[str]:
+    """What goes and what comes."""
+    goes, comes = joined(own.goes) + _goes(own.goes), joined(own.comes) + _comes(own.comes)
+    return [goes] * bool(own.goes) + [comes] * bool(own.comes)
+
+
+def _lost_lines(lost: Sequence[Lost]) -> List[str]:
+    """What of an earlier plan can't be any more, by person and reason."""
+    names: Dict[Tuple[str, str], List[str]] = {}
+    for pair in lost:
+        names.setdefault((pair.person, pair.why), []).append(pair.object)
+    return [f"{person}: {joined(own)} {NOT_POSSIBLE} now ({why})" for (person, why), own in names.items()]
+
+
+def broken_rules(hand: Optional[Hand]) -> List[Note]:
+    """Which rules a plan from elsewhere breaks."""
+    if hand is None or not hand.broken:
+        return []
+    count = len(hand.broken)
+    return [Note(f"{hand.plan.path}: breaks {count} rule{'' if count == 1 else 's'}",
+                 [broken.sentence for broken in hand.broken])]
+
+
+def worse_by(report: Report, plan: NamedPlan, hand: OldPlan) -> int:
+    """By how much a plan from elsewhere is worse than the best."""
+    cost = sum(pair.cost for pair in hand.known)
+    return plan.cost - cost if report.options.max else cost - plan.cost
+
+
+def only_there(plan: NamedPlan, hand: OldPlan) -> List[PlanLine]:
+    """The pairs of a plan from elsewhere that the best doesn't have."""
+    own = {(pair.person, pair.object) for pair in plan.pairs}
+    return [pair for pair in sorted(hand.known) if (pair.person, pair.object) not in own]
+
+
+def compared(report: Report, plan: NamedPlan, hand: Hand) -> Note:
+    """By how much a plan from elsewhere is worse than the best, or better as far as it breaks rules, and where the two
+    differ."""
+    roster, own = report.roster, hand.plan
+    cost = sum(pair.cost for pair in own.known)
+    more = cost - plan.cost
+    size = f"{roster.shown(abs(more))} {'more' if more > 0 else 'less'} than" if more else "as good as"
+    of_pairs = (f" for {counted(len(own.known), 'pair')} that the roster allows" if len(own.known) < len(own.named)
+                else "")
+    rest = "" if hand.is_comparable or hand.best_lack else ", which breaks none"
+    rest = ", which misses less" if hand.lack > hand.best_lack > 0 else rest
+    best = "the best" if report.proved is None or report.proved.better == 0 else "this plan"
+    return Note(f"{own.path}: {roster.shown(cost)}{of_pairs}, {size} {best}{rest}",
+                [f"there {roster.persons[pair.person]}: {roster.objects[pair.object]}, {roster.shown(pair.cost)}"
+                 for pair in only_there(plan, own)])
+
+
+def as_csv(roster: Roster, plan: NamedPlan, kept: Optional[OldPlan] = None) -> str:
+    """The pairs as a roster of lines, with the titles, the separator and the decimal mark of the roster that was read.
+    With an earlier plan one more column says which pairs come, and which go or aren't possible now: these stand in
+    lines without a cost."""
+    text = io.StringIO()
+    text.write("\ufeff" if roster.has_bom else "")
+    writer = csv.writer(text, delimiter=roster.separator, lineterminator="\n")
+    titles = (*roster.titles, *([CHANGE] if kept else ()))
+    # Readers take the separator from the title line, so no other may seem to be there.
+    csv.writer(text, delimiter=roster.separator, lineterminator="\n", quoting=_title_quoting(roster)).writerow(titles)
+    writer.writerows(_lines_of(roster, plan) if kept is None else _lines_with_changes(roster, plan, kept))
+    return text.getvalue()
+
+
+def _lines_of(roster: Roster, plan: NamedPlan) -> Iterator[Tuple[str, ...]]:
+    for pair in plan.pairs:
+        yield roster.persons[pair.person], roster.objects[pair.object], roster.shown(pair.cost)
+
+
+def _lines_with_changes(roster: Roster, plan: NamedPlan, kept: OldPlan) -> List[Tuple[str, ...]]:
+    """The lines of a plan and of the pairs that go, person by person, and those of pairs that aren't possible now."""
+    found = changes_of(roster, plan, kept)
+    new = set(found.comes)
+    lines: List[Tuple[int, Tuple[str, ...]]] = [(pair.person, (*line, COMES if pair in new else ""))
+                                                for pair, line in zip(plan.pairs, _lines_of(roster, plan))]
+    lines += [(pair.person, (roster.persons[pair.person], roster.objects[pair.object], "", GOES))
+              for pair in found.goes]
+    lost = ((pair.person, pair.object, "", NOT_POSSIBLE) for pair in found.lost)
+    return [*(line for _, line in sorted(lines, key=lambda those: those[0])), *lost]
+
+
+def in_encoding_of(roster: Roster, text: str) -> bytes:
+    """A text in the encoding of the roster's file, or in UTF-8 with a BOM where that lacks a letter."""
+    try:
+        return text.encode(roster.encoding)
+    except UnicodeEncodeError:
+        return text.encode("utf-8-sig")
+
+
+def _title_quoting(roster: Roster) -> int:
+    return csv.QUOTE_ALL if any(mark in title for mark in SEPARATORS for title in roster.titles) else csv.QUOTE_MINIMAL

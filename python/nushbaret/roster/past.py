@@ -1,0 +1,161 @@
+"""The past of a plan: its pairs in the groups before one stay as they were, and only the rest is planned."""
+import re
+from collections import Counter
+from typing import Dict, List, NamedTuple, NoReturn, Optional, Sequence, Tuple
+
+from .answer import counted, listed
+from .costs import CostColumn
+from .dates import dates_of
+from .names import quoted
+from .roster import Groups, NamedPair, OldPlan, PlanLine, Roster, like, old_plan_of
+from .sheets import RosterFault, is_json
+
+Triple = Tuple[int, int, int]
+
+
+class Past(NamedTuple):
+    """What is over: the groups, the pairs of the plan there, and what is said of them."""
+
+    groups: List[int]
+    pairs: List[PlanLine]
+    lines: List[str]
+
+
+class _Refuser(NamedTuple):
+    """Refuses costs in a plan's file."""
+
+    path: str
+
+    def refuse(self, text: str, line: Optional[int] = None, column: Optional[int] = None) -> NoReturn:
+        raise RosterFault(self.path, text, line, column)
+
+
+def groups_before(groups: Groups, name: str) -> List[int]:
+    """The groups before one: by date where all are dates, and else in the order of their file."""
+    dates = dates_of([*groups.names, name]).all
+    if dates is not None:
+        return [number for number, date in enumerate(dates[:-1]) if date < dates[-1]]
+    if name not in groups.names:
+        near = like(name, groups.names)
+        hint = f": did you mean {' or '.join(map(quoted, near))}?" if near else ""
+        raise RosterFault("--past", f"there is no {groups.title} {quoted(name)}{hint}")
+    return list(range(groups.names.index(name)))
+
+
+def with_past(roster: Roster, groups: Groups, kept: OldPlan, name: str, rounds: Optional[int]) -> Tuple[Roster, OldPlan,
+                                                                                                        Past]:
+    """The roster and the plan with a past, which is before a group.
+
+    The pairs of the plan there are allowed, at their cost in the plan's file or 0 where the roster forbids them, also
+    those of persons that it doesn't have. Where a person has more of them than it takes at most, that is its greatest
+    count. No least count of the past is left. With `rounds` costs are rounded to so many places.
+    """
+    earlier = groups_before(groups, name)
+    own = set(earlier)
+    objects = frozenset(object_ for object_, group in groups.of_objects.items() if group in own)
+    named = [pair for pair in kept.named if roster.object_numbers.get(pair.object) in objects]
+    roster = _with_persons(roster, [pair.person for pair in named])
+    places = [(roster.person_numbers[pair.person], roster.object_numbers[pair.object]) for pair in named]
+    allowed = roster.costs_of(set(places))
+    added = [(person, object_, _cost_in_file(kept.path, roster, pair, rounds))
+             for (person, object_), pair in zip(places, named) if (person, object_) not in allowed]
+    roster = _with_pairs(roster, added)._replace(past=objects)
+    had = Counter(person for person, _ in places)
+    passing = [person for person in sorted(had) if had[person] > roster.tasks_of(person)]
+    lines = [_first_line(roster, groups, kept, name, earlier, len(places)), *_forbidden_lines(roster, kept, added),
+             *(_most_line(roster, kept, person, had[person]) for person in passing
+               if roster.persons[person] not in kept.gone)]
+    costs = roster.costs_of(set(places))
+    pairs = [PlanLine(*place, pair.line, costs[place]) for place, pair in zip(places, named)]
+    roster = _with_counts(roster, {person: had[person] for person in passing})
+    return roster, old_plan_of(kept.path, roster, kept.named, False)._replace(gone=kept.gone), Past(earlier, pairs,
+                                                                                                    lines)
+
+
+def _with_persons(roster: Roster, names: Sequence[str]) -> Roster:
+    """The roster with those of some persons that it doesn't have; they take none."""
+    new = [name for name in dict.fromkeys(names) if name not in roster.person_numbers]
+    if not new:
+        return roster
+    numbers = {name: number for number, name in enumerate(new, len(roster.persons))}
+    tasks = {**(roster.tasks or {}), **dict.fromkeys(numbers.values(), 0)}
+    return roster._replace(persons=roster.persons + new, person_numbers={**roster.person_numbers, **numbers},
+                           tasks=tasks)
+
+
+def _with_pairs(roster: Roster, added: Sequence[Triple]) -> Roster:
+    """The roster with more pairs, in its order."""
+    if not added:
+        return roster
+    triples = [*zip(roster.of_persons, roster.of_objects, roster.costs), *added]
+    if roster.by_persons:
+        triples.sort(key=lambda triple: (triple[0], triple[1] if roster.is_matrix else 0))
+    lists = zip(*triples)
+    of_persons, of_objects, costs = (type(old)(old.typecode, new)
+                                     for old, new in zip((roster.of_persons, roster.of_objects, roster.costs), lists))
+    return roster._replace(of_persons=of_persons, of_objects=of_objects, costs=costs)
+
+
+def _with_counts(roster: Roster, most: Dict[int, int]) -> Roster:
+    """The roster with some greatest counts of persons, and no least counts in the past."""
+    if roster.least is not None:
+        of_persons, of_objects = roster.least
+        left = {object_: least for object_, least in of_objects.items() if object_ not in roster.past}
+        roster = roster._replace(least=(of_persons, left))
+    return roster._replace(tasks={**(roster.tasks or {}), **most}) if most else roster
+
+
+def _cost_in_file(path: str, roster: Roster, pair: NamedPair, rounds: Optional[int]) -> int:
+    """What a pair costs in the plan's file, in the roster's units; 0 where no number stands there. A number that can't
+    be read is refused."""
+    costs = CostColumn(_Refuser(path), roster.decimals if rounds is None else None, roster.comma and not is_json(path),
+                       rounds)
+    try:
+        costs.take(pair.cost, pair.line, 3)
+    except RosterFault:
+        if re.fullmatch(r"[+-]?[0-9.,][0-9., 'eE+-]*", pair.cost):
+            raise
+        return 0
+    return int(costs.scaled()[1][0])
+
+
+def _first_line(roster: Roster, groups: Groups, kept: OldPlan, name: str, earlier: List[int], count: int) -> str:
+    """How much stays."""
+    if not earlier:
+        return f"{kept.path}: no {groups.title} is before {name}"
+    which = f"{counted(len(earlier), groups.title)} before {name} ({listed(groups.names, earlier)})"
+    return f"{kept.path}: {counted(count, 'pair')} of {which} {'stays' if count == 1 else 'stay'}"
+
+
+def _forbidden_lines(roster: Roster, kept: OldPlan, added: Sequence[Triple]) -> List[str]:
+    """Which pairs stay that the roster doesn't allow, and at which cost."""
+    own: Dict[int, List[str]] = {}
+    for person, object_, cost in added:
+        own.setdefault(person, []).append(f"{roster.objects[object_]}, {roster.shown(cost)}")
+    return [f"{kept.path}: {roster.persons[person]} keeps what the roster doesn't allow now: {'; '.join(pairs)}"
+            for person, pairs in own.items()]
+
+
+def _most_line(roster: Roster, kept: OldPlan, person: int, had: int) -> str:
+    return (f"{kept.path}: {roster.persons[person]} has {counted(had, roster.titles[1])} in the past, more than the "
+            f"most of {roster.tasks_of(person)}: {had} is the most")
+
+
+def with_fixed(roster: Roster, past: Past, fixed: Sequence[PlanLine], path: str) -> List[PlanLine]:
+    """The pairs of the past, and those of a file of fixed pairs.
+
+    Raises `RosterFault` for the first fixed pair in the past that the plan doesn't have, and for the first person who
+    has more in both than it takes.
+    """
+    pairs = {(pair.person, pair.object) for pair in past.pairs}
+    new = [pair for pair in fixed if (pair.person, pair.object) not in pairs]
+    had = Counter(pair.person for pair in past.pairs)
+    for pair in new:
+        names = f"{roster.persons[pair.person]}, {roster.objects[pair.object]}"
+        if pair.object in roster.past:
+            raise RosterFault(path, f"{names} is in the past, where the kept plan doesn't have it", pair.line)
+        had[pair.person] += 1
+        if had[pair.person] > roster.tasks_of(pair.person):
+            raise RosterFault(path, f"with {names} {roster.persons[pair.person]} has {had[pair.person]}, also counting "
+                              f"the past, where {roster.tasks_of(pair.person)} is the most", pair.line)
+    return [*past.pairs, *new]

@@ -1,0 +1,585 @@
+"""Rosters and plans in CSV files and workbooks: persons, objects and costs by name.
+
+A roster is read in one of two forms, a line for each pair or a matrix; a plan is lines of a person and an object.
+"""
+import json
+import os
+import re
+import unicodedata
+from array import array
+from bisect import bisect_left, bisect_right
+from itertools import compress, islice, repeat
+from operator import add, le, mul
+from typing import Any, Dict, FrozenSet, List, NamedTuple, Optional, Sequence, Set, Tuple, cast
+
+from ..costs.limits import MOST_PERSONS, Numbers
+from .costs import CostColumn
+from .dates import spellings
+from .names import quoted
+from .sheets import MOST_BYTES, Reading, RosterFault, Sheet, is_json, unit_of
+from .times import Times
+
+LINES, MATRIX = "lines", "matrix"
+TITLES = ("person", "object", "cost")
+# Of plans in JSON; those before are read too.
+FORMAT = 4
+# Where a workbook has its plan.
+PLAN_SHEET = "Plan"
+# The column of a plan that says what changed from an earlier one, and its words: for a new pair, and for two that are
+# no pairs of the plan.
+CHANGE, COMES, GOES, NOT_POSSIBLE = "change", "comes", "goes", "not possible"
+
+
+def is_plain(name: str) -> bool:
+    """Whether a cell is a name as it stands."""
+    return name.isprintable() and name != "" and unicodedata.is_normalized("NFC", name)
+
+
+class Names:
+    """The names of one side, numbered from 0 as they come."""
+
+    def __init__(self, sheet: Sheet, kind: str) -> None:
+        self._sheet, self._kind = sheet, kind
+        self.list: List[str] = []
+        self.numbers: Dict[str, int] = {}
+        # The numbers of cells with what stands around the names.
+        self._cells: Dict[str, int] = {}
+
+    def number(self, cell: str, line: int, column: int) -> int:
+        """The number of a name, a new one where it is new."""
+        number = self.numbers.get(cell)
+        if number is None:
+            name = self._sheet.name(cell, line, column)
+            number = self.numbers.get(name)
+            if number is None:
+                number = self._add(name, line, column)
+        return number
+
+    def once(self, cell: str, line: int, column: int) -> int:
+        """The number of a name that must be new."""
+        before = len(self.list)
+        number = self.number(cell, line, column)
+        if number < before:
+            hint = "--tasks" if self._kind == "persons" else "--places"
+            self._sheet.refuse(f"the name {quoted(cell)} a second time (list it once; {hint} says how many it takes)",
+                               line, column)
+        return number
+
+    def known(self, cells: Sequence[str]) -> Optional[List[int]]:
+        """The numbers of names, also of new ones; None, and no new number, where any may be refused."""
+        found = list(map(self._cells.get, cells))
+        if None in found:
+            new = [cell for cell in dict.fromkeys(cells) if cell not in self._cells]
+            if len(self.list) + len(new) > MOST_PERSONS or not all(map(is_plain, map(str.strip, new))):
+                return None
+            for cell in new:
+                self._cells[cell] = self.number(cell.strip(), 0, 0)
+            found = list(map(self._cells.get, cells))
+        return cast(List[int], found)
+
+    def _add(self, name: str, line: int, column: int) -> int:
+        if len(self.list) == MOST_PERSONS:
+            self._sheet.refuse(f"more than {MOST_PERSONS} {self._kind}", line, column)
+        self.list.append(name)
+        for spelling in spellings(name):
+            self.numbers[spelling] = len(self.list) - 1
+        return len(self.list) - 1
+
+
+# Titles, persons, objects, and the person and the object of each cost.
+Read = Tuple[Tuple[str, str, str], Names, Names, Numbers, Numbers]
+
+
+class Earlier(NamedTuple):
+    """An object of a day before the roster's: its name, its group, its kind and times as far as the file has them, and
+    the line."""
+
+    name: str
+    group: str
+    kind: str
+    times: Optional[Times]
+    line: int
+
+
+class Groups(NamedTuple):
+    """Groups of objects of which nobody takes two: their title, their names in the order of the file, the group of each
+    object that is in one, and when objects begin and end, where the file says it; their kinds, if a column has them;
+    and objects of earlier days."""
+
+    title: str
+    names: List[str]
+    of_objects: Dict[int, int]
+    times: Dict[int, Times] = {}
+    kinds: Dict[int, str] = {}
+    has_kinds: bool = False
+    earlier: Sequence[Earlier] = ()
+
+
+class Roster(NamedTuple):
+    """A problem by names. Pair k is of `persons[of_persons[k]]` and `objects[of_objects[k]]`, no pair twice; `costs[k]`
+    is in units of 10^-decimals. `titles` are the words for a person, an object and a cost. `tasks` and `places` say of
+    persons and of objects how many they take at most, where it isn't one; None where nothing was said. Where bounds
+    alone decide, `least` says of persons and of objects how many they take at least, where it isn't 0. `rounded` says
+    whether any cost was changed by rounding, `has_bom` whether the file began with a BOM, `is_matrix` whether it is a
+    matrix, and `by_persons` whether the pairs stand person by person. `encoding` is that of the file, and `reading` how
+    other files are read. Of the objects in `past` nothing is planned."""
+
+    persons: List[str]
+    objects: List[str]
+    person_numbers: Dict[str, int]
+    object_numbers: Dict[str, int]
+    of_persons: Numbers
+    of_objects: Numbers
+    costs: Numbers
+    decimals: int
+    titles: Tuple[str, str, str]
+    separator: str
+    comma: bool
+    tasks: Optional[Dict[int, int]] = None
+    places: Optional[Dict[int, int]] = None
+    rounded: bool = False
+    has_bom: bool = False
+    is_matrix: bool = False
+    by_persons: bool = False
+    least: Optional[Tuple[Dict[int, int], Dict[int, int]]] = None
+    groups: Optional[Groups] = None
+    encoding: str = "utf-8"
+    reading: Reading = Reading()
+    past: FrozenSet[int] = frozenset()
+
+    @property
+    def ruled(self) -> bool:
+        """Whether names may count several times, or there are groups."""
+        return self.counts or self.groups is not None
+
+    @property
+    def counts(self) -> bool:
+        """Whether names may count several times."""
+        return self.tasks is not None or self.places is not None
+
+    def tasks_of(self, person: int) -> int:
+        """How many objects a person takes."""
+        return 1 if self.tasks is None else self.tasks.get(person, 1)
+
+    def places_of(self, object_: int) -> int:
+        """How many persons an object takes."""
+        return 1 if self.places is None else self.places.get(object_, 1)
+
+    @property
+    def is_full(self) -> bool:
+        """Whether the costs are those of all pairs, person by person, objects rising."""
+        return self.is_matrix and len(self.costs) == len(self.persons) * len(self.objects)
+
+    def costs_of(self, wanted: Set[Tuple[int, int]]) -> Dict[Tuple[int, int], int]:
+        """The costs of those of the wanted pairs that are allowed."""
+        if self.is_full:
+            return {(person, object_): self.costs[person * len(self.objects) + object_] for person, object_ in wanted}
+        if self.by_persons:
+            places = {pair: self._place_of(*pair) for pair in wanted}
+            return {pair: self.costs[place] for pair, place in places.items() if place is not None}
+        keys = {person * MOST_PERSONS + object_ for person, object_ in wanted}
+        found = map(keys.__contains__, map(add, map(mul, self.of_persons, repeat(MOST_PERSONS)), self.of_objects))
+        triples = compress(zip(self.of_persons, self.of_objects, self.costs), found)
+        return {(person, object_): cost for person, object_, cost in triples}
+
+    def _place_of(self, person: int, object_: int) -> Optional[int]:
+        """Where a pair is in the lists, where these stand person by person; None if it is forbidden."""
+        begin, end = bisect_left(self.of_persons, person), bisect_right(self.of_persons, person)
+        own = self.of_objects[begin:end]
+        return begin + own.index(object_) if object_ in own else None
+
+    def shown(self, units: int) -> str:
+        """A cost or a rent as the roster writes it."""
+        return decimal_text(units, self.decimals, "," if self.comma else ".")
+
+
+def alike(names: List[str]) -> List[List[str]]:
+    """The names that differ in case or spaces alone, together."""
+    groups: Dict[str, List[str]] = {}
+    for name in names:
+        groups.setdefault(_bare(name), []).append(name)
+    return [group for group in groups.values() if len(group) > 1]
+
+
+def like(name: str, names: List[str]) -> List[str]:
+    """Names that differ from a name in case, spaces or one letter alone, those of the first kinds if there are any;
+    three at most."""
+    bare = _bare(name)
+    found = [other for other in names if _bare(other) == bare] or [other for other in names
+                                                                   if _is_near(_bare(other), bare)]
+    return found[:3]
+
+
+def _bare(name: str) -> str:
+    return "".join(name.split()).casefold()
+
+
+def _is_near(one: str, other: str) -> bool:
+    """Whether two differ by one letter, or by two neighbours in the other order. A digit makes another name."""
+    longer, shorter = (one, other) if len(one) >= len(other) else (other, one)
+    begin = len(os.path.commonprefix((longer, shorter)))
+    left, right = longer[begin:], shorter[begin:]
+    if len(longer) == len(shorter):
+        is_turned = left[:2] == right[1::-1] and left[2:] == right[2:] and not left[:2].isdigit()
+        return is_turned or left[1:] == right[1:] and not (left[:1] + right[:1]).isdigit()
+    return len(shorter) > 1 and left[1:] == right and not left[0].isdigit()
+
+
+def decimal_text(units: int, decimals: int, point: str) -> str:
+    """A number of units of 10^-decimals."""
+    whole, part = divmod(abs(units), 10**decimals)
+    return ("-" if units < 0 else "") + str(whole) + (f"{point}{part:0{decimals}}" if decimals else "")
+
+
+def looks_like_number(cell: str) -> bool:
+    """Whether a cell might be meant as a number, of any make."""
+    return re.fullmatch(r"[+-]?[0-9., ']*[0-9][0-9., ']*", cell) is not None
+
+
+def form_of(sheet: Sheet) -> str:
+    """Which form a roster has; refused where it might be either."""
+    line, title = sheet.title()
+    if not _may_be_lines(sheet):
+        return MATRIX
+    numbers = words = twice = False
+    seen: Set[str] = set()
+    for _, cells in sheet.body(len(title)):
+        twice = twice or cells[0] in seen
+        seen.add(cells[0])
+        is_number = not cells[1] or looks_like_number(cells[1])
+        numbers, words = numbers or is_number, words or not is_number
+    if are_lines(numbers, words, twice):
+        return LINES
+    sheet.refuse("lines of pairs, or a matrix of two objects? Say --lines or --matrix", line)
+
+
+def are_lines(numbers: bool, words: bool, twice: bool) -> bool:
+    """Whether three columns are lines: the second has words alone, or numbers alone and a person stands twice."""
+    return words and not numbers or twice and not words
+
+
+def read_roster(path: str, form: Optional[str], decimals: Optional[int], comma: bool, rounds: Optional[int] = None,
+                sheet_name: Optional[str] = None, skipped: int = 0, reading: Reading = Reading()) -> Roster:
+    """Reads a roster.
+
+    Parameters
+    ----------
+    path : str
+        A CSV file with a title line, a workbook, `.xlsx`, or one with the name of a sheet, `FILE.xlsx#SHEET`.
+    form : 'lines', 'matrix' or None
+        None takes the form from the file.
+    decimals : int or None
+        How many decimal places costs have at most, 0 to 6; None: as many as the file uses, up to 6.
+    comma : bool
+        Whether costs are written with a decimal comma.
+    rounds : int or None
+        To how many decimal places costs are rounded, in place of `decimals`; None: they are taken exactly.
+    sheet_name : str or None
+        Which sheet of a workbook is read; None: the first.
+    skipped : int
+        How many rows above the titles aren't read.
+    reading : Reading
+        In which encoding text is read, here and in the files about this roster, and where it is said what was read.
+
+    Raises
+    ------
+    RosterFault
+        For the first fault, with its place.
+    OSError
+        Where the file can't be read.
+    """
+    sheet = Sheet(path, comma, sheet_name, skipped, reading)
+    costs = CostColumn(sheet, decimals, comma, rounds)
+    is_matrix = form == MATRIX or form is None and not _may_be_lines(sheet)
+    read = _read_matrix if is_matrix else _read_lines if form else _read_sure_lines
+    titles, persons, objects, of_persons, of_objects = read(sheet, costs)
+    used, scaled = costs.scaled()
+    return Roster(persons.list, objects.list, persons.numbers, objects.numbers, of_persons, of_objects, scaled, used,
+                  titles, sheet.separator, comma, rounded=costs.rounded, has_bom=sheet.has_bom, is_matrix=is_matrix,
+                  by_persons=is_matrix or all(map(le, of_persons, islice(of_persons, 1, None))),
+                  encoding=sheet.encoding, reading=reading)
+
+
+def _may_be_lines(sheet: Sheet) -> bool:
+    _, title = sheet.title()
+    return len(title) == 3 and title[0] != ""
+
+
+def _read_sure_lines(sheet: Sheet, costs: CostColumn) -> Read:
+    """Reads lines, unless they might be a matrix as well: that is refused before any other fault."""
+    try:
+        read = _read_lines(sheet, costs)
+    except RosterFault:
+        form_of(sheet)
+        raise
+    _, persons, objects, of_persons, _ = read
+    found = set(map(looks_like_number, objects.list))
+    if not are_lines(True in found, False in found, len(of_persons) > len(persons.list)):
+        form_of(sheet)
+    return read
+
+
+def _read_lines(sheet: Sheet, costs: CostColumn) -> Read:
+    line, title = sheet.title()
+    if len(title) != 3:
+        fourth = f" ({quoted(title[3])} is a fourth column)" if len(title) > 3 else ""
+        sheet.refuse(f"{len(title)} titles, where a person, an object and a cost are needed{fourth}", line)
+    if looks_like_number(title[2]):
+        sheet.refuse(f"a title line must come first, and {quoted(title[2])} is a number", line, 3)
+    first, second, third = (sheet.name(cell, line, column) if cell else TITLES[column - 1]
+                            for column, cell in enumerate(title, 1))
+    reading = Lines(sheet, costs)
+    try:
+        for lines, columns in sheet.blocks(3):
+            if not reading.take_all(lines, *columns):
+                reading.take_each(lines, *columns)
+    finally:
+        reading.refuse_twice()
+    if not reading.of_persons:
+        sheet.refuse("no line after the title", line)
+    return (first, second, third), reading.persons, reading.objects, reading.of_persons, reading.of_objects
+
+
+class Lines:
+    """The lines of a roster, as they are read."""
+
+    def __init__(self, sheet: Sheet, costs: CostColumn) -> None:
+        self._sheet, self._costs = sheet, costs
+        self.persons, self.objects = Names(sheet, "persons"), Names(sheet, "objects")
+        self.of_persons, self.of_objects = array("I"), array("I")
+        self._pairs = array("q")
+
+    def take_all(self, lines: Sequence[int], persons: Sequence[str], objects: Sequence[str],
+                 costs: Sequence[str]) -> bool:
+        """Takes many lines in one go, if all names are known or plain, and all costs are. Otherwise takes none."""
+        of_persons = self.persons.known(persons)
+        of_objects = None if of_persons is None else self.objects.known(objects)
+        if of_persons is None or of_objects is None or not self._costs.take_plain(costs, lines, repeat(3)):
+            return False
+        self._pairs.extend(map(add, map(mul, of_persons, repeat(MOST_PERSONS)), of_objects))
+        self.of_persons.extend(of_persons)
+        self.of_objects.extend(of_objects)
+        return True
+
+    def take_each(self, lines: Sequence[int], persons: Sequence[str], objects: Sequence[str],
+                  costs: Sequence[str]) -> None:
+        """Takes lines one by one, up to the first that is refused."""
+        for line, *cells in zip(lines, persons, objects, costs):
+            person_name, object_name, cost = map(str.strip, cells)
+            if not (person_name or object_name or cost):
+                continue
+            person, object_ = self.persons.number(person_name, line, 1), self.objects.number(object_name, line, 2)
+            self._pairs.append(person * MOST_PERSONS + object_)
+            self._costs.take(cost, line, 3)
+            self.of_persons.append(person)
+            self.of_objects.append(object_)
+
+    def refuse_twice(self) -> None:
+        """Refuses the first pair of those taken that stands twice."""
+        if len(set(self._pairs)) == len(self._pairs):
+            return
+        lines: Dict[int, int] = {}
+        for pair, (line, cells) in zip(self._pairs, self._sheet.body(3)):
+            before = lines.setdefault(pair, line)
+            if before != line:
+                self._sheet.refuse(f"the pair {cells[0]}, {cells[1]} a second time, after line {before}", line)
+
+
+def _read_matrix(sheet: Sheet, costs: CostColumn) -> Read:
+    first, title = sheet.title()
+    if looks_like_number(title[0]):
+        sheet.refuse(f"the first line and the first column must have names, and {quoted(title[0])} is a number", first,
+                     1)
+    if len(title) < 2:
+        sheet.refuse("no object after the first column", first)
+    persons, objects = Names(sheet, "persons"), Names(sheet, "objects")
+    of_persons, of_objects = array("I"), array("I")
+    for column, name in enumerate(title[1:], 2):
+        objects.once(name, first, column)
+    all_objects, all_columns = array("I", range(len(title) - 1)), range(2, len(title) + 1)
+    for line, cells in sheet.body(len(title)):
+        person = persons.once(cells.pop(0), line, 1)
+        own = all_objects
+        columns: Sequence[int] = all_columns
+        if "" in cells:
+            own, columns = array("I", compress(all_objects, cells)), list(compress(all_columns, cells))
+            cells = list(filter(None, cells))
+        costs.take_all(cells, repeat(line), columns)
+        of_persons.extend(array("I", (person,)) * len(own))
+        of_objects.extend(own)
+    if not persons.list:
+        sheet.refuse("no line after the title", first)
+    corner = sheet.name(title[0], first, 1) if title[0] else TITLES[0]
+    return (corner, *TITLES[1:]), persons, objects, of_persons, of_objects
+
+
+class PlanLine(NamedTuple):
+    """A pair of a plan, and the line where it stands."""
+
+    person: int
+    object: int
+    line: int
+    cost: int
+
+
+def read_plan(path: str, roster: Roster) -> List[PlanLine]:
+    """Reads pairs that are to stand: a title line, and lines of a person and an object, of which further cells aren't
+    read; or a plan in JSON.
+
+    Raises `RosterFault` for the first name that the roster doesn't have, then for the first name that stands more often
+    than it may, then for the first pair that the roster forbids; and `OSError` where the file can't be read.
+    """
+    places = [(_known(path, roster, person, line, 1, 1), _known(path, roster, object_, line, 2, 2), line)
+              for person, object_, line, _ in named_pairs(path, roster)]
+    _refuse_twice(path, roster, places)
+    costs = roster.costs_of({(person, object_) for person, object_, _ in places})
+    for person, object_, line in places:
+        if (person, object_) not in costs:
+            raise RosterFault(path, f"{roster.persons[person]}, {roster.objects[object_]} is a forbidden pair", line)
+    return [PlanLine(person, object_, line, costs[person, object_]) for person, object_, line in places]
+
+
+class NamedPair(NamedTuple):
+    """A pair of a plan by names, the line where it stands, or in JSON its number, and its cost as it is written there,
+    if any is."""
+
+    person: str
+    object: str
+    line: int
+    cost: str
+
+
+class OldPlan(NamedTuple):
+    """An earlier plan, by the file's name: its pairs by names, those that the roster allows, the names that the roster
+    doesn't have, and the pairs of known names that it forbids, each with its line."""
+
+    path: str
+    named: List[NamedPair]
+    known: List[PlanLine]
+    gone: List[str]
+    forbidden: List[Tuple[int, int, int]]
+
+    @property
+    def pairs(self) -> List[Tuple[str, str]]:
+        """All pairs by names."""
+        return [pair[:2] for pair in self.named]
+
+
+def read_old_plan(path: str, roster: Roster, by_counts: bool = True) -> OldPlan:
+    """Reads an earlier plan, as `read_plan` does. Its names may be gone, and its pairs forbidden.
+
+    Raises `RosterFault` for the first name that stands more often than it may, if counts are to be kept, and for a pair
+    that stands twice.
+    """
+    return old_plan_of(path, roster, named_pairs(path, roster), by_counts)
+
+
+def read_hand_plan(path: str, roster: Roster) -> Tuple[OldPlan, List[NamedPair]]:
+    """Reads a plan from elsewhere, whatever rules it breaks: each pair once, and those that stand again."""
+    first: Dict[Tuple[str, str], NamedPair] = {}
+    named = named_pairs(path, roster)
+    repeated = [pair for pair in named if first.setdefault(pair[:2], pair) is not pair]
+    return old_plan_of(path, roster, list(first.values()), False), repeated
+
+
+def old_plan_of(path: str, roster: Roster, named: List[NamedPair], by_counts: bool) -> OldPlan:
+    """An earlier plan as a roster has it now."""
+    gone: Dict[str, None] = {}
+    places = []
+    for person, object_, line, _ in named:
+        gone.update({} if person in roster.person_numbers else {person: None})
+        gone.update({} if object_ in roster.object_numbers else {object_: None})
+        if person in roster.person_numbers and object_ in roster.object_numbers:
+            places.append((roster.person_numbers[person], roster.object_numbers[object_], line))
+    _refuse_twice(path, roster, places, by_counts)
+    costs = roster.costs_of({(person, object_) for person, object_, _ in places})
+    known = [PlanLine(person, object_, line, costs[person, object_]) for person, object_, line in places
+             if (person, object_) in costs]
+    return OldPlan(path, named, known, list(gone), [place for place in places if place[:2] not in costs])
+
+
+def _as_written(names: List[str], numbers: Dict[str, int], name: str) -> str:
+    """A name as the roster writes it, if it has it: dates have several spellings."""
+    return names[numbers[name]] if name in numbers else name
+
+
+def named_pairs(path: str, roster: Roster) -> List[NamedPair]:
+    """The pairs of a plan by names."""
+    pairs = _plan_of_json(path) if is_json(path) else _plan_of_sheet(path, roster)
+    return [NamedPair(_as_written(roster.persons, roster.person_numbers, pair.person),
+                      _as_written(roster.objects, roster.object_numbers, pair.object), pair.line, pair.cost)
+            for pair in pairs]
+
+
+def _plan_of_sheet(path: str, roster: Roster) -> List[NamedPair]:
+    """The pairs of a plan in lines. A third column has costs, unless it is that of groups."""
+    sheet = Sheet(path, roster.comma, reading=roster.reading, preferred=PLAN_SHEET)
+    line, title = sheet.title()
+    if len(title) < 2:
+        sheet.refuse("each line must have a person and an object", line)
+    if title[0] in roster.person_numbers and title[1] in roster.object_numbers:
+        sheet.refuse(f"a title line must come first, and {title[0]}, {title[1]} is a pair", line)
+    change = title.index(CHANGE, len(TITLES)) if CHANGE in title[len(TITLES):] else None
+    has_costs = len(title) > 2 and (roster.groups is None or title[2] != roster.groups.title)
+    return [NamedPair(sheet.name(cells[0], line, 1), sheet.name(cells[1], line, 2), line, cells[2] if has_costs else "")
+            for line, cells in sheet.body(len(title)) if change is None or cells[change] not in (GOES, NOT_POSSIBLE)]
+
+
+def _plan_of_json(path: str) -> List[NamedPair]:
+    with open(path, "rb") as file:
+        data = file.read(MOST_BYTES)
+    try:
+        plan = json.loads(data.decode("utf-8-sig"))
+        pairs, form = list(plan["pairs"]), plan.get("format", FORMAT)
+    except (ValueError, RecursionError, KeyError, TypeError, AttributeError) as fault:
+        raise RosterFault(path, f"no plan with pairs in JSON: {fault}") from fault
+    if form not in range(1, FORMAT + 1):
+        raise RosterFault(path, f"format {form} of a plan in JSON, where 1 to {FORMAT} can be read")
+    return [_pair_of_json(path, pair, number) for number, pair in enumerate(pairs, 1)]
+
+
+def _pair_of_json(path: str, pair: Any, number: int) -> NamedPair:
+    person, object_ = (pair.get(key) if isinstance(pair, dict) else None for key in ("person", "object"))
+    if not isinstance(person, str) or not isinstance(object_, str) or not (person and object_):
+        raise RosterFault(path, "a person and an object are needed, each a text", number)
+    cost = pair.get("cost", "")
+    is_number = isinstance(cost, (str, int, float)) and not isinstance(cost, bool)
+    return NamedPair(unicodedata.normalize("NFC", person), unicodedata.normalize("NFC", object_), number,
+                     str(cost) if is_number else "")
+
+
+def known(sheet: Sheet, roster: Roster, cell: str, line: int, side: int, column: int) -> int:
+    """The number of a person (side 1) or an object that the roster must have, by a cell."""
+    return _known(sheet.path, roster, sheet.name(cell, line, column), line, side, column, sheet.others)
+
+
+def _known(path: str, roster: Roster, name: str, line: int, side: int, column: int, others: str = "") -> int:
+    """The number of a person (side 1) or an object that the roster must have, by name."""
+    numbers = roster.person_numbers if side == 1 else roster.object_numbers
+    if name not in numbers:
+        near = like(name, list(numbers))
+        hint = f": did you mean {' or '.join(map(quoted, near))}?" if near else ""
+        raise RosterFault(path, f"the roster has no {'person' if side == 1 else 'object'} {quoted(name)}{hint}{others}",
+                          line, column)
+    return numbers[name]
+
+
+def _refuse_twice(path: str, roster: Roster, places: List[Tuple[int, int, int]], by_counts: bool = True) -> None:
+    """Refuses a name that stands more often than it may, if counts are to be kept, and a pair that stands twice."""
+    for column, names, most in ((1, roster.persons, roster.tasks_of),
+                                (2, roster.objects, roster.places_of)) if by_counts else ():
+        lines: Dict[int, List[int]] = {}
+        for found in places:
+            number = found[column - 1]
+            before = lines.setdefault(number, [])
+            if len(before) == most(number):
+                often = "a second time" if before[:1] and most(number) == 1 else f"more than {most(number)} times"
+                after = f", after {unit_of(path)} {before[0]}" if before else ""
+                raise RosterFault(path, f"{quoted(names[number])} {often}{after}", found[2], column)
+            before.append(found[2])
+    pairs: Dict[Tuple[int, int], int] = {}
+    for person, object_, line in places:
+        first = pairs.setdefault((person, object_), line)
+        if first != line:
+            named = f"the pair {roster.persons[person]}, {roster.objects[object_]}"
+            raise RosterFault(path, f"{named} a second time, after {unit_of(path)} {first}", line)

@@ -1,0 +1,311 @@
+"""Rules of rosters as planners write them: lines of a rule, its value, and for which names it is."""
+import re
+import unicodedata
+from difflib import get_close_matches
+from fractions import Fraction
+from typing import Callable, Dict, FrozenSet, List, Match, NamedTuple, NoReturn, Optional, Sequence, Tuple
+
+from .dates import dates_of, spellings
+from .month import Month
+from .names import quoted
+from .roster import Roster, like
+from .sheets import RosterFault, Sheet
+
+# Which rule a line is.
+REST, RUN, COUNT, HOURS, FREE, WHOLE, STAFF, APART, TOGETHER, EVEN = (
+    "rest", "run", "count", "hours", "free weekends", "whole weekends", "staff", "apart", "together", "even")
+WEEKLY, MONTHLY = "week", "month"
+# Words for shifts of any kind, in place of a kind.
+ANY = ("shift", "shifts", "day", "days")
+WEEKENDS = "weekend shifts"
+# The rules as they are written, for a hint where one is unknown; KIND is a kind of shifts.
+SHAPES = ("rest", "days in a row", "KIND in a row", "shifts per week", "shifts per month", "KIND per week",
+          "KIND per month", "weekend shifts per month", "hours per week", "hours per month", "free weekends",
+          "whole weekends", "no single", "hours of", "at least 1 on", "at most 1 on", "apart", "together", "holiday",
+          "even")
+NUMBER = r"[0-9]{1,6}(?:[.,][0-9]{1,3})?"
+RANGE = re.compile(rf"(?P<least>{NUMBER})?\s*(?P<dash>[-\u2013])?\s*(?P<most>{NUMBER})?")
+
+
+class Rule(NamedTuple):
+    """A rule: what it is, the sentence that it is, and for which persons.
+
+    `kinds` are the kinds of shifts that it counts, None for all; for rest those of the one day, and `after` those of
+    the next one.
+    """
+
+    what: str
+    sentence: str
+    persons: Tuple[int, ...]
+    kinds: Optional[FrozenSet[str]] = None
+    after: Optional[FrozenSet[str]] = None
+    least: Optional[Fraction] = None
+    most: Optional[Fraction] = None
+    # Of counts and hours: in each week, or in the month; and whether weekends alone count.
+    per: str = MONTHLY
+    of_weekends: bool = False
+
+
+class Rules(NamedTuple):
+    """The rules of a file, the hours of kinds, and the days that count as weekends."""
+
+    path: str
+    rules: Sequence[Rule] = ()
+    hours: Dict[str, Fraction] = {}
+    holidays: FrozenSet[int] = frozenset()
+
+
+class RuleLine(NamedTuple):
+    """A line of the file, its three cells, and where it stands."""
+
+    rule: str
+    value: str
+    names: str
+    line: int
+
+
+def read_rules(path: str, roster: Roster, month: Month) -> Rules:
+    """Reads rules: a title line, and lines of a rule, its value, and names, none for everybody.
+
+    Raises `RosterFault` for the first rule, kind, name or number that can't be read, with its place; `OSError` where
+    the file can't be.
+    """
+    sheet = Sheet(path, roster.comma, reading=roster.reading)
+    line, title = sheet.title()
+    if _shape_of(title[0]) is not None:
+        sheet.refuse(f"a title line must come first, and {quoted(title[0])} is a rule", line, 1)
+    records = sheet.records()
+    next(records)
+    lines = []
+    for line, cells in records:
+        if any(cells[3:]):
+            sheet.refuse(f"{len(cells)} cells, where a rule, a value and names are needed"
+                         + (" (several names in one cell need quotes)" if sheet.separator == "," else ""), line)
+        rule, value, names = (unicodedata.normalize("NFC", cell) for cell in (cells + ["", ""])[:3])
+        lines.append(RuleLine(rule, value, names, line))
+    return rules_of(sheet.path, lines, roster, month)
+
+
+def rules_of(path: str, lines: Sequence[RuleLine], roster: Roster, month: Month) -> Rules:
+    """The rules of some lines."""
+    reader = _RuleReader(path, roster, month)
+    for line in lines:
+        reader.take(line)
+    for rule, line in zip(reader.rules, reader.lines):
+        if rule.what == HOURS:
+            reader.need_hours(line)
+    return Rules(path, tuple(reader.rules), reader.hours, frozenset(reader.holidays))
+
+
+PATTERNS: Sequence[Tuple[str, str]] = (
+    ("rest", "rest"), ("hours of", "hours_of"), ("holiday", "holiday"), ("no single", "no_single"), ("apart", "apart"),
+    ("together", "together"), ("whole weekends?", "whole"), ("free weekends?", "free"), ("even", "even"),
+    (r"at (least|most) ([0-9]{1,4}) on", "staff"), ("(.+) in a row", "run"), ("hours per (week|month)", "per_hours"),
+    ("(.+) per (week|month)", "per"))
+
+
+def _shape_of(text: str) -> Optional[Tuple[str, Match[str]]]:
+    """Which rule a text is."""
+    words = " ".join(text.split())
+    for pattern, name in PATTERNS:
+        found = re.fullmatch(pattern, words, re.IGNORECASE)
+        if found is not None:
+            return name, found
+    return None
+
+
+class _RuleReader:
+    """Rules as they are read."""
+
+    def __init__(self, path: str, roster: Roster, month: Month):
+        self._path, self._roster, self._month = path, roster, month
+        self.rules: List[Rule] = []
+        self.lines: List[RuleLine] = []
+        self.hours: Dict[str, Fraction] = {}
+        self.holidays: List[int] = []
+
+    def take(self, line: RuleLine) -> None:
+        """Takes a line."""
+        found = _shape_of(line.rule)
+        if found is None:
+            self._unknown(line)
+        name, words = found
+        take: Callable[[RuleLine, Match[str]], None] = getattr(self, "_" + name)
+        take(line, words)
+
+    def _refuse(self, line: RuleLine, column: int, text: str) -> NoReturn:
+        raise RosterFault(self._path, text, line.line, column)
+
+    def _unknown(self, line: RuleLine) -> NoReturn:
+        if not line.rule:
+            self._refuse(line, 1, "no rule")
+        shapes = [shape.replace("KIND", kind) for shape in SHAPES
+                  for kind in (self._month.kinds if "KIND" in shape else [""])]
+        near = get_close_matches(line.rule.casefold(), [shape.casefold() for shape in shapes], 1, 0.6)
+        named = [shape for shape in shapes if shape.casefold() in near]
+        self._refuse(line, 1, f"{quoted(line.rule)} is no rule"
+                     + (f": did you mean {quoted(named[0])}?" if named else ""))
+
+    def _kinds(self, line: RuleLine, column: int, text: str) -> Optional[FrozenSet[str]]:
+        """The kinds that a text lists; None where it is all shifts."""
+        known = {kind.casefold(): kind for kind in self._month.kinds}
+        found = set()
+        for word in re.split(r"\s*,\s*", text.strip()):
+            bare = word.casefold()
+            kind = known.get(bare) or known.get(re.sub("s$", "", bare))
+            if kind is None and bare in ANY:
+                return None
+            if kind is None:
+                near = like(word, list(known.values())) or get_close_matches(word, list(known.values()), 1, 0.6)
+                hint = (f": did you mean {quoted(near[0])}?" if near
+                        else f": the kinds are {', '.join(known.values()) or 'none'}")
+                self._refuse(line, column, f"no kind of shift is {quoted(word)}{hint}")
+            found.add(kind)
+        return frozenset(found)
+
+    def _persons(self, line: RuleLine) -> Tuple[int, ...]:
+        """The persons that a line names; everybody where it names none."""
+        numbers = self._roster.person_numbers
+        if not line.names:
+            return tuple(range(len(self._roster.persons)))
+        between = r"\s*[;|]\s*" if re.search("[;|]", line.names) else r"\s*,\s*"
+        names = [line.names] if line.names in numbers else re.split(between, line.names)
+        for name in names:
+            if name not in numbers:
+                near = like(name, self._roster.persons)
+                hint = f": did you mean {' or '.join(map(quoted, near))}?" if near else ""
+                self._refuse(line, 3, f"the roster has no person {quoted(name)}{hint}" if name else "an empty name")
+        return tuple(dict.fromkeys(numbers[name] for name in names))
+
+    def _bounds(self, line: RuleLine, is_whole: bool = True, is_least: bool = False) -> Tuple[Optional[Fraction],
+                                                                                              Optional[Fraction]]:
+        """At least and at most so many. One number is the most, or with `is_least` the least."""
+        found = RANGE.fullmatch(line.value)
+        if found is None or not (found["least"] or found["most"]):
+            self._refuse(line, 2, f"{quoted(line.value)} is no number, and no range such as 2-5" if line.value
+                         else "no number")
+        least, most = (None if text is None else Fraction(text.replace(",", "."))
+                       for text in (found["least"], found["most"]))
+        if not found["dash"]:
+            if least is None or most is not None:
+                self._refuse(line, 2, f"{quoted(line.value)} is no number, and no range such as 2-5")
+            least, most = (least, None) if is_least else (None, least)
+        if is_whole and any(bound is not None and bound.denominator > 1 for bound in (least, most)):
+            self._refuse(line, 2, f"{quoted(line.value)}: whole numbers are needed")
+        if least is not None and most is not None and least > most:
+            self._refuse(line, 2, f"{quoted(line.value)}: the second number can't be less")
+        return least, most
+
+    def _add(self, line: RuleLine, rule: Rule) -> None:
+        self.rules.append(rule)
+        self.lines.append(line)
+
+    def _no_value(self, line: RuleLine) -> None:
+        """Refuses a value, where the rule takes none but `yes`."""
+        if line.value.casefold() not in ("", "yes"):
+            self._refuse(line, 2, f"{quoted(line.value)}, where {quoted(line.rule)} has no value")
+
+    def _several(self, line: RuleLine, count: int = 2) -> Tuple[int, ...]:
+        persons = self._persons(line)
+        if not line.names or len(persons) < count:
+            self._refuse(line, 3, f"{count} names are needed" if count > 1 else "a name is needed")
+        return persons
+
+    def _rest(self, line: RuleLine, words: Match[str]) -> None:
+        first, arrow, second = line.value.partition(">")
+        if not (arrow and first.strip() and second.strip()):
+            self._refuse(line, 2, f"{quoted(line.value)}, where two kinds are needed, such as Late > Early")
+        one, other = (self._kinds(line, 2, text) or frozenset(self._month.kinds) for text in (first, second))
+        self._add(line, Rule(REST, f"rest: {line.value}", self._persons(line), one, other))
+
+    def _run(self, line: RuleLine, words: Match[str]) -> None:
+        least, most = self._bounds(line)
+        self._add(line, Rule(RUN, _sentence(line), self._persons(line), self._kinds(line, 1, words[1]), None, least,
+                             most))
+
+    def _no_single(self, line: RuleLine, words: Match[str]) -> None:
+        self._add(line, Rule(RUN, _sentence(line), self._persons(line), self._kinds(line, 2, line.value), None,
+                             Fraction(2)))
+
+    def _per(self, line: RuleLine, words: Match[str]) -> None:
+        least, most = self._bounds(line)
+        of_weekends = words[1].casefold() == WEEKENDS
+        kinds = None if of_weekends else self._kinds(line, 1, words[1])
+        self._add(line, Rule(COUNT, _sentence(line), self._persons(line), kinds, None, least, most, words[2].casefold(),
+                             of_weekends))
+
+    def _per_hours(self, line: RuleLine, words: Match[str]) -> None:
+        least, most = self._bounds(line, False)
+        self._add(line, Rule(HOURS, _sentence(line), self._persons(line), None, None, least, most, words[1].casefold()))
+
+    def _free(self, line: RuleLine, words: Match[str]) -> None:
+        least, most = self._bounds(line, True, True)
+        self._add(line, Rule(FREE, _sentence(line), self._persons(line), None, None, least, most))
+
+    def _whole(self, line: RuleLine, words: Match[str]) -> None:
+        self._no_value(line)
+        self._add(line, Rule(WHOLE, "whole weekends", self._persons(line)))
+
+    def _staff(self, line: RuleLine, words: Match[str]) -> None:
+        text = re.sub("^each *", "", line.value, flags=re.IGNORECASE)
+        kinds = self._kinds(line, 2, text) if text else None
+        persons, count = self._several(line, 1), Fraction(words[2])
+        side = words[1].casefold()
+        least, most = (count, None) if side == "least" else (None, count)
+        who = ", ".join(self._roster.persons[person] for person in persons)
+        self._add(line, Rule(STAFF, f"at {side} {words[2]} of {who} on {line.value or 'each'}", persons, kinds, None,
+                             least, most))
+
+    def _apart(self, line: RuleLine, words: Match[str]) -> None:
+        self._with_others(line, APART)
+
+    def _together(self, line: RuleLine, words: Match[str]) -> None:
+        self._with_others(line, TOGETHER)
+
+    def _with_others(self, line: RuleLine, what: str) -> None:
+        self._no_value(line)
+        persons = self._several(line)
+        self._add(line, Rule(what, f"{what}: {', '.join(self._roster.persons[person] for person in persons)}", persons))
+
+    def _even(self, line: RuleLine, words: Match[str]) -> None:
+        of_weekends = line.value.casefold() == WEEKENDS
+        kinds = None if of_weekends else self._kinds(line, 2, line.value)
+        self._add(line, Rule(EVEN, f"even: {line.value}", self._persons(line), kinds, of_weekends=of_weekends))
+
+    def _hours_of(self, line: RuleLine, words: Match[str]) -> None:
+        found = re.fullmatch(rf"(.+?)\s+({NUMBER})(?:\s*h)?", line.value)
+        if found is None:
+            self._refuse(line, 2, f"{quoted(line.value)}, where a kind and its hours are needed, such as Early 7.7")
+        if line.names:
+            self._refuse(line, 3, "hours of a kind are for everybody")
+        for kind in self._kinds(line, 2, found[1]) or self._month.kinds:
+            if kind in self.hours:
+                self._refuse(line, 2, f"the hours of {quoted(kind)} a second time")
+            self.hours[kind] = Fraction(found[2].replace(",", "."))
+
+    def _holiday(self, line: RuleLine, words: Match[str]) -> None:
+        if line.names:
+            self._refuse(line, 3, "a holiday is for everybody")
+        days = {spelling: day for day, name in self._month.names.items() for spelling in spellings(name)}
+        day = days.get(line.value)
+        if day is None and self._month.are_dates:
+            dates = dates_of([*self._month.names.values(), line.value]).all
+            day = None if dates is None else dates[-1].toordinal()
+        if day is None:
+            self._refuse(line, 2, f"{quoted(line.value)} is no day of the roster"
+                         + (", and no date" if self._month.are_dates else ""))
+        self.holidays.append(day)
+
+    def need_hours(self, line: RuleLine) -> None:
+        """Refuses a rule of hours where any shift has none."""
+        shifts = [*self._month.shifts.values(), *(shift for own in self._month.worked.values() for shift in own)]
+        for shift in shifts:
+            if shift.kind not in self.hours and shift.times is None:
+                named = f"of the kind {quoted(shift.kind)}" if shift.kind else "of shifts without a kind"
+                self._refuse(line, 1, f"the hours {named} aren't known: a rule 'hours of', or columns from and to in "
+                             "the groups' file")
+
+
+def _sentence(line: RuleLine) -> str:
+    """The rule and its value as they are written."""
+    return f"{' '.join(line.rule.split())}: {' '.join(line.value.split())}"

@@ -1,0 +1,210 @@
+"""Rows of a model that say rules: for each rule a function that makes its rows."""
+from fractions import Fraction
+from typing import Callable, Dict, FrozenSet, Iterator, List, NamedTuple, Sequence, Set, Tuple
+
+from ..counts.nodes import Bounds
+from .month import Month, Shift
+from .roster import Roster
+from .rule_file import APART, COUNT, EVEN, FREE, HOURS, REST, RUN, STAFF, TOGETHER, WEEKLY, WHOLE, Rule, Rules
+from .sums import Rows, Said, Sum, Work
+
+# The kinds of a day and of the next one, of which a person has at most one.
+Clique = Tuple[FrozenSet[str], FrozenSet[str]]
+
+
+class Making(NamedTuple):
+    """What the rows of rules are made from."""
+
+    roster: Roster
+    rules: Rules
+    work: Work
+    rows: Rows
+    # How many persons each object takes.
+    places: Sequence[Bounds] = ()
+
+    @property
+    def month(self) -> Month:
+        return self.work.month
+
+    def said(self, rule: Rule, person: int) -> Said:
+        return Said(rule.sentence, self.roster.persons[person])
+
+    def hours(self, shift: Shift) -> Fraction:
+        return hours_of(self.rules, shift)
+
+
+def hours_of(rules: Rules, shift: Shift) -> Fraction:
+    """How long a shift is: as the rules say, or by its times."""
+    if shift.kind in rules.hours:
+        return rules.hours[shift.kind]
+    if shift.times is None:
+        raise ValueError("a shift without hours")
+    return Fraction(shift.times.end - shift.times.begin, 60)
+
+
+def add_rules(making: Making) -> None:
+    """Adds the rows of all rules, except of those of evenness."""
+    _rest(making, [rule for rule in making.rules.rules if rule.what == REST])
+    for rule in making.rules.rules:
+        if rule.what not in (REST, EVEN):
+            MAKERS[rule.what](making, rule)
+
+
+def _rest(making: Making, rules: Sequence[Rule]) -> None:
+    """After a shift of one kind none of another one the day after. Several rules make common rows, which say more in
+    fractions."""
+    pairs: Dict[int, Set[Tuple[str, str]]] = {}
+    for rule in rules:
+        for person in rule.persons:
+            pairs.setdefault(person, set()).update((one, other) for one in rule.kinds or () for other in rule.after
+                                                   or ())
+    cliques = {frozenset(own): _cliques(own) for own in pairs.values()}
+    month = making.month
+    for person, own in sorted(pairs.items()):
+        for one, other in cliques[frozenset(own)]:
+            said = Said(f"rest: no {' or '.join(sorted(other))} the day after {' or '.join(sorted(one))}",
+                        making.roster.persons[person])
+            for day in range(month.known, month.last):
+                both = making.work.sum(person, [day + 1], other, 1, making.work.sum(person, [day], one))
+                making.rows.add(both, None, 1, said, person)
+
+
+def _cliques(pairs: Set[Tuple[str, str]]) -> List[Clique]:
+    """Sets of kinds, each forbidden after each of others, as large as can be around the others of one kind; all pairs
+    are in one."""
+    after = {one: frozenset(b for a, b in pairs if a == one) for one, _ in pairs}
+    before = {other: frozenset(a for a, b in pairs if b == other) for _, other in pairs}
+    of_one = [(frozenset(a for a in after if after[a] >= own), own) for own in after.values()]
+    of_other = [(own, frozenset(b for b in before if before[b] >= own)) for own in before.values()]
+    return sorted({*of_one, *of_other}, key=lambda clique: (sorted(clique[0]), sorted(clique[1])))
+
+
+def _run(making: Making, rule: Rule) -> None:
+    """So many days one after the other at least and at most."""
+    for person in rule.persons:
+        if rule.most is not None:
+            _longest(making, rule, person, int(rule.most))
+        if rule.least is not None:
+            _shortest(making, rule, person, int(rule.least))
+
+
+def _longest(making: Making, rule: Rule, person: int, most: int) -> None:
+    month = making.month
+    for day in range(month.known, month.last + 1 - most):
+        own = making.work.sum(person, range(day, day + most + 1), rule.kinds)
+        making.rows.add(own, None, most, making.said(rule, person), person)
+
+
+def _shortest(making: Making, rule: Rule, person: int, least: int) -> None:
+    """Who has a shift on a day, and had none the day before, has one on each of the next days. What is before the first
+    day, and after the last one, isn't known."""
+    month, work = making.month, making.work
+    for day in range(month.known + 1, month.last + 1):
+        next_days = range(day + 1, min(day + least, month.last + 1))
+        if any(month.is_past(other) and not work.had(person, other, rule.kinds) for other in next_days):
+            continue
+        for other in next_days:
+            own = work.sum(person, [day - 1, other], rule.kinds, -1, work.sum(person, [day], rule.kinds))
+            making.rows.add(own, None, 0, making.said(rule, person), person)
+
+
+def spans_of(month: Month, rule: Rule) -> Iterator[Tuple[List[int], bool]]:
+    """The days in which a rule counts, and whether its least number is one there: not in a week of which days aren't
+    known."""
+    if rule.per == WEEKLY:
+        spans = [(week.days, week.is_whole) for week in month.weeks]
+    else:
+        spans = [(list(month.days), True)]
+    for days, is_whole in spans:
+        yield [day for day in days if not rule.of_weekends or month.is_weekend(day)], is_whole
+
+
+def _count(making: Making, rule: Rule) -> None:
+    """So many shifts in a week or in the month."""
+    for person in rule.persons:
+        for days, is_whole in spans_of(making.month, rule):
+            own = making.work.sum(person, days, rule.kinds)
+            making.rows.add(own, rule.least if is_whole else None, rule.most, making.said(rule, person), person)
+
+
+def _hours(making: Making, rule: Rule) -> None:
+    """So many hours in a week or in the month."""
+    for person in rule.persons:
+        for days, is_whole in spans_of(making.month, rule):
+            own = making.work.sum(person, days, weight=making.hours)
+            making.rows.add(own, rule.least if is_whole else None, rule.most, making.said(rule, person), person)
+
+
+def _free(making: Making, rule: Rule) -> None:
+    """So many weekends without a shift: a variable for each that is free."""
+    weekends = making.month.weekends
+    if all(making.month.is_past(days[-1]) for days in weekends):
+        return
+    for person in rule.persons:
+        said, free = making.said(rule, person), Sum()
+        for days in weekends:
+            variable = making.rows.helper(person)
+            free.add(variable)
+            for day in days:
+                making.rows.add(making.work.sum(person, [day]).add(variable), None, 1, said, person)
+            if rule.most is not None:
+                making.rows.add(making.work.sum(person, days).add(variable), 1, None, said, person)
+        making.rows.add(free, rule.least, rule.most, said, person)
+
+
+def _whole(making: Making, rule: Rule) -> None:
+    """All days of a weekend or none, as far as they have shifts."""
+    month = making.month
+    for person in rule.persons:
+        for weekend in month.weekends:
+            days = working_days(month, weekend)
+            for day, other in zip(days, days[1:]):
+                own = making.work.sum(person, [other], None, -1, making.work.sum(person, [day]))
+                making.rows.add(own, 0, 0, making.said(rule, person), person)
+
+
+def working_days(month: Month, days: Sequence[int]) -> List[int]:
+    """Those days that have shifts."""
+    held = {shift.day for shift in month.shifts.values()} | {day for _, day in month.worked}
+    return [day for day in days if day in held]
+
+
+def _staff(making: Making, rule: Rule) -> None:
+    """So many of some persons at each object, if it takes anybody."""
+    for object_ in making.work.objects(rule.kinds):
+        if making.roster.places_of(object_) > 0:
+            making.rows.add(_at(making, rule.persons, object_), rule.least, rule.most,
+                            Said(rule.sentence, making.roster.objects[object_]))
+
+
+def _apart(making: Making, rule: Rule) -> None:
+    """At most one of some persons at an object."""
+    for object_ in making.work.objects(None):
+        making.rows.add(_at(making, rule.persons, object_), None, 1,
+                        Said(rule.sentence, making.roster.objects[object_]))
+
+
+def _together(making: Making, rule: Rule) -> None:
+    """All of some persons at an object, or none."""
+    for object_ in making.work.objects(None):
+        for person, other in zip(rule.persons, rule.persons[1:]):
+            own = _at(making, [person], object_)
+            variable = making.work.variables.get((other, object_))
+            if variable is not None:
+                own.add(variable, -1)
+            making.rows.add(own, 0, 0, Said(rule.sentence, making.roster.objects[object_]))
+
+
+def _at(making: Making, persons: Sequence[int], object_: int) -> Sum:
+    """How many of some persons an object has."""
+    found = Sum()
+    found.is_open = True
+    for person in persons:
+        variable = making.work.variables.get((person, object_))
+        if variable is not None:
+            found.add(variable)
+    return found
+
+
+MAKERS: Dict[str, Callable[[Making, Rule], None]] = {RUN: _run, COUNT: _count, HOURS: _hours, FREE: _free,
+                                                     WHOLE: _whole, STAFF: _staff, APART: _apart, TOGETHER: _together}

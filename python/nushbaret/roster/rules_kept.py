@@ -1,0 +1,235 @@
+"""Which rules of a file a plan breaks: it looks at days and kinds, never at the rows that say the rules to the
+solver."""
+from fractions import Fraction
+from typing import Callable, Dict, Iterable, Iterator, List, NamedTuple, Optional, Sequence, Set, Tuple
+
+from .groups import Broken, Paired
+from .month import WEEK, Month, Shift
+from .names import joined
+from .roster import Roster
+from .rule_file import APART, COUNT, EVEN, FREE, HOURS, REST, RUN, STAFF, TOGETHER, WEEKLY, WHOLE, Rule, Rules
+from .rule_rows import hours_of
+from .sums import Kinds, is_of
+
+# A shift that a person has, and its object, where the roster has it.
+Had = Tuple[Shift, Optional[int]]
+
+
+class DailyPlan(NamedTuple):
+    """A plan by persons and days, who is at which object, and where somebody may be planned."""
+
+    roster: Roster
+    rules: Rules
+    month: Month
+    had: Dict[Tuple[int, int], List[Had]]
+    who: Dict[int, Set[int]]
+    allowed: Dict[Tuple[int, int], Set[str]]
+
+    def on(self, person: int, day: int, kinds: Kinds = None) -> List[Had]:
+        """What a person has on a day, of some kinds."""
+        return [(shift, object_) for shift, object_ in self.had.get((person, day), ()) if is_of(shift, kinds)]
+
+    def all_on(self, person: int, days: Iterable[int], kinds: Kinds = None) -> List[Had]:
+        """What a person has on days, of some kinds."""
+        return [own for day in days for own in self.on(person, day, kinds)]
+
+    def may(self, person: int, day: int, kinds: Kinds) -> bool:
+        """Whether a person may be planned on a day, at any of some kinds."""
+        own = self.allowed.get((person, day), set())
+        return bool(own) if kinds is None else not own.isdisjoint(kinds)
+
+    def broken(self, rule: Rule, persons: Sequence[int], objects: Iterable[Optional[int]], text: str) -> Broken:
+        """That a rule is broken by some persons at some objects."""
+        names = [self.roster.objects[object_] for object_ in objects if object_ is not None]
+        return Broken(rule.what, [self.roster.persons[person] for person in persons], names,
+                      f"{text} ({rule.sentence})")
+
+    def called(self, own: Had) -> str:
+        """What a shift is called: its object's name; of an earlier day its kind and day."""
+        shift, object_ = own
+        return f"{shift.kind} {self.month.name(shift.day)}".strip() if object_ is None else self.roster.objects[object_]
+
+
+def plan_of(roster: Roster, rules: Rules, month: Month, pairs: Sequence[Paired]) -> DailyPlan:
+    """A plan by days. Objects in no group have no day, and no rule is about them."""
+    had: Dict[Tuple[int, int], List[Had]] = {spot: [(shift, None) for shift in shifts]
+                                             for spot, shifts in month.worked.items()}
+    who: Dict[int, Set[int]] = {}
+    for pair in pairs:
+        who.setdefault(pair.object, set()).add(pair.person)
+        shift = month.shifts.get(pair.object)
+        if shift is not None:
+            had.setdefault((pair.person, shift.day), []).append((shift, pair.object))
+    allowed: Dict[Tuple[int, int], Set[str]] = {}
+    for person, object_ in zip(roster.of_persons, roster.of_objects):
+        if object_ in month.shifts:
+            allowed.setdefault((person, month.shifts[object_].day), set()).add(month.shifts[object_].kind)
+    return DailyPlan(roster, rules, month, had, who, allowed)
+
+
+def broken_by(plan: DailyPlan) -> List[Broken]:
+    """The rules that a plan breaks, in the order of the file. What the past alone breaks isn't there, since nobody can
+    mend it."""
+    found: Dict[Tuple[str, str], Broken] = {}
+    for rule in plan.rules.rules:
+        if rule.what != EVEN:
+            for broken in READERS[rule.what](plan, rule):
+                found.setdefault((broken.rule, broken.sentence), broken)
+    return list(found.values())
+
+
+def _rest(plan: DailyPlan, rule: Rule) -> Iterator[Broken]:
+    month = plan.month
+    for person in rule.persons:
+        for day in range(month.known, month.last):
+            first, second = plan.on(person, day, rule.kinds), plan.on(person, day + 1, rule.after)
+            if first and second and not month.is_past(day + 1):
+                text = f"{plan.roster.persons[person]}: {plan.called(second[0])} after {plan.called(first[0])}"
+                yield plan.broken(rule, [person], [first[0][1], second[0][1]], text)
+
+
+def _runs(plan: DailyPlan, person: int, kinds: Kinds) -> Iterator[range]:
+    """The days one after the other on which a person has shifts of some kinds, as long as they are."""
+    days = [day for day in range(plan.month.known, plan.month.last + 1) if plan.on(person, day, kinds)]
+    begin = 0
+    for place in range(1, len(days) + 1):
+        if place == len(days) or days[place] != days[place - 1] + 1:
+            yield range(days[begin], days[place - 1] + 1)
+            begin = place
+
+
+def _run(plan: DailyPlan, rule: Rule) -> Iterator[Broken]:
+    for person in rule.persons:
+        for run in _runs(plan, person, rule.kinds):
+            is_long = rule.most is not None and len(run) > rule.most and not plan.month.is_past(run[-1])
+            is_short = rule.least is not None and len(run) < rule.least and _is_cut(plan, rule, person, run)
+            if is_long or is_short:
+                text = f"{plan.roster.persons[person]}: {len(run)} in a row, {_from_to(plan.month, run)}"
+                yield plan.broken(rule, [person], [object_ for _, object_ in plan.all_on(person, run, rule.kinds)],
+                                  text)
+
+
+def _is_cut(plan: DailyPlan, rule: Rule, person: int, run: range) -> bool:
+    """Whether a run that is too short could be longer: days before the first, and after the last one, aren't known, and
+    what ended in the past or can't go on is as it is."""
+    month = plan.month
+    if run[0] == month.known or run[-1] == month.last or month.is_past(run[-1] + 1):
+        return False
+    if not month.is_past(run[0]):
+        return True
+    missing = range(run[-1] + 1, min(run[0] + int(rule.least or 0), month.last + 1))
+    return any(plan.may(person, day, rule.kinds) and not plan.on(person, day, rule.kinds) for day in missing)
+
+
+def _from_to(month: Month, days: Sequence[int]) -> str:
+    return month.name(days[0]) + (f" to {month.name(days[-1])}" if len(days) > 1 else "")
+
+
+def _spans(plan: DailyPlan, rule: Rule) -> Iterator[Tuple[str, List[int], bool]]:
+    """The weeks, or the month, with a name, its days, and whether all days are known."""
+    month = plan.month
+    if rule.per != WEEKLY:
+        yield "", list(month.days), True
+        return
+    # The ordinal 1 of a date is a Monday.
+    first = month.known - (month.known - 1 if month.are_dates else month.known) % WEEK
+    for monday in range(first, month.last + 1, WEEK):
+        if monday + WEEK > month.begin:
+            days = [day for day in range(monday, monday + WEEK) if month.known <= day <= month.last]
+            yield f" in the week of {month.name(days[0])}", days, len(days) == WEEK
+
+
+def _bounded(plan: DailyPlan, rule: Rule, of: Callable[[Sequence[Had]], Fraction], word: str) -> Iterator[Broken]:
+    """Counts or hours outside of their bounds, in weeks or in the month."""
+    month = plan.month
+    for person in rule.persons:
+        for where, days, is_whole in _spans(plan, rule):
+            days = [day for day in days if not rule.of_weekends or month.is_weekend(day)]
+            own, still = plan.all_on(person, days, rule.kinds), [day for day in days if not month.is_past(day)]
+            total, planned = of(own), of(plan.all_on(person, still, rule.kinds))
+            too_many = rule.most is not None and total > rule.most and planned > 0
+            too_few = is_whole and rule.least is not None and total < rule.least and bool(still)
+            if too_many or too_few:
+                text = f"{plan.roster.persons[person]}: {_decimal(total)} {word}{where}"
+                yield plan.broken(rule, [person], [object_ for _, object_ in own], text)
+
+
+def _decimal(number: Fraction) -> str:
+    """A number as people write it, to two places."""
+    return str(number.numerator) if number.denominator == 1 else f"{float(number):.2f}".rstrip("0")
+
+
+def _count(plan: DailyPlan, rule: Rule) -> Iterator[Broken]:
+    word = "/".join(sorted(rule.kinds)) if rule.kinds else "weekend shifts" if rule.of_weekends else "shifts"
+    return _bounded(plan, rule, lambda own: Fraction(len(own)), word)
+
+
+def _hours(plan: DailyPlan, rule: Rule) -> Iterator[Broken]:
+    return _bounded(plan, rule, lambda own: sum((hours_of(plan.rules, shift) for shift, _ in own), Fraction(0)),
+                    "hours")
+
+
+def _free(plan: DailyPlan, rule: Rule) -> Iterator[Broken]:
+    weekends = plan.month.weekends
+    if all(plan.month.is_past(days[-1]) for days in weekends):
+        return
+    for person in rule.persons:
+        worked = [days for days in weekends if plan.all_on(person, days)]
+        free = len(weekends) - len(worked)
+        if rule.least is not None and free < rule.least or rule.most is not None and free > rule.most:
+            objects = [object_ for days in worked for _, object_ in plan.all_on(person, days)]
+            yield plan.broken(rule, [person], objects, f"{plan.roster.persons[person]}: {free} free "
+                              f"weekend{'' if free == 1 else 's'}")
+
+
+def _whole(plan: DailyPlan, rule: Rule) -> Iterator[Broken]:
+    month = plan.month
+    held = {shift.day for shift in month.shifts.values()} | {day for _, day in month.worked}
+    for person in rule.persons:
+        for weekend in month.weekends:
+            days = [day for day in weekend if day in held]
+            for day, other in zip(days, days[1:]):
+                own, others = plan.on(person, day), plan.on(person, other)
+                can_mend = not month.is_past(other) and not (own and month.is_past(day)
+                                                             and not plan.may(person, other, None))
+                if len(own) != len(others) and can_mend:
+                    there, gone = (own, other) if own else (others, day)
+                    text = f"{plan.roster.persons[person]}: {plan.called(there[0])}, and none on {month.name(gone)}"
+                    yield plan.broken(rule, [person], [there[0][1]], text)
+
+
+def _planned(plan: DailyPlan, kinds: Kinds) -> Iterator[int]:
+    """The objects of some kinds that aren't past."""
+    return (object_ for object_, shift in plan.month.shifts.items() if is_of(shift, kinds)
+            and not plan.month.is_past(shift.day))
+
+
+def _staff(plan: DailyPlan, rule: Rule) -> Iterator[Broken]:
+    for object_ in _planned(plan, rule.kinds):
+        there = [person for person in rule.persons if person in plan.who.get(object_, ())]
+        is_broken = (rule.least is not None and len(there) < rule.least or rule.most is not None
+                     and len(there) > rule.most)
+        if is_broken and plan.roster.places_of(object_) > 0:
+            names = joined([plan.roster.persons[person] for person in there]) or "none of them"
+            yield plan.broken(rule, there, [object_], f"{plan.roster.objects[object_]}: {names}")
+
+
+def _apart(plan: DailyPlan, rule: Rule) -> Iterator[Broken]:
+    for object_ in _planned(plan, None):
+        there = [person for person in rule.persons if person in plan.who.get(object_, ())]
+        if len(there) > 1:
+            yield plan.broken(rule, there, [object_], f"{plan.roster.objects[object_]}: "
+                              f"{joined([plan.roster.persons[one] for one in there])}")
+
+
+def _together(plan: DailyPlan, rule: Rule) -> Iterator[Broken]:
+    for object_ in _planned(plan, None):
+        there = [person for person in rule.persons if person in plan.who.get(object_, ())]
+        if there and len(there) < len(rule.persons):
+            text = f"{plan.roster.objects[object_]}: {joined([plan.roster.persons[one] for one in there])} alone"
+            yield plan.broken(rule, there, [object_], text)
+
+
+READERS: Dict[str, Callable[[DailyPlan, Rule], Iterator[Broken]]] = {REST: _rest, RUN: _run, COUNT: _count,
+                                                                     HOURS: _hours, FREE: _free, WHOLE: _whole,
+                                                                     STAFF: _staff, APART: _apart, TOGETHER: _together}

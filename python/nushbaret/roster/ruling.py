@@ -1,0 +1,123 @@
+"""The command with rules: what is read, and what is shown while a plan is found."""
+import contextlib
+import signal
+import sys
+import threading
+from typing import Callable, Iterator, List, NamedTuple, Optional, Sequence, Tuple
+
+from .answer import Answer, Request, counted, listed
+from .by_rules import COSTS, Progress, Proved, Task, answer_by_rules
+from .groups import Broken, Paired
+from .month import Before, Month, month_of, undated
+from .output.rule_texts import halves
+from .roster import Roster, named_pairs
+from .rule_file import Rules, read_rules
+from .rules_kept import broken_by, plan_of
+from .words import Options, WordsFault
+
+DEFAULT_SECONDS = 60
+
+
+class Ruling(NamedTuple):
+    """The rules of a roster, and its calendar."""
+
+    month: Month
+    rules: Rules
+
+
+def read_ruling(options: Options, roster: Roster, say: Callable[[str], object]) -> Optional[Ruling]:
+    """The rules that are asked for, if any are."""
+    if options.rules is None or roster.groups is None or options.groups is None:
+        return None
+    before = None
+    if options.before is not None:
+        before = Before(options.before, [(pair.person, pair.object, pair.line)
+                                         for pair in named_pairs(options.before, roster)])
+        for line in _left_out(roster, before):
+            say(line)
+    month = month_of(roster, roster.groups, options.groups, before)
+    rules = read_rules(options.rules, roster, month)
+    return Ruling(month._replace(holidays=rules.holidays), rules)
+
+
+def _left_out(roster: Roster, before: Before) -> Iterator[str]:
+    """What of an earlier plan no rule looks at."""
+    gone = [person for person in dict.fromkeys(person for person, _, _ in before.pairs)
+            if person not in roster.person_numbers]
+    if gone:
+        yield f"{before.path}: the roster has no {listed(gone, list(range(len(gone))))}"
+    names = [] if roster.groups is None else undated(roster.groups, before)
+    if names:
+        shown = listed(names, list(range(len(names))))
+        yield (f"{before.path}: the groups' file doesn't list {counted(len(names), roster.titles[1])} ({shown}): no "
+               "rule looks at them")
+
+
+def broken_rules_of(ruling: Ruling, roster: Roster, pairs: Sequence[Paired]) -> List[Broken]:
+    """The rules of the file that a plan breaks."""
+    return broken_by(plan_of(roster, ruling.rules, ruling.month, pairs))
+
+
+def answered_by(ruling: Ruling, roster: Roster, wish: Request, options: Options) -> Tuple[Answer, Proved]:
+    """The answer, with progress on a terminal.
+
+    Raises `WordsFault` where SciPy isn't installed.
+    """
+    seconds = DEFAULT_SECONDS if options.time is None else options.time
+    with _interruptible(), _shown(roster, options) as progress:
+        try:
+            return answer_by_rules(Task(roster, ruling.month, ruling.rules, wish, seconds, (), progress))
+        except ImportError as fault:
+            raise WordsFault(str(fault)) from fault
+
+
+@contextlib.contextmanager
+def _interruptible() -> Iterator[None]:
+    """Lets Ctrl-C raise, so that what finds in a process of its own is ended too."""
+    is_main = threading.current_thread() is threading.main_thread()
+    if not is_main or signal.getsignal(signal.SIGINT) is not signal.SIG_DFL:
+        yield
+        return
+    signal.signal(signal.SIGINT, signal.default_int_handler)
+    try:
+        yield
+    finally:
+        signal.signal(signal.SIGINT, signal.SIG_DFL)
+
+
+@contextlib.contextmanager
+def _shown(roster: Roster, options: Options) -> Iterator[Optional[Progress]]:
+    """On a terminal a line of progress, which is wiped at the end."""
+    if sys.stderr is None or not sys.stderr.isatty():
+        yield None
+        return
+    widest = [0]
+
+    def show(goal: str, done: str, cost: Optional[int], bound: Optional[int]) -> None:
+        line = progress_line(roster, options, goal, done, cost, bound)
+        widest[0] = max(widest[0], len(line))
+        _put("\r" + line.ljust(widest[0]))
+
+    try:
+        yield show
+    finally:
+        _put("\r" + " " * widest[0] + "\r")
+
+
+def progress_line(roster: Roster, options: Options, goal: str, done: str, cost: Optional[int],
+                  bound: Optional[int]) -> str:
+    """A goal, what is being done, the best plan so far, and what is proved of all plans; other goals than costs count
+    from 0."""
+    def shown(units: int) -> str:
+        own = -units if options.max else units
+        return str(units) if goal != COSTS else halves(roster,
+                                                       own) if options.change_cost is not None else roster.shown(own)
+    parts = [f"{goal}: {done}"] + [f"found {shown(cost)}" for cost in [cost] if cost is not None]
+    side = "at most" if options.max and goal == COSTS else "at least"
+    return ", ".join(parts if bound is None else [*parts, f"proved {side} {shown(bound)}"])
+
+
+def _put(text: str) -> None:
+    with contextlib.suppress(OSError):
+        sys.stderr.write(text)
+        sys.stderr.flush()

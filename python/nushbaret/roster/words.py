@@ -1,0 +1,405 @@
+"""The words of the command: one table of options, from which the parser and the help come."""
+import argparse
+import contextlib
+import os
+import re
+import sys
+from typing import Any, Callable, Dict, NamedTuple, NoReturn, Optional, Sequence, Tuple
+
+from ..costs.reading import MOST_PLACES
+from ..lap.library import VERSION
+from .encodings import WESTERN
+from .files import KINDS, Output, OutputFault, print_content
+from .roster import LINES, MATRIX
+from .sheets import file_and_sheet
+
+NAME = "nushbaret"
+MOST_PLANS = 1000
+SUMMARY = "Find the plan of least cost for a roster of names in a CSV file, or who is short of what."
+STATUSES = ("Status 0: a plan; 1: there is none; 2: these words are refused; 3: a file's content is; 4: a file can't "
+            "be read or written, an output exists, the library isn't there, or memory was refused; 6: not decided in "
+            "time. Ctrl-C: 130.")
+ROSTER = ("a CSV file (- is standard input) or an .xlsx workbook, with a title line: a person, an object and a cost in "
+          "each line, or a matrix with names in the first line and column, where an empty cell forbids a pair")
+
+
+class WordsFault(Exception):
+    """Why words can't be followed here: what they need isn't installed."""
+
+
+class Value(NamedTuple):
+    """What stands after an option: how the help calls it; a file, and with which ends of its name; or one of some
+    words. `read` makes it of the word."""
+
+    name: str
+    is_file: bool = False
+    ends: Tuple[str, ...] = ()
+    choices: Tuple[str, ...] = ()
+    read: Callable[[str], Any] = str
+
+
+class Option(NamedTuple):
+    """An option: its word; what it does, in the words of the help; the section of the help; the field of Options that
+    it sets; what stands after it, None for nothing; what it sets where nothing does; whether it may stand several
+    times; and what is set where it doesn't stand. Of the options of one `choice` only one may stand. `short` is a word
+    of one letter for it."""
+
+    word: str
+    help: str
+    section: str
+    field: str
+    value: Optional[Value] = None
+    sets: Any = True
+    repeats: bool = False
+    choice: str = ""
+    default: Any = None
+    short: str = ""
+
+
+class Options(NamedTuple):
+    """What was asked for: the roster, and a field for each option."""
+
+    roster: str
+    form: Optional[str]
+    decimals: Optional[int]
+    round: Optional[int]
+    decimal_comma: bool
+    places: Optional[str]
+    tasks: Optional[str]
+    groups: Optional[str]
+    rules: Optional[str]
+    before: Optional[str]
+    encoding: Optional[str]
+    sheet: Optional[str]
+    skip_rows: int
+    max: bool
+    fair: bool
+    fixed: Optional[str]
+    as_many_as_can: bool
+    keep: Optional[str]
+    past: Optional[str]
+    change_cost: Optional[str]
+    time: Optional[int]
+    compare: Optional[str]
+    others: bool
+    plans: int
+    rents: bool
+    print: Optional[str]
+    outputs: Sequence[Output]
+    plan_only: bool
+    each: Optional[str]
+    certificate: Optional[str]
+    quiet: bool
+    force: bool
+
+
+def _output(path: str) -> Output:
+    kind = os.path.splitext(path)[1][1:].lower()
+    if kind not in KINDS:
+        raise argparse.ArgumentTypeError(f"{path!r} ends in none of .csv, .json, .html and .xlsx")
+    return Output(path, kind)
+
+
+def _page(path: str) -> Output:
+    return Output(path, "html")
+
+
+def _number(least: int, most: int) -> Callable[[str], int]:
+    """What reads a whole number of a range."""
+    def read(word: str) -> int:
+        if not (word.isascii() and word.isdigit() and len(word) < 10 and least <= int(word) <= most):
+            raise argparse.ArgumentTypeError(f"{word!r} is no number from {least} to {most}")
+        return int(word)
+    return read
+
+
+def _encoding(word: str) -> str:
+    """The name of an encoding that Python has."""
+    with contextlib.suppress(UnicodeError):
+        try:
+            b" ".decode(word)
+        except LookupError:
+            raise argparse.ArgumentTypeError(f"{word!r} is no encoding that Python has, such as Windows-1252 or "
+                                             "UTF-8") from None
+    return word
+
+
+PLACES = tuple(map(str, range(MOST_PLACES + 1)))
+COUNT_OF_PLACES = Value("K", choices=PLACES, read=_number(0, MOST_PLACES))
+PLAN = Value("PLAN", True, (".csv", ".json", ".xlsx"))
+COUNTS = Value("FILE.csv", True, (".csv", ".xlsx"))
+
+READING, COUNTING, PLANNING, SHOWING, WRITING = ("The roster", "Counts and rules", "The plan", "What is printed",
+                                                 "What is written")
+SECTIONS = (READING, COUNTING, PLANNING, SHOWING, WRITING)
+
+OPTIONS = (Option("--lines", "the roster has lines", READING, "form", sets=LINES, choice="form"),
+           Option("--matrix", "the roster is a matrix", READING, "form", sets=MATRIX, choice="form"),
+           Option("--decimals", f"costs have at most K decimal places, 0 to {MOST_PLACES} (else as many as the roster "
+                  "uses)", READING, "decimals", COUNT_OF_PLACES, choice="places"),
+           Option("--round", "round costs to K decimal places, and say by how much that may matter", READING, "round",
+                  COUNT_OF_PLACES, choice="places"), Option("--decimal-comma", "costs are written as 2,50", READING,
+                                                            "decimal_comma"),
+           Option("--encoding", f"files of text are in this encoding (else UTF-8, or plain {WESTERN})", READING,
+                  "encoding", Value("NAME", read=_encoding)), Option("--sheet", "read this sheet of the roster's "
+                                                                     "workbook (else the first); FILE.xlsx#SHEET names "
+                                                                     "one of any file", READING, "sheet",
+                                                                     Value("NAME")),
+           Option("--skip-rows", "skip so many rows above the titles", READING, "skip_rows",
+                  Value("K", read=_number(0, 10**6)), default=0), Option("--places", "lines of an object and how many "
+                                                                         "persons it takes (else one): a number, or at "
+                                                                         "least and at most", COUNTING, "places",
+                                                                         COUNTS),
+           Option("--tasks", "lines of a person and how many objects it takes (else one): a number, or at least and at "
+                  "most", COUNTING, "tasks", COUNTS), Option("--groups", "lines of an object and its group: nobody "
+                                                             "takes two objects of one group", COUNTING, "groups",
+                                                             COUNTS),
+           Option("--rules", "lines of a rule, its value and names: rest, runs, weeks, free weekends, hours and "
+                  "others; needs --groups, and SciPy", COUNTING, "rules", COUNTS),
+           Option("--before", "with --rules: what was worked on earlier days (.csv, .json or .xlsx), whose objects the "
+                  "file of groups lists too", COUNTING, "before", PLAN),
+           Option("--max", "find the plan of greatest cost", PLANNING, "max"),
+           Option("--fair", "make the dearest pair as cheap as possible, and then the sum", PLANNING, "fair"),
+           Option("--fixed", "keep the pairs of this plan (.csv, .json or .xlsx)", PLANNING, "fixed", PLAN),
+           Option("--as-many-as-can", "where there is no plan for all, find the fullest", PLANNING, "as_many_as_can"),
+           Option("--keep", "of all best plans take one with the fewest changes from this one (.csv, .json or .xlsx)",
+                  PLANNING, "keep", PLAN), Option("--past", "with --keep: what the plan has in the groups before this "
+                                                  "one stays, and the rest is planned", PLANNING, "past",
+                                                  Value("GROUP")),
+           Option("--change-cost", "weigh changes from the kept plan: half of C for each pair that comes, and for each "
+                  "that goes", PLANNING, "change_cost", Value("C")), Option("--time", "with --rules: find and prove "
+                                                                            "for at most S seconds (else 60)", PLANNING,
+                                                                            "time", Value("S", read=_number(1, 10**6))),
+           Option("--compare", "list the rules that this plan (.csv, .json or .xlsx) breaks, and by how much it is "
+                  "worse than the best", SHOWING, "compare", PLAN), Option("--others", "show who could change places "
+                                                                           "at no cost, or the next best plan", SHOWING,
+                                                                           "others"),
+           Option("--plans", f"show the K best plans, 2 to {MOST_PLANS}: each as what differs from the first", SHOWING,
+                  "plans", Value("K", read=_number(2, MOST_PLANS)), default=1),
+           Option("--rents", "print the rents of the objects too", SHOWING, "rents"),
+           Option("--print", "write the plan to standard output as csv or json, and what is printed else to standard "
+                  "error", SHOWING, "print", Value("KIND", choices=("csv", "json"))),
+           Option("--output", "write the plan as .csv, .json, .html or .xlsx; may be given several times", WRITING,
+                  "outputs", Value("FILE", True, tuple("." + kind for kind in KINDS), read=_output), repeats=True,
+                  short="-o"), Option("--html", "draw the plan as a page", WRITING, "outputs",
+                                      Value("FILE", True, (".html",), read=_page), repeats=True),
+           Option("--plan-only", "leave wishes, costs, hints and other plans out of pages, as for the wall", WRITING,
+                  "plan_only"), Option("--each", "write for each person a page and, where groups are dates, a calendar "
+                                       "(.ics) into this folder", WRITING, "each", Value("FOLDER", True)),
+           Option("--certificate", "with --rules: write what proves the answer; --check FILE checks it alone", WRITING,
+                  "certificate", Value("FILE", True)),
+           Option("--quiet", "print the cost alone, or who is short", WRITING, "quiet", short="-q"),
+           Option("--force", "overwrite an output that exists", WRITING, "force"),)
+
+
+# The options that need no roster, with their short words and what stands after them, if any, after the one for help.
+GENERAL = (("-V", "--version", "", "show program's version number and exit"),
+           ("", "--guide", "", "print the guide to rosters, and where it lies with its examples, and exit"),
+           ("", "--check", "FILE", "check a file that --certificate wrote, print what it shows, and exit: 0 if shown, "
+            "1 if not"))
+HINT = f"{NAME} --help lists all options"
+DASHES = "-\u2013\u2014"
+
+
+class _Help(argparse.HelpFormatter):
+    """Shows what stands after an option once, also where the option has a short word."""
+
+    def _format_action_invocation(self, action: argparse.Action) -> str:
+        if not action.option_strings or action.nargs == 0:
+            return super()._format_action_invocation(action)
+        return ", ".join(action.option_strings) + f" {action.metavar}"
+
+
+class _Parser(argparse.ArgumentParser):
+    """A parser that says in one line why words are refused."""
+
+    def error(self, message: str) -> NoReturn:
+        for begin, text in (("the following arguments are required: ROSTER", "the file of a roster is needed"),
+                            ("argument ", ""), ("unrecognized arguments: ", "one roster at a time, and there is also "
+                                                "")):
+            if message.startswith(begin):
+                message = text + message[len(begin):]
+        self.refuse(f"{message} ({HINT})")
+
+    def refuse(self, text: str) -> NoReturn:
+        """Ends with a line that says what is wrong."""
+        self.exit(2, f"{NAME}: {text}\n")
+
+
+class _Guide(argparse.Action):
+    """Prints the guide, and ends."""
+
+    def __init__(self, option_strings: Sequence[str], dest: str, **words: Any) -> None:
+        super().__init__(option_strings, argparse.SUPPRESS, nargs=0, **words)
+
+    def __call__(self, parser: argparse.ArgumentParser, namespace: argparse.Namespace, values: Any,
+                 option_string: Optional[str] = None) -> None:
+        from .guide import guide
+        try:
+            print_content(guide())
+        except (OSError, OutputFault) as fault:
+            parser.exit(4, f"{NAME}: {fault}\n")
+        parser.exit()
+
+
+class _Check(argparse.Action):
+    """Checks a certificate, and ends."""
+
+    def __init__(self, option_strings: Sequence[str], dest: str, **words: Any) -> None:
+        super().__init__(option_strings, argparse.SUPPRESS, **words)
+
+    def __call__(self, parser: argparse.ArgumentParser, namespace: argparse.Namespace, values: Any,
+                 option_string: Optional[str] = None) -> None:
+        from .check_file import checked
+        try:
+            status, line = checked(str(values))
+            print_content(line + "\n")
+        except (OSError, OutputFault) as fault:
+            parser.exit(4, f"{NAME}: {fault}\n")
+        parser.exit(status)
+
+
+class _Once(argparse.Action):
+    """Takes a file that is asked for once."""
+
+    def __call__(self, parser: argparse.ArgumentParser, namespace: argparse.Namespace, values: Any,
+                 option_string: Optional[str] = None) -> None:
+        before = getattr(namespace, self.dest)
+        if before is not None:
+            raise argparse.ArgumentError(self, f"given twice, with {before} and {values}")
+        setattr(namespace, self.dest, values)
+
+
+def parser_of(options: Sequence[Option] = OPTIONS) -> _Parser:
+    """The parser of a table of options."""
+    parser = _Parser(prog=NAME, allow_abbrev=False, description=SUMMARY, epilog=STATUSES, formatter_class=_Help)
+    parser.add_argument("roster", metavar="ROSTER", help=ROSTER)
+    (short, version, _, version_help), (_, guide, _, guide_help), (_, check, file, check_help) = GENERAL
+    parser.add_argument(short, version, action="version", version=f"{NAME} {VERSION}", help=version_help)
+    parser.add_argument(guide, action=_Guide, help=guide_help)
+    parser.add_argument(check, action=_Check, metavar=file, help=check_help)
+    sections = {name: parser.add_argument_group(name) for name in SECTIONS}
+    choices: Dict[str, Any] = {}
+    for option in options:
+        place = sections[option.section]
+        if option.choice and option.choice not in choices:
+            choices[option.choice] = place.add_mutually_exclusive_group()
+        _add(choices[option.choice] if option.choice else place, option)
+    return parser
+
+
+def _add(place: Any, option: Option) -> None:
+    """Adds an option to a group of the parser."""
+    words = [word for word in (option.short, option.word) if word]
+    if option.value is None:
+        default = False if option.sets is True else None
+        place.add_argument(*words, dest=option.field, action="store_const", const=option.sets, default=default,
+                           help=option.help)
+        return
+    # A word that isn't one of the choices is refused by argparse; numbers refuse their own.
+    choices = option.value.choices if option.value.read is str and option.value.choices else None
+    action = "append" if option.repeats else _Once if option.value.is_file else "store"
+    place.add_argument(*words, dest=option.field, metavar=option.value.name, type=option.value.read, choices=choices,
+                       help=option.help, action=action, default=[] if option.repeats else option.default)
+
+
+def read_words(words: Optional[Sequence[str]]) -> Options:
+    """The options of a command line. Words that are refused, and `--help`, end by `SystemExit`."""
+    parser = parser_of()
+    words = sys.argv[1:] if words is None else words
+    _refuse_unknown(words, parser)
+    options = Options(**vars(parser.parse_args(words)))
+    _judge(options, parser.refuse)
+    return options
+
+
+def _refuse_unknown(words: Sequence[str], parser: argparse.ArgumentParser) -> None:
+    """Refuses the first word that looks like an option and is none, with the nearest option."""
+    known = ["-h", "--help", *(word for *both, _, _ in GENERAL for word in both if word)]
+    known += [word for option in OPTIONS for word in (option.word, option.short) if word]
+    valued = {word for option in OPTIONS if option.value is not None for word in (option.word, option.short) if word}
+    valued.update(word for _, word, value, _ in GENERAL if value)
+    words = words[:words.index("--")] if "--" in words else words
+    for before, word in zip((NAME, *words), words):
+        name = word.partition("=")[0]
+        if (before in valued or not _looks_like_option(name) or name in known or name[:2] in known
+            and "--" + name[1:] not in known):
+            continue
+        near = _nearest(name.strip(DASHES), [word for word in known if word.startswith("--")])
+        if near or word[0] == "-":
+            parser.error(f"no option {name}" + (f": did you mean {near}?" if near else ""))
+
+
+def _looks_like_option(word: str) -> bool:
+    """Whether a word begins with a dash of any length, and isn't a number."""
+    return word[:1] in tuple(DASHES) and word.strip(DASHES) != "" and re.fullmatch("-[0-9.,]+", word) is None
+
+
+def _nearest(name: str, known: Sequence[str]) -> Optional[str]:
+    """The option that a word was meant to be, if one is near: one that begins so, or looks so."""
+    found = [word for word in known if word[2:].startswith(name)]
+    if not found:
+        from difflib import get_close_matches
+        found = get_close_matches("--" + name, known, 1, 0.7)
+    return found[0] if found else None
+
+
+def _judge(options: Options, refuse: Callable[[str], NoReturn]) -> None:
+    """Refuses options that don't go together."""
+    if options.change_cost is not None and not options.keep:
+        refuse("--change-cost needs --keep")
+    if options.past is not None and not (options.keep and options.groups):
+        refuse("--past needs --keep and --groups")
+    if options.others and options.change_cost is not None:
+        refuse("--others compares costs alone: not with --change-cost")
+    if options.plans > 1 and options.change_cost is not None:
+        refuse("--plans compares costs alone: not with --change-cost")
+    if options.fair:
+        _judge_fair(options, refuse)
+    _judge_rules(options, refuse)
+    if options.plan_only and all(output.kind != "html" for output in options.outputs):
+        refuse("--plan-only is of pages: name one, such as --output plan.html")
+    if options.print and any(output.is_standard for output in options.outputs):
+        refuse("standard output takes one thing: --print, or an output")
+    if options.rents and (options.places or options.tasks or options.groups):
+        refuse("--rents are of single places and tasks: not with --places, --tasks or --groups")
+    _judge_files(options, refuse)
+
+
+def _judge_fair(options: Options, refuse: Callable[[str], NoReturn]) -> None:
+    """Refuses what is of all pairs, where --fair leaves the dear ones out."""
+    for word, is_given in (("--others", options.others), ("--plans", options.plans > 1), ("--compare", options.compare),
+                           ("--change-cost", options.change_cost), ("--rents", options.rents)):
+        if is_given:
+            refuse(f"{word} is of the least sum of all pairs: not with --fair")
+
+
+def _judge_rules(options: Options, refuse: Callable[[str], NoReturn]) -> None:
+    """Refuses what doesn't go with rules, and what needs them."""
+    if options.rules is None:
+        for word, value in (("--before", options.before), ("--time", options.time),
+                            ("--certificate", options.certificate)):
+            if value is not None:
+                refuse(f"{word} needs --rules")
+        return
+    if not options.groups:
+        refuse("--rules needs --groups, which says the day of each object")
+    for word, is_given in (("--others", options.others), ("--plans", options.plans > 1), ("--fair", options.fair),
+                           ("--rents", options.rents)):
+        if is_given:
+            refuse(f"{word} is of plans without rules: not with --rules")
+
+
+def _judge_files(options: Options, refuse: Callable[[str], NoReturn]) -> None:
+    read = [options.roster] + [getattr(options, option.field) for option in OPTIONS
+                               if option.value is not None and option.value.is_file and option.section != WRITING]
+    if "-" in read[1:]:
+        refuse("only the roster can come from standard input")
+    if options.sheet is not None and file_and_sheet(options.roster)[1] is not None:
+        refuse(f"--sheet and {options.roster} both name a sheet")
+    seen = {os.path.realpath(file_and_sheet(path)[0]) for path in read if path}
+    for path in [output.path for output in options.outputs] + list(filter(None, [options.certificate])):
+        place = os.path.realpath(path)
+        if place in seen:
+            refuse(f"{path} is named twice, or is read too")
+        seen.add(place)

@@ -1,0 +1,254 @@
+"""Finds the cheapest plan of a model, with a certificate: SciPy looks, in processes of its own, and the check of
+certificates decides."""
+import contextlib
+import importlib.util
+import json
+import math
+import os
+import pathlib
+import queue
+import subprocess
+import sys
+import threading
+import time
+from typing import Any, Callable, Dict, List, Optional, Sequence, Tuple
+
+from .check import meets, shows
+from .model import Certificate, Finding, Limits, Model
+
+NEEDS_SCIPY = "rosters with rules need SciPy: pip install nushbaret[rules], or apt install python3-scipy"
+# What is reported of the search: the stage, the cost of the best plan so far, and what no plan costs less than.
+Progress = Callable[[str, Optional[int], Optional[int]], None]
+# Seconds.
+_LONGEST_WAIT = 0.2
+# On Windows the flag with which no Ctrl-C reaches a new process; elsewhere there is none.
+_OWN_GROUP: int = getattr(subprocess, "CREATE_NEW_PROCESS_GROUP", 0)
+_STAGES = {"plans": "looks for plans", "prices": "prices of shared rows", "proof": "proofs", "reasons": "reasons"}
+
+
+class _Worker:
+    """A process that works on a model. Its lines come into a queue; lines for it are written by a thread of its own."""
+
+    def __init__(self, told: "queue.Queue[Dict[str, Any]]"):
+        self.told = told
+        self.waiting: "queue.Queue[Optional[str]]" = queue.Queue()
+        self.process: Optional["subprocess.Popen[str]"] = None
+        self.threads: List[threading.Thread] = []
+
+    def start(self, first: Dict[str, Any]) -> None:
+        """Starts the process, which no Ctrl-C of the terminal reaches: who started it ends it, or it ends when its
+        input does."""
+        package = str(pathlib.Path(__file__).resolve().parent.parent.parent)
+        paths = [package, *filter(None, [os.environ.get("PYTHONPATH")])]
+        environment = {**os.environ, "PYTHONPATH": os.pathsep.join(paths), "OMP_NUM_THREADS": "1",
+                       "OPENBLAS_NUM_THREADS": "1"}
+        self.process = subprocess.Popen([sys.executable, "-m", "nushbaret.rows.worker"], stdin=subprocess.PIPE,
+                                        stdout=subprocess.PIPE, stderr=subprocess.DEVNULL, text=True, env=environment,
+                                        start_new_session=True, creationflags=_OWN_GROUP)
+        self.tell(first)
+        self.threads = [threading.Thread(target=work, args=(self.process,), daemon=True)
+                        for work in (self._write, self._read)]
+        for thread in self.threads:
+            thread.start()
+
+    def tell(self, told: Dict[str, Any]) -> None:
+        self.waiting.put(json.dumps(told) + "\n")
+
+    def _write(self, process: "subprocess.Popen[str]") -> None:
+        assert process.stdin is not None
+        with contextlib.suppress(OSError, ValueError):
+            for line in iter(self.waiting.get, None):
+                process.stdin.write(line)
+                process.stdin.flush()
+        with contextlib.suppress(OSError, ValueError):
+            process.stdin.close()
+
+    def _read(self, process: "subprocess.Popen[str]") -> None:
+        assert process.stdout is not None
+        with contextlib.suppress(OSError, ValueError), process.stdout:
+            for line in process.stdout:
+                self.told.put(json.loads(line))
+        self.told.put({"ended": True})
+
+    def end(self) -> None:
+        if self.process is not None:
+            self.process.kill()
+            self.process.wait()
+        self.waiting.put(None)
+        for thread in self.threads:
+            thread.join()
+
+
+class _PlanSearch:
+    """What is known of a model so far, each part checked when it came."""
+
+    def __init__(self, model: Model):
+        self.model = model
+        self.unit = math.gcd(*model.costs) or 1
+        self.scaled = model._replace(costs=tuple(cost // self.unit for cost in model.costs))
+        self.rows = tuple(Limits(row.least, row.terms, row.most) for row in model.rows)
+        self.plan: Optional[Tuple[int, ...]] = None
+        self.cost: Optional[int] = None
+        self.bound: Optional[int] = None
+        self.proof: Optional[Certificate] = None
+        self.reasons: Optional[Finding] = None
+        self.is_impossible = False
+
+    def take_plan(self, plan: Sequence[int]) -> bool:
+        """Keeps a plan if it meets the rows and none as cheap is known."""
+        if len(plan) != self.model.variables or not set(plan) <= {0, 1} or not meets(plan, self.rows):
+            return False
+        cost = sum(cost for cost, taken in zip(self.scaled.costs, plan) if taken)
+        if self.cost is not None and cost >= self.cost:
+            return False
+        self.plan, self.cost = tuple(plan), cost
+        return True
+
+    def take_bound(self, most: int, tree: Sequence[int]) -> bool:
+        """Keeps a proof that no plan costs `most` or less, in units, if it shows that and no better one is known."""
+        if self.bound is not None and most < self.bound:
+            return False
+        certificate = self._certificate(most, tree)
+        if not shows(certificate):
+            return False
+        self.bound, self.proof = most + 1, certificate
+        return True
+
+    def _certificate(self, most: int, tree: Sequence[int]) -> Certificate:
+        """The certificate of a bound. Where costs have a unit, a split on the cost in units leads to the row that the
+        proof uses."""
+        terms = tuple((variable, cost) for variable, cost in enumerate(self.model.costs) if cost)
+        count, unit = len(self.rows), self.unit
+        row = Limits(None, terms, (most + 1) * unit - 1)
+        if unit > 1:
+            pairs = [number for variable, cost in terms for number in (variable, cost // unit)]
+            tree = [1, len(terms), most, *pairs, *_deeper(tree, count), 0, 2, count, -1, count + 1, unit]
+        return Certificate(self.model.variables, (*self.rows, row), None, tuple(tree))
+
+    def take_reasons(self, told: Dict[str, Any]) -> bool:
+        """Keeps reasons, if their proof shows that their rows have no plan."""
+        certificate = Certificate(self.model.variables, tuple(self.rows[row] for row in told["rows"]), None,
+                                  tuple(told["tree"]))
+        if not shows(certificate):
+            return False
+        self.reasons = Finding("impossible", reasons=tuple(told["reasons"]), is_minimal=told["is_minimal"],
+                               certificate=certificate)
+        return True
+
+    def is_best(self) -> bool:
+        return self.bound is not None and self.cost is not None and self.bound >= self.cost
+
+    def finding(self) -> Finding:
+        """What is shown so far."""
+        if self.reasons is not None:
+            return self.reasons
+        cost = None if self.cost is None else self.cost * self.unit
+        if self.plan is None or self.bound is None or self.proof is None:
+            return Finding("undecided", self.plan, cost)
+        kind = "best" if self.is_best() else "within"
+        return Finding(kind, self.plan, cost, self.bound * self.unit, certificate=self.proof._replace(plan=self.plan))
+
+
+def _deeper(tree: Sequence[int], first: int) -> List[int]:
+    """A tree below one more split: the rows from `first` on have one number more."""
+    moved, place = list(tree), 0
+    while place < len(moved):
+        is_leaf, count = moved[place] == 0, moved[place + 1]
+        place += 2 if is_leaf else 3
+        if is_leaf:
+            moved[place:place + 2 * count:2] = [row + (row >= first) for row in moved[place:place + 2 * count:2]]
+        place += 2 * count
+    return moved
+
+
+def find(model: Model, seconds: float, progress: Optional[Progress] = None,
+         start: Optional[Sequence[int]] = None) -> Finding:
+    """Looks for the cheapest plan of a model and for a proof, for so many seconds by the clock.
+
+    `progress` is called with the stage, the cost of the best plan so far and its bound. `start` is a plan known before.
+    What is returned has been shown by its certificate. Raises ImportError where SciPy isn't there.
+    """
+    deadline = time.monotonic() + seconds
+    if any(importlib.util.find_spec(name) is None for name in ("numpy", "scipy")):
+        raise ImportError(NEEDS_SCIPY)
+    search = _PlanSearch(model)
+    if model.variables == 0:
+        _without_variables(search)
+        return search.finding()
+    if start is not None:
+        search.take_plan(start)
+    told: "queue.Queue[Dict[str, Any]]" = queue.Queue()
+    first = {"model": search.scaled._asdict(), "seconds": seconds}
+    workers: List[_Worker] = []
+    try:
+        for role in ("plans", "bounds"):
+            workers.append(_Worker(told))
+            workers[-1].start({**first, "role": role})
+        if search.plan is not None:
+            _tell(workers, {"plan": search.plan, "cost": search.cost})
+        _follow(search, workers, told, deadline, progress)
+    finally:
+        for worker in workers:
+            worker.end()
+    return search.finding()
+
+
+def _without_variables(search: _PlanSearch) -> None:
+    """Decides a model of no variables: its one plan meets the rows, or some row can't hold."""
+    if search.take_plan(()):
+        search.take_bound(-1, (0, 1, len(search.rows), -1))
+    for number, row in enumerate(search.model.rows):
+        if not meets((), search.rows[number:number + 1]):
+            factor = 1 if row.least is not None and row.least > 0 else -1
+            search.take_reasons({"reasons": [row.text], "is_minimal": True, "rows": [number],
+                                 "tree": [0, 1, 0, factor]})
+
+
+def _next_message(told: "queue.Queue[Dict[str, Any]]", deadline: float) -> Optional[Dict[str, Any]]:
+    """What a worker reports next; None where the time is over. It waits in short pieces, since on Windows Ctrl-C ends
+    no wait."""
+    while True:
+        left = deadline - time.monotonic()
+        try:
+            return told.get(timeout=max(0.0, min(left, _LONGEST_WAIT)))
+        except queue.Empty:
+            if left <= _LONGEST_WAIT:
+                return None
+
+
+def _follow(search: _PlanSearch, workers: List[_Worker], told: "queue.Queue[Dict[str, Any]]", deadline: float,
+            progress: Optional[Progress]) -> None:
+    """Takes what the workers report until the model is decided, all have ended, or the time is over."""
+    running = len(workers)
+    while running and not search.is_best():
+        message = _next_message(told, deadline)
+        if message is None:
+            return
+        running -= "ended" in message
+        stage = _taken(search, workers, message)
+        if progress is not None and stage is not None:
+            progress(stage, *(None if value is None else value * search.unit for value in (search.cost, search.bound)))
+        if search.reasons is not None and search.reasons.is_minimal:
+            return
+
+
+def _taken(search: _PlanSearch, workers: List[_Worker], message: Dict[str, Any]) -> Optional[str]:
+    """Takes one message; the stage that it is about, or None."""
+    if "plan" in message:
+        if search.take_plan(message["plan"]):
+            _tell(workers, {"plan": message["plan"], "cost": search.cost})
+        return _STAGES["plans"]
+    if "most" in message:
+        search.take_bound(message["most"], message["tree"])
+        return _STAGES["proof"]
+    if "reasons" in message:
+        search.take_reasons(message)
+        return _STAGES["reasons"]
+    if "hopeless" in message:
+        _tell(workers, message)
+    return _STAGES.get(message.get("stage", ""))
+
+
+def _tell(workers: List[_Worker], message: Dict[str, Any]) -> None:
+    for worker in workers:
+        worker.tell(message)

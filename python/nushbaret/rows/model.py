@@ -1,0 +1,117 @@
+"""Models of 0/1 variables, rows with sentences, and costs; and what is found of one."""
+from typing import List, NamedTuple, Optional, Tuple, Union
+
+# A sum of variables: each by its number, from 0, with a whole coefficient that isn't 0.
+Terms = Tuple[Tuple[int, int], ...]
+
+
+class Row(NamedTuple):
+    """A row of a model: the sum of its terms is at least `least` and at most `most`; None is no limit."""
+
+    least: Optional[int]
+    terms: Terms
+    most: Optional[int]
+    # The sentence that it comes from. Several rows may share one: 'free weekends: 2 (Anna)'.
+    text: str = ""
+    # Whose row it is; None where it is about several persons or none.
+    person: Optional[int] = None
+
+
+class Model(NamedTuple):
+    """A model: which plans there are, as 0/1 variables that meet rows, and what each variable costs."""
+
+    variables: int
+    costs: Tuple[int, ...]
+    rows: Tuple[Row, ...]
+    # Whose variable each is; None where it is nobody's. A row whose variables are all of one person counts as that
+    # person's.
+    persons: Tuple[Optional[int], ...]
+
+
+class Limits(NamedTuple):
+    """A row as a certificate has it."""
+
+    least: Optional[int]
+    terms: Terms
+    most: Optional[int]
+
+
+class Leaf(NamedTuple):
+    """The end of a branch of a proof: whole multipliers of rows, by the rows' numbers, whose weighed sum no plan can
+    reach."""
+
+    multipliers: Tuple[Tuple[int, int], ...]
+
+
+class Split(NamedTuple):
+    """A branching of a proof: the sum of the terms is at most `most` in the one half, and at least one more in the
+    other.
+
+    Each half has this as one more row, after the rows that were there.
+    """
+
+    terms: Terms
+    most: int
+    below: "Proof"
+    above: "Proof"
+
+
+Proof = Union[Leaf, Split]
+
+
+def flat(proof: Proof) -> Tuple[int, ...]:
+    """A proof as one list: a leaf is 0, how many multipliers, and them; a split 1, how many terms, the greatest sum of
+    the half below, the terms, and then both halves."""
+    numbers: List[int] = []
+    waiting = [proof]
+    while waiting:
+        node = waiting.pop()
+        pairs = node.multipliers if isinstance(node, Leaf) else node.terms
+        numbers += (0, len(pairs)) if isinstance(node, Leaf) else (1, len(pairs), node.most)
+        numbers += [number for pair in pairs for number in pair]
+        if isinstance(node, Split):
+            waiting += (node.above, node.below)
+    return tuple(numbers)
+
+
+class Certificate(NamedTuple):
+    """The claim that no 0/1 plan meets all rows, with its proof as one list, in the form of `nushbaret_rows` in C.
+
+    With a plan the last row is `cost <= most`: the plan meets all rows but that one, and no plan costs less than `most
+    + 1`.
+    """
+
+    variables: int
+    rows: Tuple[Limits, ...]
+    plan: Optional[Tuple[int, ...]]
+    tree: Tuple[int, ...]
+
+
+class Finding(NamedTuple):
+    """What was found of a model, no more than its certificate has shown.
+
+    kind
+        "best": the plan costs the least. "within": a plan and a bound that is less than its cost. "impossible": no plan
+        meets the rows. "undecided": there is no bound, and maybe no plan, and no proof that there is none.
+    plan
+        0 or 1 for each variable, or None.
+    cost
+        What the plan costs, or None.
+    bound
+        No plan costs less than that, or None.
+    reasons
+        Where the kind is "impossible": sentences that can't hold together.
+    is_minimal
+        Whether none of the reasons can be left out: without any of them some plan is known. False where the time ended
+        before.
+    certificate
+        What shows the bound, or the reasons; None where nothing is shown.
+    """
+
+    kind: str
+    plan: Optional[Tuple[int, ...]] = None
+    cost: Optional[int] = None
+    bound: Optional[int] = None
+    reasons: Tuple[str, ...] = ()
+    is_minimal: bool = False
+    certificate: Optional[Certificate] = None

@@ -1,0 +1,58 @@
+"""Plans by HiGHS, as SciPy has it: a mixed-integer program of the rows. Needs NumPy and SciPy."""
+import importlib
+import time
+from typing import Any, List, NamedTuple, Optional, Sequence
+
+from .blocks import cost_row, limits_of, matrix_of, side_of
+from .channel import Channel
+from .check import meets
+from .model import Limits, Model
+
+np: Any = importlib.import_module("numpy")
+optimize: Any = importlib.import_module("scipy.optimize")
+
+# What HiGHS is given first, as a part of the time; with the rest it looks below what is known then.
+_FIRST_PART = 0.4
+
+
+class Tried(NamedTuple):
+    """What HiGHS returned: a plan that meets the rows, or None; and whether it says that no other costs less, or that
+    there is none."""
+
+    plan: Optional[List[int]]
+    is_over: bool
+
+
+def tried(costs: Sequence[int], rows: Sequence[Limits], seconds: float, least: Any = 0, most: Any = 1) -> Tried:
+    """Lets HiGHS look for the cheapest plan that meets the rows, with bounds of the variables, for about so many
+    seconds. Where what it returns doesn't meet them, it looks once more without its presolve, which was seen to lose
+    bounds."""
+    low, high = side_of(rows)
+    constraints = optimize.LinearConstraint(matrix_of(rows, len(costs)), low, high) if rows else ()
+    for presolve in (True, False):
+        options = {"time_limit": max(0.1, seconds), "mip_rel_gap": 0, "presolve": presolve}
+        found = optimize.milp(np.array(costs, dtype=float), constraints=constraints, integrality=np.ones(len(costs)),
+                              bounds=optimize.Bounds(least, most), options=options)
+        if found.x is None:
+            return Tried(None, found.status == 2)
+        plan = [int(value > 0.5) for value in found.x]
+        if meets(plan, rows):
+            return Tried(plan, found.status == 0)
+    return Tried(None, False)
+
+
+def look_for_plans(model: Model, channel: Channel, seconds: float) -> None:
+    """Reports each better plan that HiGHS returns."""
+    deadline = time.monotonic() + seconds
+    rows = [limits_of(row) for row in model.rows]
+    part = _FIRST_PART
+    while time.monotonic() < deadline:
+        below = [] if channel.cost is None else [cost_row(model, channel.cost - 1)]
+        found = tried(model.costs, rows + below, (deadline - time.monotonic()) * part)
+        if found.plan is not None:
+            channel.say_plan(found.plan, sum(cost for cost, taken in zip(model.costs, found.plan) if taken))
+        elif found.is_over and channel.cost is None:
+            channel.say(hopeless=True)
+        if found.is_over or part == 1.0:
+            return
+        part = 1.0

@@ -1,0 +1,223 @@
+"""Prices of the rows that persons share, by column generation: a bound on what a plan costs, and months that are cheap
+at the prices.
+
+Needs NumPy and SciPy.
+"""
+import copy
+import importlib
+import math
+import time
+from typing import Any, Callable, Dict, Iterator, List, NamedTuple, Optional, Sequence, Tuple
+
+from .blocks import PersonBlock, blocks_of, limits_of, matrix_of, side_of
+from .diagrams import TOO_MUCH, Diagram, cheapest, cheapest_with, diagram_of
+from .model import Limits, Model
+
+np: Any = importlib.import_module("numpy")
+optimize: Any = importlib.import_module("scipy.optimize")
+
+# Prices are whole multiples of 1 / SCALE.
+SCALE = 960
+# The part of the time in which decision diagrams are made with all rows.
+_EXACT_PART = 0.2
+
+
+class PricedMonth(NamedTuple):
+    """A month of a block that meets the block's rows."""
+
+    taken: Any
+    cost: int
+    uses: Any
+
+
+class Bound(NamedTuple):
+    """Whole prices of the shared rows, the least costs of each block at them, and what no plan costs less than; all
+    times `SCALE`."""
+
+    value: int
+    prices: Any
+    least: List[int]
+
+
+def _reaches(bound: Bound, target: Optional[int]) -> bool:
+    return target is not None and bound.value > SCALE * target
+
+
+class TooWide(Exception):
+    """A person's decision diagram has too many nodes."""
+
+
+class Pricing:
+    """Column generation over a model's blocks."""
+
+    def __init__(self, model: Model, deadline: float):
+        self.model = model
+        self.blocks, self.shared = blocks_of(model)
+        rows = [limits_of(model.rows[number]) for number in self.shared]
+        self.costs = np.array(model.costs, dtype=np.int64)
+        self.matrix = matrix_of(rows, model.variables).astype(np.int64)
+        self.least, self.most = side_of(rows)
+        self.diagrams = _diagrams(self.blocks, deadline)
+        self.columns = [self.matrix[:, block.variables].tocsc() for block in self.blocks]
+        self.months: List[Dict[bytes, PricedMonth]] = [{} for _ in self.blocks]
+
+    def add(self, number: int, taken: Any) -> None:
+        """Keeps a month of a block."""
+        key = taken.tobytes()
+        if key not in self.months[number]:
+            variables = self.blocks[number].variables
+            self.months[number][key] = PricedMonth(taken, int(self.costs[variables] @ taken),
+                                                   self.columns[number] @ taken)
+
+    def add_plan(self, plan: Any) -> None:
+        """Keeps a plan's months."""
+        taken = np.array(plan, dtype=np.int8)
+        for number, block in enumerate(self.blocks):
+            self.add(number, taken[block.variables])
+
+    def priced(self, prices: Any) -> Any:
+        """Each variable's cost less the prices of its rows, times `SCALE`."""
+        return SCALE * self.costs - self.matrix.T @ prices
+
+    def side(self, prices: Any) -> int:
+        """What the shared rows are worth at whole prices."""
+        sides = np.where(prices > 0, self.least, self.most)
+        used = prices != 0
+        return int((prices[used] * sides[used].astype(np.int64)).sum())
+
+    def bound(self, prices: Any) -> Optional[Bound]:
+        """The bound at whole prices, keeping each block's cheapest month; None where a block has no month."""
+        costs, least = self.priced(prices), []
+        for number, (block, diagram) in enumerate(zip(self.blocks, self.diagrams)):
+            found = cheapest(diagram, costs[block.variables])
+            if found is None:
+                return None
+            least.append(found[0])
+            self.add(number, found[1])
+        return Bound(self.side(prices) + sum(least), prices, least)
+
+    def rounded(self, prices: Any) -> Any:
+        """Float prices as whole multiples of 1 / SCALE, with the signs that the rows allow."""
+        whole = np.rint(prices * SCALE).astype(np.int64)
+        whole[np.isinf(self.least) & (whole > 0)] = 0
+        whole[np.isinf(self.most) & (whole < 0)] = 0
+        return whole
+
+    def search(self, prices: Any, target: Callable[[], Optional[int]], deadline: float) -> Iterator[Bound]:
+        """Better and better bounds, until one shows that no plan costs `target()` or less, or no better one in whole
+        costs can be found, or the time is over."""
+        best = self.bound(self.rounded(prices))
+        if best is None:
+            return
+        yield best
+        near, step = prices, 0.5
+        while not _reaches(best, target()) and time.monotonic() < deadline:
+            master = self.master()
+            if master is None or math.ceil(master.value - 1e-6) <= -(-best.value // SCALE):
+                return
+            count = self.count()
+            trial = (1 - step) * near + step * master.prices
+            found = self.bound(self.rounded(trial))
+            if found is not None and found.value > best.value:
+                best, near = found, trial
+                yield best
+            elif self.count() == count and step == 1.0:
+                return
+            step = 1.0 if self.count() == count else 0.5
+
+    def without_costs(self) -> "Pricing":
+        """The same, without costs."""
+        free = copy.copy(self)
+        free.model = self.model._replace(costs=(0,) * self.model.variables)
+        free.costs = np.zeros(self.model.variables, dtype=np.int64)
+        free.months = [{} for _ in self.blocks]
+        for number, months in enumerate(self.months):
+            for month in months.values():
+                free.add(number, month.taken)
+        return free
+
+    def empty(self) -> Optional[PersonBlock]:
+        """A block that has no month, or None."""
+        return next((block for block, diagram in zip(self.blocks, self.diagrams) if diagram.widths[0] == 0), None)
+
+    def is_short(self) -> bool:
+        """Whether the best mixture of the kept months misses a shared row."""
+        master = self.master()
+        return master is not None and master.missed > 1e-6
+
+    def count(self) -> int:
+        """How many months are kept."""
+        return sum(map(len, self.months))
+
+    def master(self) -> Optional["Master"]:
+        """The best mixture of the kept months, where a shared row may be missed at a high cost; None where it isn't
+        found."""
+        months = [month for own in self.months for month in own.values()]
+        counts = [len(own) for own in self.months]
+        uses = np.array([month.uses for month in months]).T.reshape(len(self.shared), len(months))
+        costs = np.array([month.cost for month in months], dtype=float)
+        return _master(uses, costs, counts, self.least, self.most)
+
+    def with_and_without(self, number: int, costs: Any) -> Tuple[List[int], List[int]]:
+        """The least costs of a block's months without each of its variables, and with it."""
+        without, with_ = cheapest_with(self.diagrams[number], costs).tolist()
+        return without, with_
+
+    def reaches(self, prices: Any) -> Any:
+        """For each variable the bounds at whole prices where it is 0 and where it is 1: an array of shape (2,
+        variables), times `SCALE`."""
+        costs, side = self.priced(prices), self.side(prices)
+        found = np.zeros((2, self.model.variables), dtype=np.int64)
+        for block, diagram in zip(self.blocks, self.diagrams):
+            own = cheapest_with(diagram, costs[block.variables])
+            least = own[:, 0].min()
+            side += int(least)
+            found[:, block.variables] = np.minimum(own - least, TOO_MUCH)
+        return found + side
+
+
+class Master(NamedTuple):
+    """The value of the master problem, its dual prices of the shared rows, and by how much it misses these."""
+
+    value: float
+    prices: Any
+    missed: float
+
+
+def _master(uses: Any, costs: Any, counts: List[int], least: Any, most: Any) -> Optional[Master]:
+    rows, columns = uses.shape
+    high = 50.0 * max(1.0, float(np.abs(costs).max(initial=1.0)) / 10)
+    low, up = np.flatnonzero(np.isfinite(least)), np.flatnonzero(np.isfinite(most))
+    missing = np.vstack([-np.eye(rows)[low], -np.eye(rows)[up]])
+    above = np.hstack([np.vstack([-uses[low], uses[up]]), missing])
+    one_each = np.zeros((len(counts), columns + rows))
+    one_each[np.repeat(np.arange(len(counts)), counts), np.arange(columns)] = 1
+    found = optimize.linprog(np.append(costs, np.full(rows, high)), A_ub=above, b_ub=np.append(-least[low], most[up]),
+                             A_eq=one_each, b_eq=np.ones(len(counts)), bounds=(0, None), method="highs")
+    if found.status != 0:
+        return None
+    prices = np.zeros(rows)
+    prices[low] -= found.ineqlin.marginals[:len(low)]
+    prices[up] += found.ineqlin.marginals[len(low):]
+    return Master(float(found.fun), prices, float(found.x[columns:].sum()))
+
+
+def _diagrams(blocks: Sequence[PersonBlock], deadline: float) -> List[Diagram]:
+    """The blocks' diagrams. Where one is too wide, or all take too long, the others are without rows that weigh their
+    variables, such as hours: then their least costs are bounds. Raises `TooWide` where these are too wide, too, or the
+    deadline has passed."""
+    now = time.monotonic()
+    exact_until, found, is_exact = now + (deadline - now) * _EXACT_PART, [], True
+    for block in blocks:
+        exact = diagram_of(len(block.variables), block.rows) if is_exact else None
+        is_exact = exact is not None and time.monotonic() < exact_until
+        diagram = exact or diagram_of(len(block.variables), [row for row in block.rows if not _weighs(row)])
+        if diagram is None or time.monotonic() > deadline:
+            raise TooWide
+        found.append(diagram)
+    return found
+
+
+def _weighs(row: Limits) -> bool:
+    """Whether a row counts some variables more than others."""
+    return len({abs(factor) for _, factor in row.terms}) > 1
