@@ -27,6 +27,8 @@ const HELP: u32 = 11;
 
 const UNOWNED: u32 = 12;
 
+const BIDS: u32 = 13;
+
 // The bit of the flags.
 const HAS_ASSIGNMENT: u32 = 1;
 
@@ -83,6 +85,7 @@ fn sparse_stage(number: u32) -> Option<SparseStage> {
     match number {
         COLD => Some(SparseStage::Cold),
         WARM => Some(SparseStage::Warm),
+        BIDS => Some(SparseStage::Bids),
         FIRST_TIGHT => Some(SparseStage::FirstTight),
         PATHS => Some(SparseStage::FirstPaths),
         AUCTION => Some(SparseStage::Auction),
@@ -99,6 +102,7 @@ fn number_of_sparse(stage: SparseStage) -> u32 {
     match stage {
         SparseStage::Cold => COLD,
         SparseStage::Warm => WARM,
+        SparseStage::Bids => BIDS,
         SparseStage::FirstTight => FIRST_TIGHT,
         SparseStage::FirstPaths => PATHS,
         SparseStage::Auction => AUCTION,

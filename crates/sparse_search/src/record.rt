@@ -7,6 +7,8 @@ pub enum Stage {
     Cold,
     /// It begins from prices, in the unit of the costs, and objects that somebody has.
     Warm,
+    /// Bids without slackness.
+    Bids,
     /// Tight pairs, before the first searches.
     FirstTight,
     /// Searches for the persons who are left over by bids without slackness.
@@ -35,8 +37,9 @@ pub struct Record {
     /// The slackness of the auction; before it, the one to begin with from these prices, or 0 to begin
     /// at prices of 0.
     pub slackness: i64,
-    /// The bids of this phase of the auction since searches last helped it. In the first searches the
-    /// looks when they began, in those that help the looks when they end.
+    /// The bids of this phase of the auction since searches last helped it. Of bids without
+    /// slackness how many are left; in the first searches the looks when they began, in those that help
+    /// the looks when they end.
     pub bids: u64,
     /// How often dummies bid in this phase. In the first searches how many ended.
     pub dummy_bids: u32,

@@ -173,6 +173,7 @@ impl<'a> Run<'a> {
         match self.record.stage {
             Stage::Cold => self.begin_cold(),
             Stage::Warm => self.begin_warm()?,
+            Stage::Bids => self.first_bids(),
             Stage::FirstTight => self.match_tight(Stage::FirstPaths)?,
             Stage::FirstPaths => return self.first_paths(),
             Stage::Auction => return self.auction(),
@@ -197,9 +198,27 @@ impl<'a> Run<'a> {
         }
         self.record.shift = 0;
         self.record.slackness = 0;
-        let scaled = self.scaled();
-        bid_all(scaled, &mut self.market, bids, &mut self.looks);
-        self.record = self.record.with_stage(Stage::FirstTight);
+        self.record = self.record.with_stage(Stage::Bids);
+        self.record.bids = bids;
+    }
+
+    fn first_bids(&mut self) {
+        let (scaled, first, most) = (self.scaled(), self.record.place, self.record.bids);
+        let (ended, left) = bid_all(scaled, &mut self.market, first, most, &mut self.looks);
+        self.record.place = ended;
+        self.record.bids = left;
+        if (ended as usize) >= self.problem.persons() {
+            self.record = self.record.with_stage(self.after_bids());
+        }
+    }
+
+    // An assignment is known to exist after an auction that was left.
+    fn after_bids(&self) -> Stage {
+        if self.record.has_assignment {
+            Stage::LastTight
+        } else {
+            Stage::FirstTight
+        }
     }
 
     // From somebody's prices and objects: an auction would begin with the mean slack.
@@ -453,7 +472,7 @@ impl<'a> Run<'a> {
         let mut matching = Matching::begin(self.alloc, self.problem, objects, &mut self.looks)?;
         let known = matching.grow(self.problem, &mut self.looks)?;
         match known {
-            Known::Full if !self.looks.is_spent() => {
+            Known::Full if begins_anew || self.has_room() => {
                 self.record.has_assignment = true;
                 if begins_anew {
                     self.begin_phase();
@@ -469,9 +488,15 @@ impl<'a> Run<'a> {
             Known::Full | Known::Open => {
                 self.market.take_plan(matching.objects.as_slice());
                 self.record = self.record.with_stage(Stage::Matching);
-                Ok(None)
+                Ok(Some(RunEnd::Stopped))
             }
         }
+    }
+
+    // Whether looks for the passes are left that find and drop pairs.
+    fn has_room(&self) -> bool {
+        let passes = self.pairs().saturating_mul(3);
+        self.looks.done.saturating_add(passes) <= self.looks.limit
     }
 
     // Drops pairs if at least a twentieth is in no assignment. A search with a limit would have to find
@@ -487,7 +512,6 @@ impl<'a> Run<'a> {
             return Ok(Some(RunEnd::Drops(blocks)));
         }
         self.begin_cold();
-        self.record = self.record.with_stage(Stage::LastTight);
         Ok(None)
     }
 }
