@@ -29,6 +29,8 @@ const UNOWNED: u32 = 12;
 
 const BIDS: u32 = 13;
 
+const WARM_TIGHT: u32 = 14;
+
 // The bit of the flags.
 const HAS_ASSIGNMENT: u32 = 1;
 
@@ -85,6 +87,7 @@ fn sparse_stage(number: u32) -> Option<SparseStage> {
     match number {
         COLD => Some(SparseStage::Cold),
         WARM => Some(SparseStage::Warm),
+        WARM_TIGHT => Some(SparseStage::WarmTight),
         BIDS => Some(SparseStage::Bids),
         FIRST_TIGHT => Some(SparseStage::FirstTight),
         PATHS => Some(SparseStage::FirstPaths),
@@ -102,6 +105,7 @@ fn number_of_sparse(stage: SparseStage) -> u32 {
     match stage {
         SparseStage::Cold => COLD,
         SparseStage::Warm => WARM,
+        SparseStage::WarmTight => WARM_TIGHT,
         SparseStage::Bids => BIDS,
         SparseStage::FirstTight => FIRST_TIGHT,
         SparseStage::FirstPaths => PATHS,

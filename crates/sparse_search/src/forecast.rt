@@ -4,7 +4,7 @@ use super::looks::Looks;
 use super::record::Record;
 
 // The numbers come from measurements; no answer depends on them. They are looks for each pair.
-// The most looks in all where searches grow longer, as in random problems.
+// The most looks in all where searches grow longer, as in random problems, or begin from prices.
 const GROWING: u64 = 5;
 // The most looks in all where they don't, as among neighbours, where a few long ones come first.
 const STEADY: u64 = 40;
@@ -12,7 +12,7 @@ const STEADY: u64 = 40;
 const GRACE: u64 = 4;
 
 const GRACE_FORECAST: u64 = 64;
-// A part of the searches ends after so many looks for each pair.
+// A part of the searches ends after so many looks for each pair, and with a call.
 const PART: u64 = 2;
 // A search counts at most a pass over all pairs divided by this.
 const SHORT: u64 = 16;
@@ -61,6 +61,8 @@ pub struct Forecast {
     part: Tally,
     // Four times the looks of a search of the first part, once it ended.
     usual: u64,
+    // Whether an auction from the same prices would be short.
+    is_warm: bool,
 }
 
 impl Forecast {
@@ -78,6 +80,7 @@ impl Forecast {
             },
             part: Tally::none(),
             usual: u64::from(record.usual),
+            is_warm: record.slackness > 0,
         }
     }
 
@@ -113,15 +116,20 @@ impl Forecast {
         }
         let expected = spent.saturating_add(self.all.looks_of(left));
         let is_early = spent <= GRACE.saturating_mul(self.pairs);
-        let most = if is_early { GRACE_FORECAST } else { STEADY };
+        let most = match (self.is_warm, is_early) {
+            (true, _) => GROWING,
+            (false, true) => GRACE_FORECAST,
+            (false, false) => STEADY,
+        };
         expected <= most.saturating_mul(self.pairs)
     }
 
     /// After one more search, with so many left: whether they should go on.
     pub fn goes_on(&mut self, looks: Looks, left: usize) -> bool {
         self.count(looks);
-        let is_long = self.part.looks >= PART.saturating_mul(self.pairs);
-        if self.part.searches < self.width && !is_long {
+        let part = PART.saturating_mul(self.pairs);
+        let is_last = looks.is_spent() && looks.done.saturating_sub(self.begun) >= part;
+        if self.part.searches < self.width && self.part.looks < part && !is_last {
             return true;
         }
         let fits = self.fits(left as u64);

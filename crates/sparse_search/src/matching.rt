@@ -207,15 +207,20 @@ impl Matching {
         Ok(false)
     }
 
-    // One phase: disjoint shortest paths, at least one, while looks are left.
-    fn improve(&mut self, problem: SparseProblem<'_>, looks: &mut Looks) -> Result<(), AllocError> {
-        let mut is_any_served = false;
+    // One phase: disjoint shortest paths, while looks are left, but at least one if one is needed.
+    fn improve(
+        &mut self,
+        problem: SparseProblem<'_>,
+        is_needed: bool,
+        looks: &mut Looks,
+    ) -> Result<(), AllocError> {
+        let mut is_needed = is_needed;
         for person in 0..place_at(problem.persons()) {
-            if is_any_served && looks.is_spent() {
+            if looks.is_spent() && !is_needed {
                 return Ok(());
             }
             if at(self.objects.as_slice(), person) == NOBODY {
-                is_any_served = self.serve(problem, person, looks)? || is_any_served;
+                is_needed = !self.serve(problem, person, looks)? && is_needed;
             }
         }
         Ok(())
@@ -230,10 +235,12 @@ impl Matching {
         NOBODY
     }
 
-    /// Phases until no more persons can have objects, or the looks are spent.
+    /// Phases until no more persons can have objects, or the looks are spent. A call that begins with
+    /// these serves at least one person.
     pub fn grow(
         &mut self,
         problem: SparseProblem<'_>,
+        is_fresh: bool,
         looks: &mut Looks,
     ) -> Result<Known, AllocError> {
         for _phase in 0..problem.persons().saturating_add(1) {
@@ -245,7 +252,7 @@ impl Matching {
             if self.last_layer == NOBODY {
                 return Ok(Known::Blocked(person));
             }
-            self.improve(problem, looks)?;
+            self.improve(problem, is_fresh, looks)?;
             if looks.is_spent() {
                 return Ok(Known::Open);
             }

@@ -7,6 +7,8 @@ pub enum Stage {
     Cold,
     /// It begins from prices, in the unit of the costs, and objects that somebody has.
     Warm,
+    /// Tight pairs at these prices.
+    WarmTight,
     /// Bids without slackness.
     Bids,
     /// Tight pairs, before the first searches.

@@ -10,8 +10,7 @@ use super::path::{End, PathSearch};
 use super::place::{NOBODY, place_at};
 use super::problem::{Scaled, SparseProblem};
 use super::record::{Record, Stage};
-use super::row::look_at;
-use super::tight::{match_tight, settle};
+use super::tight::{count_slack, match_tight, settle};
 use super::unowned::{bring_down, lower_unowned};
 use std::alloc::{AllocError, Global};
 
@@ -28,6 +27,18 @@ const SEARCH_LOOKS: u64 = 32;
 const FALL: i64 = 5;
 // The most bids of dummies in a phase.
 const DUMMY_BIDS: u32 = 4;
+// With more objects than persons by this part a search is short, unless as few persons are left.
+const WIDE: usize = 8;
+
+const FEW: usize = 512;
+
+const SAMPLE: usize = 16;
+// Prices are left if more persons than this part find no object by them.
+const MOST_LEFT: usize = 32;
+// So many unowned objects come down one by one.
+const FEW_DEAR: usize = 4;
+// The looks of more, for each pair, instead of which an auction begins.
+const DEAR_LOOKS: u64 = 2;
 // Costs count at most 2 to this power times.
 const MOST_SHIFT: u32 = 9;
 
@@ -58,6 +69,7 @@ pub enum RunEnd {
 }
 
 // How a run of searches ended.
+#[derive(Drop)]
 enum Served {
     All,
     Hall(Vec<u32>),
@@ -80,23 +92,6 @@ fn shift_for(problem: SparseProblem<'_>, spread: i64) -> u32 {
         }
     }
     shift
-}
-
-// The sum of how much owned objects are worse than the best, with this much for persons without one.
-fn slack_sum(scaled: Scaled<'_>, market: &Market, unserved: i64) -> i64 {
-    let (prices, owners) = (market.prices.as_slice(), market.owners.as_slice());
-    let mut sum = 0i64;
-    for (k, object) in market.objects.iter().enumerate() {
-        let row = scaled.problem.row(place_at(k));
-        let look = look_at(row, prices, owners, scaled.shift, *object);
-        let slack = if *object == NOBODY {
-            unserved
-        } else {
-            look.own.saturating_sub(look.least).min(unserved)
-        };
-        sum = sum.saturating_add(slack);
-    }
-    sum
 }
 
 impl<'a> Run<'a> {
@@ -174,6 +169,7 @@ impl<'a> Run<'a> {
             Stage::Cold => self.begin_cold(),
             Stage::Warm => self.begin_warm()?,
             Stage::Bids => self.first_bids(),
+            Stage::WarmTight => self.match_warm()?,
             Stage::FirstTight => self.match_tight(Stage::FirstPaths)?,
             Stage::FirstPaths => return self.first_paths(),
             Stage::Auction => return self.auction(),
@@ -225,16 +221,49 @@ impl<'a> Run<'a> {
     fn begin_warm(&mut self) -> Result<(), AllocError> {
         self.record.shift = 0;
         let scaled = self.scaled();
+        if self.is_sooner_cold(scaled) {
+            self.record = self.record.with_stage(Stage::Cold);
+            return Ok(());
+        }
         let spread = self.spread();
-        let sum = slack_sum(scaled, &self.market, spread / 25);
-        self.looks.add(self.problem.pairs.len());
+        let sum = settle(scaled, &mut self.market, spread / 25, &mut self.looks);
         let persons = (self.persons() & 0xffff_ffff) as i64;
         let mean = sum.checked_div(persons).unwrap_or(0);
         self.record.slackness = if mean < spread / 50 { mean.max(1) } else { 0 };
-        if !self.problem.is_square() {
+        self.lower_dear(scaled)?;
+        self.record = self.record.with_stage(Stage::WarmTight);
+        self.record.place = 1;
+        Ok(())
+    }
+
+    // Whether there are far more objects than persons, which is solved in a few passes over all pairs,
+    // and some persons have no object or no best one.
+    fn is_sooner_cold(&mut self, scaled: Scaled<'a>) -> bool {
+        let (persons, objects) = (self.problem.persons(), self.problem.objects);
+        if objects <= persons.saturating_add(persons / WIDE) {
+            return false;
+        }
+        let few = persons / FEW;
+        self.market.count_unserved() > few
+            || count_slack(scaled, &self.market, SAMPLE, &mut self.looks) > few / SAMPLE
+    }
+
+    // Tight pairs at somebody's prices. Prices that fit few persons are left.
+    fn match_warm(&mut self) -> Result<(), AllocError> {
+        self.match_tight(Stage::FirstPaths)?;
+        let is_over = matches!(self.record.stage, Stage::FirstPaths);
+        let most = self.problem.persons() / MOST_LEFT;
+        if is_over && self.record.slackness == 0 && self.market.count_unserved() > most {
+            self.record = self.record.with_stage(Stage::Cold);
+        }
+        Ok(())
+    }
+
+    // Lowers the prices of unowned objects, unless searches for each are sooner done.
+    fn lower_dear(&mut self, scaled: Scaled<'_>) -> Result<(), AllocError> {
+        if self.market.count_dear() > FEW_DEAR {
             lower_unowned(self.alloc, scaled, &mut self.market, &mut self.looks)?;
         }
-        self.record = self.record.with_stage(Stage::FirstTight);
         Ok(())
     }
 
@@ -243,7 +272,7 @@ impl<'a> Run<'a> {
         let scaled = self.scaled();
         let place = self.record.place;
         if place == 0 {
-            settle(scaled, &mut self.market, &mut self.looks);
+            let _ = settle(scaled, &mut self.market, 0, &mut self.looks);
             self.record.place = 1;
             return Ok(());
         }
@@ -306,7 +335,7 @@ impl<'a> Run<'a> {
     fn bring_down_unowned(&mut self) -> Result<Option<RunEnd>, AllocError> {
         let scaled = self.scaled();
         if self.record.place == 0 {
-            lower_unowned(self.alloc, scaled, &mut self.market, &mut self.looks)?;
+            self.lower_dear(scaled)?;
             self.record.place = 1;
             return Ok(None);
         }
@@ -331,14 +360,25 @@ impl<'a> Run<'a> {
             forecast.write(&mut self.record);
         }
         match served {
-            Served::All => Ok(self.after_all()),
+            Served::All if !self.has_many_dear()? => Ok(self.after_all()),
             Served::Hall(persons) => Ok(Some(RunEnd::Hall(persons))),
             Served::Spent => Ok(None),
-            Served::Slow => {
+            Served::All | Served::Slow => {
                 self.begin_auction();
                 Ok(None)
             }
         }
+    }
+
+    // Whether an auction is sooner done than a search for each dear unowned object.
+    fn has_many_dear(&mut self) -> Result<bool, AllocError> {
+        let scaled = self.scaled();
+        self.lower_dear(scaled)?;
+        let looks = self
+            .market
+            .count_dear()
+            .saturating_mul(self.problem.objects);
+        Ok(looks as u64 > DEAR_LOOKS.saturating_mul(self.pairs()))
     }
 
     fn last_paths(&mut self) -> Result<Option<RunEnd>, AllocError> {
@@ -468,11 +508,14 @@ impl<'a> Run<'a> {
 
     // Whether an assignment exists, and whether some pairs are in none.
     fn find_matching(&mut self, begins_anew: bool) -> Result<Option<RunEnd>, AllocError> {
+        let begun = self.looks.done;
         let objects = self.market.objects.as_slice();
         let mut matching = Matching::begin(self.alloc, self.problem, objects, &mut self.looks)?;
-        let known = matching.grow(self.problem, &mut self.looks)?;
+        let is_fresh = begun == self.record.looks;
+        let known = matching.grow(self.problem, is_fresh, &mut self.looks)?;
+        let is_known = is_fresh && self.looks.done == begun;
         match known {
-            Known::Full if begins_anew || self.has_room() => {
+            Known::Full if is_known || self.has_room() => {
                 self.record.has_assignment = true;
                 if begins_anew {
                     self.begin_phase();

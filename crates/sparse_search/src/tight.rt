@@ -3,7 +3,7 @@ use super::looks::Looks;
 use super::market::Market;
 use super::place::{NOBODY, at, is_unowned, place_at, put};
 use super::problem::{Pair, Scaled};
-use super::row::{FAR, least_value, look_at, value};
+use super::row::{FAR, Look, least_value, look_at, value};
 use std::alloc::{AllocError, Global};
 
 // Where a search along tight pairs stands: the least value of each person seen, the next pairs of
@@ -178,22 +178,49 @@ impl Deepening {
     }
 }
 
+/// How many persons own no object with a tight pair, among each `step`th one.
+pub fn count_slack(scaled: Scaled<'_>, market: &Market, step: usize, looks: &mut Looks) -> usize {
+    let mut count = 0usize;
+    for k in 0..scaled.problem.persons() / step.max(1) {
+        let person = place_at(k.wrapping_mul(step));
+        let own = at(market.objects.as_slice(), person);
+        let (prices, owners) = (market.prices.as_slice(), market.owners.as_slice());
+        let row = scaled.problem.row(person);
+        looks.add(row.len());
+        let look = look_at(row, prices, owners, scaled.shift, own);
+        if look.own > look.least || look.own >= FAR {
+            count = count.wrapping_add(1);
+        }
+    }
+    count
+}
+
+// Takes its object from a person whose pair isn't tight, and gives an unowned one with a tight pair.
+fn settle_person(market: &mut Market, person: u32, own: u32, look: Look) {
+    if own != NOBODY && (look.own > look.least || look.own >= FAR) {
+        market.leave(person);
+    }
+    if at(market.objects.as_slice(), person) == NOBODY && look.unowned != NOBODY {
+        market.give(look.unowned, person);
+    }
+}
+
 /// Takes their objects from persons whose pairs aren't tight, and gives unowned objects with tight
-/// pairs to persons without one.
-pub fn settle(scaled: Scaled<'_>, market: &mut Market, looks: &mut Looks) {
+/// pairs to persons without one. Returns the sum of how much objects were worse than the best, at most
+/// this much each, and as much for persons without one.
+pub fn settle(scaled: Scaled<'_>, market: &mut Market, most: i64, looks: &mut Looks) -> i64 {
+    let mut sum = 0i64;
     for person in 0..place_at(scaled.problem.persons()) {
         let own = at(market.objects.as_slice(), person);
         let (prices, owners) = (market.prices.as_slice(), market.owners.as_slice());
         let row = scaled.problem.row(person);
         let look = look_at(row, prices, owners, scaled.shift, own);
-        if own != NOBODY && (look.own > look.least || look.own >= FAR) {
-            market.leave(person);
-        }
-        if at(market.objects.as_slice(), person) == NOBODY && look.unowned != NOBODY {
-            market.give(look.unowned, person);
-        }
+        let slack = look.own.saturating_sub(look.least).min(most);
+        sum = sum.saturating_add(slack);
+        settle_person(market, person, own, look);
     }
     looks.add(scaled.problem.pairs.len());
+    sum
 }
 
 /// Serves persons from this one on by tight pairs, as far as a search in depth finds them, while looks
