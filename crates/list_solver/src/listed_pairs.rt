@@ -12,16 +12,6 @@ use cost_lists::{Object, Pairs, Person, Price};
 use sparse_search::{Outcome, Record as SparseRecord, SparseProblem, search};
 use std::alloc::{AllocError, Global};
 
-// A call's first passes over all pairs come on top of its budget, so that each call gets on.
-const FIRST_PASSES: u64 = 3;
-
-fn with_passes(budget: u64, pairs: usize) -> u64 {
-    if budget == 0 {
-        return 0;
-    }
-    budget.saturating_add((pairs as u64).saturating_mul(FIRST_PASSES))
-}
-
 // Whether far more objects are dear than there are persons. At exact prices no unowned object is,
 // and each that is has to be brought down by a search of its own.
 fn are_far_off(prices: &[Price], persons: usize) -> bool {
@@ -102,7 +92,7 @@ fn search_grouped(
         &mut standing.prices,
         &mut standing.objects,
         &mut record,
-        with_passes(budget, grouped.pairs()),
+        budget,
     );
     standing.record = Record::of_sparse(&record);
     let ended = ended_as(outcome?);

@@ -19,10 +19,20 @@ const FINISH: u32 = 7;
 
 const MATCHING: u32 = 8;
 
-// The bits of the flags.
-const HAS_ASSIGNMENT: u32 = 1;
+const FIRST_TIGHT: u32 = 9;
 
-const DROPS_PAIRS: u32 = 2;
+const LAST_TIGHT: u32 = 10;
+
+const HELP: u32 = 11;
+
+const UNOWNED: u32 = 12;
+
+const BIDS: u32 = 13;
+
+const WARM_TIGHT: u32 = 14;
+
+// The bit of the flags.
+const HAS_ASSIGNMENT: u32 = 1;
 
 /// Where a search stands between two calls. Whatever it holds, the checker alone decides about the
 /// next answer.
@@ -37,11 +47,12 @@ pub struct Record {
     pub slackness: i64,
     /// The bids of this phase of the auction.
     pub bids: u64,
-    /// The passes over all pairs that found pairs better than a core's.
+    /// The passes over all pairs that found pairs better than a core's. For listed pairs two numbers of
+    /// 32 bits: where the stage goes on, and how long a search usually was.
     pub passes: u64,
     /// How often dummies bid in this phase.
     pub dummy_bids: u32,
-    /// 1: an assignment is known to exist; 2: pairs in no assignment are dropped.
+    /// 1: an assignment is known to exist.
     pub flags: u32,
     /// The looks at pairs of all calls.
     pub looks: u64,
@@ -76,10 +87,16 @@ fn sparse_stage(number: u32) -> Option<SparseStage> {
     match number {
         COLD => Some(SparseStage::Cold),
         WARM => Some(SparseStage::Warm),
-        PATHS => Some(SparseStage::Paths),
+        WARM_TIGHT => Some(SparseStage::WarmTight),
+        BIDS => Some(SparseStage::Bids),
+        FIRST_TIGHT => Some(SparseStage::FirstTight),
+        PATHS => Some(SparseStage::FirstPaths),
         AUCTION => Some(SparseStage::Auction),
-        FINISH => Some(SparseStage::Finish),
+        HELP => Some(SparseStage::Help),
         MATCHING => Some(SparseStage::Matching),
+        LAST_TIGHT => Some(SparseStage::LastTight),
+        FINISH => Some(SparseStage::LastPaths),
+        UNOWNED => Some(SparseStage::Unowned),
         _ => None,
     }
 }
@@ -88,10 +105,16 @@ fn number_of_sparse(stage: SparseStage) -> u32 {
     match stage {
         SparseStage::Cold => COLD,
         SparseStage::Warm => WARM,
-        SparseStage::Paths => PATHS,
+        SparseStage::WarmTight => WARM_TIGHT,
+        SparseStage::Bids => BIDS,
+        SparseStage::FirstTight => FIRST_TIGHT,
+        SparseStage::FirstPaths => PATHS,
         SparseStage::Auction => AUCTION,
+        SparseStage::Help => HELP,
         SparseStage::Matching => MATCHING,
-        SparseStage::Finish => FINISH,
+        SparseStage::LastTight => LAST_TIGHT,
+        SparseStage::LastPaths => FINISH,
+        SparseStage::Unowned => UNOWNED,
     }
 }
 
@@ -164,7 +187,8 @@ impl Record {
                 bids: self.bids,
                 dummy_bids: self.dummy_bids,
                 has_assignment: self.flags & HAS_ASSIGNMENT != 0,
-                drops_pairs: self.flags & DROPS_PAIRS != 0,
+                place: (self.passes & 0xffff_ffff) as u32,
+                usual: (self.passes >> 32) as u32,
                 looks: self.looks_so_far(),
             },
         }
@@ -193,16 +217,14 @@ impl Record {
     }
 
     pub fn of_sparse(record: &SparseRecord) -> Record {
-        let flags = flag(record.has_assignment, HAS_ASSIGNMENT)
-            | flag(record.drops_pairs, DROPS_PAIRS);
         Record {
             stage: number_of_sparse(record.stage),
             shift: record.shift,
             slackness: record.slackness,
             bids: record.bids,
-            passes: 0,
+            passes: u64::from(record.usual) << 32 | u64::from(record.place),
             dummy_bids: record.dummy_bids,
-            flags,
+            flags: flag(record.has_assignment, HAS_ASSIGNMENT),
             looks: record.looks,
         }
     }

@@ -86,13 +86,29 @@ fn bid_on(
     most
 }
 
-/// Lets each person without an object bid, and those who lose their objects, while looks are left.
-pub fn bid_all(scaled: Scaled<'_>, market: &mut Market, most: u64, looks: &mut Looks) {
+/// Lets persons without an object bid, from this one on, and those who lose their objects, while bids
+/// and looks are left. Returns from whom to go on, at the end the number of persons, and how many bids
+/// are left.
+pub fn bid_all(
+    scaled: Scaled<'_>,
+    market: &mut Market,
+    first: u32,
+    most: u64,
+    looks: &mut Looks,
+) -> (u32, u64) {
+    let persons = place_at(scaled.problem.persons());
     let mut left = most;
-    for person in 0..place_at(scaled.problem.persons()) {
-        if at(market.objects.as_slice(), person) == NOBODY && !looks.is_spent() {
+    for person in first..persons {
+        if left == 0 {
+            return (persons, 0);
+        }
+        if looks.is_spent() {
+            return (person, left);
+        }
+        if at(market.objects.as_slice(), person) == NOBODY {
             let made = bid_on(scaled, market, person, left, looks);
             left = left.saturating_sub(made);
         }
     }
+    (persons, left)
 }

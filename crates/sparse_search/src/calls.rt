@@ -1,9 +1,8 @@
 // The call of a search.
 ghost use Rattle.std.specs.Prelude.{◌≡◌, length};
 
-use super::blocks::{Blocks, find_blocks};
-use super::looks::Looks;
-use super::matching::{Known, Matching, hall_set};
+use super::blocks::Blocks;
+use super::matching::hall_set;
 use super::outcome::Outcome;
 use super::problem::SparseProblem;
 use super::record::{Record, Stage};
@@ -53,7 +52,6 @@ fn search_blocks(
     problem: SparseProblem<'_>,
     blocks: &Blocks,
     told: &mut Told<'_>,
-    limit: u64,
 ) -> Result<Outcome, AllocError> {
     let kept = blocks.kept_pairs(alloc, problem)?;
     let reduced = SparseProblem {
@@ -61,41 +59,14 @@ fn search_blocks(
         pairs: kept.pairs.as_slice(),
         objects: problem.objects,
     };
-    let mut run = told.begin(alloc, reduced, limit)?;
+    let mut run = told.begin(alloc, reduced, u64::MAX)?;
     match run.run()? {
         RunEnd::Best => {
             blocks.lift_prices(alloc, problem, &mut run.market)?;
             told.write(&run);
             Ok(Outcome::Best)
         }
-        RunEnd::Stopped => {
-            told.write(&run);
-            Ok(Outcome::Stopped)
-        }
-        RunEnd::Hall(_) | RunEnd::Drops(_) | RunEnd::Lost => Ok(Outcome::Lost),
-    }
-}
-
-// The blocks of an assignment; none if there is no assignment.
-fn blocks_of(
-    alloc: Global,
-    problem: SparseProblem<'_>,
-    objects: &[u32],
-    looks: &mut Looks,
-) -> Result<Option<Blocks>, AllocError> {
-    let mut matching = Matching::begin(alloc, problem, objects)?;
-    let mut free = Looks {
-        done: looks.done,
-        limit: u64::MAX,
-    };
-    let known = matching.grow(problem, &mut free)?;
-    looks.done = free.done;
-    match known {
-        Known::Full => {
-            let Matching { owners, .. } = matching;
-            Ok(Some(find_blocks(alloc, problem, owners, looks)?))
-        }
-        Known::Blocked(_) | Known::Open => Ok(None),
+        _ => Ok(Outcome::Lost),
     }
 }
 
@@ -115,35 +86,7 @@ fn search_whole(
         RunEnd::Hall(persons) => Ok(Outcome::Hall(hall_set(alloc, problem, persons.as_slice())?)),
         RunEnd::Drops(blocks) => {
             told.record.stage = Stage::Cold;
-            told.record.drops_pairs = true;
-            search_blocks(alloc, problem, &blocks, told, limit)
-        }
-    }
-}
-
-// Goes on without the pairs that lie in no assignment. The looks at which these are found come on
-// top of the call's own, so that calls of any budget get on.
-fn go_on_in_blocks(
-    alloc: Global,
-    problem: SparseProblem<'_>,
-    told: &mut Told<'_>,
-    limit: u64,
-) -> Result<Outcome, AllocError> {
-    let mut looks = Looks {
-        done: told.record.looks,
-        limit,
-    };
-    match blocks_of(alloc, problem, told.objects, &mut looks)? {
-        Some(blocks) => {
-            let room = limit.saturating_sub(told.record.looks);
-            let limit = looks.done.saturating_add(room);
-            told.record.looks = looks.done;
-            told.record.has_assignment = true;
-            search_blocks(alloc, problem, &blocks, told, limit)
-        }
-        None => {
-            *told.record = Record::cold();
-            search_whole(alloc, problem, told, limit)
+            search_blocks(alloc, problem, &blocks, told)
         }
     }
 }
@@ -180,9 +123,5 @@ pub fn search(
         objects,
         record,
     };
-    if told.record.drops_pairs {
-        go_on_in_blocks(alloc, problem, &mut told, limit)
-    } else {
-        search_whole(alloc, problem, &mut told, limit)
-    }
+    search_whole(alloc, problem, &mut told, limit)
 }

@@ -6,6 +6,7 @@ mod auction;
 mod bids;
 mod blocks;
 mod calls;
+mod forecast;
 mod heap;
 mod looks;
 mod market;

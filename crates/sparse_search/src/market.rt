@@ -69,6 +69,29 @@ impl Market {
         Ok(persons)
     }
 
+    /// How many persons have no object.
+    pub fn count_unserved(&self) -> usize {
+        let mut count = 0usize;
+        for object in &self.objects {
+            if *object == NOBODY {
+                count = count.wrapping_add(1);
+            }
+        }
+        count
+    }
+
+    /// How many unowned objects are dearer than the cheapest object.
+    pub fn count_dear(&self) -> usize {
+        let least = self.least_price();
+        let mut count = 0usize;
+        for (price, owner) in self.prices.iter().zip(&self.owners) {
+            if *owner == NOBODY && *price > least {
+                count = count.wrapping_add(1);
+            }
+        }
+        count
+    }
+
     /// Takes over prices, which are cut where sums with them could leave the range.
     pub fn set_prices(&mut self, prices: &[i64]) {
         for (price, given) in self.prices.iter_mut().zip(prices) {

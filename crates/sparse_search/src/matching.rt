@@ -41,16 +41,13 @@ fn first_unowned(row: &[Pair], owners: &[u32]) -> u32 {
     NOBODY
 }
 
-fn lists(row: &[Pair], object: u32) -> bool {
-    row.iter().any(|pair| pair.object == object)
-}
-
 impl Matching {
-    /// Begins from those of these objects that their persons list.
+    /// Begins from these objects, which their persons list.
     pub fn begin(
         alloc: Global,
         problem: SparseProblem<'_>,
         first: &[u32],
+        looks: &mut Looks,
     ) -> Result<Matching, AllocError> {
         let persons = problem.persons();
         let mut matching = Matching {
@@ -62,25 +59,25 @@ impl Matching {
             path: Vec::new(alloc),
             last_layer: NOBODY,
         };
-        matching.take_listed(problem, first);
-        matching.take_unowned(problem);
+        matching.take_plan(first);
+        matching.take_unowned(problem, looks);
         Ok(matching)
     }
 
-    fn take_listed(&mut self, problem: SparseProblem<'_>, first: &[u32]) {
+    fn take_plan(&mut self, first: &[u32]) {
         for (k, object) in first.iter().enumerate() {
-            let person = place_at(k);
-            let is_free = is_unowned(self.owners.as_slice(), *object);
-            if is_free && lists(problem.row(person), *object) {
-                self.give(*object, person);
+            if is_unowned(self.owners.as_slice(), *object) {
+                self.give(*object, place_at(k));
             }
         }
     }
 
-    fn take_unowned(&mut self, problem: SparseProblem<'_>) {
+    fn take_unowned(&mut self, problem: SparseProblem<'_>, looks: &mut Looks) {
         for person in 0..place_at(problem.persons()) {
             if at(self.objects.as_slice(), person) == NOBODY {
-                let object = first_unowned(problem.row(person), self.owners.as_slice());
+                let row = problem.row(person);
+                looks.add(row.len());
+                let object = first_unowned(row, self.owners.as_slice());
                 if object != NOBODY {
                     self.give(object, person);
                 }
@@ -201,6 +198,7 @@ impl Matching {
                     self.path.push(owner)?;
                 }
                 Step::None => {
+                    looks.add(row.len());
                     put(self.layers.as_mut_slice(), person, NOBODY);
                     let _ = self.path.pop();
                 }
@@ -209,11 +207,20 @@ impl Matching {
         Ok(false)
     }
 
-    // One phase: disjoint shortest paths.
-    fn improve(&mut self, problem: SparseProblem<'_>, looks: &mut Looks) -> Result<(), AllocError> {
+    // One phase: disjoint shortest paths, while looks are left, but at least one if one is needed.
+    fn improve(
+        &mut self,
+        problem: SparseProblem<'_>,
+        is_needed: bool,
+        looks: &mut Looks,
+    ) -> Result<(), AllocError> {
+        let mut is_needed = is_needed;
         for person in 0..place_at(problem.persons()) {
+            if looks.is_spent() && !is_needed {
+                return Ok(());
+            }
             if at(self.objects.as_slice(), person) == NOBODY {
-                let _ = self.serve(problem, person, looks)?;
+                is_needed = !self.serve(problem, person, looks)? && is_needed;
             }
         }
         Ok(())
@@ -228,10 +235,12 @@ impl Matching {
         NOBODY
     }
 
-    /// Phases until no more persons can have objects, or the looks are spent.
+    /// Phases until no more persons can have objects, or the looks are spent. A call that begins with
+    /// these serves at least one person.
     pub fn grow(
         &mut self,
         problem: SparseProblem<'_>,
+        is_fresh: bool,
         looks: &mut Looks,
     ) -> Result<Known, AllocError> {
         for _phase in 0..problem.persons().saturating_add(1) {
@@ -243,7 +252,7 @@ impl Matching {
             if self.last_layer == NOBODY {
                 return Ok(Known::Blocked(person));
             }
-            self.improve(problem, looks)?;
+            self.improve(problem, is_fresh, looks)?;
             if looks.is_spent() {
                 return Ok(Known::Open);
             }

@@ -7,14 +7,26 @@ pub enum Stage {
     Cold,
     /// It begins from prices, in the unit of the costs, and objects that somebody has.
     Warm,
+    /// Tight pairs at these prices.
+    WarmTight,
+    /// Bids without slackness.
+    Bids,
+    /// Tight pairs, before the first searches.
+    FirstTight,
     /// Searches for the persons who are left over by bids without slackness.
-    Paths,
+    FirstPaths,
     /// The auction.
     Auction,
+    /// Searches for the persons who wait in the auction.
+    Help,
     /// The matching without costs, whose objects are in the place of the auction's.
     Matching,
+    /// Tight pairs at the auction's prices, before the last searches.
+    LastTight,
     /// Searches from the auction's prices.
-    Finish,
+    LastPaths,
+    /// Everybody is served, and the prices of dear unowned objects come down.
+    Unowned,
 }
 
 /// What the next call needs to go on, with prices and objects. Whatever it holds, an answer is
@@ -27,14 +39,19 @@ pub struct Record {
     /// The slackness of the auction; before it, the one to begin with from these prices, or 0 to begin
     /// at prices of 0.
     pub slackness: i64,
-    /// The bids of this phase of the auction since searches last helped it.
+    /// The bids of this phase of the auction since searches last helped it. Of bids without
+    /// slackness how many are left; in the first searches the looks when they began, in those that help
+    /// the looks when they end.
     pub bids: u64,
-    /// How often dummies bid in this phase.
+    /// How often dummies bid in this phase. In the first searches how many ended.
     pub dummy_bids: u32,
     /// Whether an assignment is known to exist.
     pub has_assignment: bool,
-    /// Whether pairs in no assignment are dropped.
-    pub drops_pairs: bool,
+    /// Where a stage goes on, 0 at its beginning. In the first searches the looks of those that ended,
+    /// of which a long one counts as a shorter one.
+    pub place: u32,
+    /// Four times the looks of one of the first searches, once it is known.
+    pub usual: u32,
     /// The looks at pairs of all calls.
     pub looks: u64,
 }
@@ -49,7 +66,8 @@ impl Record {
             bids: 0,
             dummy_bids: 0,
             has_assignment: false,
-            drops_pairs: false,
+            place: 0,
+            usual: 0,
             looks: 0,
         }
     }
@@ -62,7 +80,12 @@ impl Record {
         }
     }
 
+    /// At the beginning of a stage.
     pub fn with_stage(self, stage: Stage) -> Record {
-        Record { stage, ..self }
+        Record {
+            stage,
+            place: 0,
+            ..self
+        }
     }
 }

@@ -2,24 +2,21 @@
 use super::auction::{Ahead, Queue, Terms, bid_for_dummies, bid_from_queue};
 use super::bids::{bid_all, set_first_prices};
 use super::blocks::{Blocks, find_blocks};
+use super::forecast::Forecast;
 use super::looks::Looks;
 use super::market::Market;
 use super::matching::{Known, Matching};
-use super::pace::Pace;
 use super::path::{End, PathSearch};
 use super::place::{NOBODY, place_at};
 use super::problem::{Scaled, SparseProblem};
 use super::record::{Record, Stage};
-use super::row::look_at;
-use super::tight::match_tight;
+use super::tight::{count_slack, match_tight, settle};
 use super::unowned::{bring_down, lower_unowned};
 use std::alloc::{AllocError, Global};
 
 // The numbers come from measurements; no answer depends on them.
 // Bids without slackness, for each person.
 const FIRST_BIDS: u64 = 2;
-// The most looks of the first searches, for each pair, by their pace.
-const FIRST_LOOKS: u64 = 5;
 // The bids of a phase for each person, after which a matching without costs is asked for.
 const BIDS_BEFORE_MATCHING: u64 = 12;
 // The bids of a phase for each person, after which searches help, and their looks for each pair.
@@ -30,6 +27,18 @@ const SEARCH_LOOKS: u64 = 32;
 const FALL: i64 = 5;
 // The most bids of dummies in a phase.
 const DUMMY_BIDS: u32 = 4;
+// With more objects than persons by this part a search is short, unless as few persons are left.
+const WIDE: usize = 8;
+
+const FEW: usize = 512;
+
+const SAMPLE: usize = 16;
+// Prices are left if more persons than this part find no object by them.
+const MOST_LEFT: usize = 32;
+// So many unowned objects come down one by one.
+const FEW_DEAR: usize = 4;
+// The looks of more, for each pair, instead of which an auction begins.
+const DEAR_LOOKS: u64 = 2;
 // Costs count at most 2 to this power times.
 const MOST_SHIFT: u32 = 9;
 
@@ -43,7 +52,8 @@ pub struct Run<'a> {
     pub record: Record,
     looks: Looks,
     ahead: Ahead,
-    spread: i64,
+    // Once a stage asked for it.
+    spread: Option<i64>,
 }
 
 /// How it ended.
@@ -59,6 +69,7 @@ pub enum RunEnd {
 }
 
 // How a run of searches ended.
+#[derive(Drop)]
 enum Served {
     All,
     Hall(Vec<u32>),
@@ -81,23 +92,6 @@ fn shift_for(problem: SparseProblem<'_>, spread: i64) -> u32 {
         }
     }
     shift
-}
-
-// The sum of how much owned objects are worse than the best, with this much for persons without one.
-fn slack_sum(scaled: Scaled<'_>, market: &Market, unserved: i64) -> i64 {
-    let (prices, owners) = (market.prices.as_slice(), market.owners.as_slice());
-    let mut sum = 0i64;
-    for (k, object) in market.objects.iter().enumerate() {
-        let row = scaled.problem.row(place_at(k));
-        let look = look_at(row, prices, owners, scaled.shift, *object);
-        let slack = if *object == NOBODY {
-            unserved
-        } else {
-            look.own.saturating_sub(look.least).min(unserved)
-        };
-        sum = sum.saturating_add(slack);
-    }
-    sum
 }
 
 impl<'a> Run<'a> {
@@ -124,8 +118,20 @@ impl<'a> Run<'a> {
                 limit,
             },
             ahead: Ahead { objects: 0 },
-            spread: problem.spread(),
+            spread: None,
         })
+    }
+
+    // The greatest cost less the least one.
+    fn spread(&mut self) -> i64 {
+        match self.spread {
+            Some(spread) => spread,
+            None => {
+                let spread = self.problem.spread();
+                self.spread = Some(spread);
+                spread
+            }
+        }
     }
 
     fn scaled(&self) -> Scaled<'a> {
@@ -143,10 +149,14 @@ impl<'a> Run<'a> {
         self.problem.pairs.len() as u64
     }
 
-    /// All stages up to the end.
+    /// All stages up to the end, or until the looks are spent.
     pub fn run(&mut self) -> Result<RunEnd, AllocError> {
         for _stage in 0..u32::MAX {
-            if let Some(end) = self.step()? {
+            let end = match self.step()? {
+                None if self.looks.is_spent() => Some(RunEnd::Stopped),
+                end => end,
+            };
+            if let Some(end) = end {
                 self.record.looks = self.looks.done;
                 return Ok(end);
             }
@@ -158,10 +168,16 @@ impl<'a> Run<'a> {
         match self.record.stage {
             Stage::Cold => self.begin_cold(),
             Stage::Warm => self.begin_warm()?,
-            Stage::Paths => return self.first_paths(),
+            Stage::Bids => self.first_bids(),
+            Stage::WarmTight => self.match_warm()?,
+            Stage::FirstTight => self.match_tight(Stage::FirstPaths)?,
+            Stage::FirstPaths => return self.first_paths(),
             Stage::Auction => return self.auction(),
+            Stage::Help => return self.help(),
             Stage::Matching => return self.go_on_matching(),
-            Stage::Finish => return self.last_paths(),
+            Stage::LastTight => self.match_tight(Stage::LastPaths)?,
+            Stage::LastPaths => return self.last_paths(),
+            Stage::Unowned => return self.bring_down_unowned(),
         }
         Ok(None)
     }
@@ -172,46 +188,115 @@ impl<'a> Run<'a> {
         let mut bids = FIRST_BIDS.saturating_mul(self.persons());
         if self.problem.is_square() {
             set_first_prices(self.problem, &mut self.market);
+            self.looks.add(self.problem.pairs.len());
         } else {
             bids = bids.saturating_mul(2);
         }
         self.record.shift = 0;
         self.record.slackness = 0;
-        let scaled = self.scaled();
-        bid_all(scaled, &mut self.market, bids, &mut self.looks);
-        self.record.stage = Stage::Paths;
+        self.record = self.record.with_stage(Stage::Bids);
+        self.record.bids = bids;
+    }
+
+    fn first_bids(&mut self) {
+        let (scaled, first, most) = (self.scaled(), self.record.place, self.record.bids);
+        let (ended, left) = bid_all(scaled, &mut self.market, first, most, &mut self.looks);
+        self.record.place = ended;
+        self.record.bids = left;
+        if (ended as usize) >= self.problem.persons() {
+            self.record = self.record.with_stage(self.after_bids());
+        }
+    }
+
+    // An assignment is known to exist after an auction that was left.
+    fn after_bids(&self) -> Stage {
+        if self.record.has_assignment {
+            Stage::LastTight
+        } else {
+            Stage::FirstTight
+        }
     }
 
     // From somebody's prices and objects: an auction would begin with the mean slack.
     fn begin_warm(&mut self) -> Result<(), AllocError> {
         self.record.shift = 0;
         let scaled = self.scaled();
-        let unserved = self.spread / 25;
-        let sum = slack_sum(scaled, &self.market, unserved);
+        if self.is_sooner_cold(scaled) {
+            self.record = self.record.with_stage(Stage::Cold);
+            return Ok(());
+        }
+        let spread = self.spread();
+        let sum = settle(scaled, &mut self.market, spread / 25, &mut self.looks);
         let persons = (self.persons() & 0xffff_ffff) as i64;
         let mean = sum.checked_div(persons).unwrap_or(0);
-        self.record.slackness = if mean < self.spread / 50 {
-            mean.max(1)
-        } else {
-            0
-        };
-        if !self.problem.is_square() {
-            lower_unowned(self.alloc, scaled, &mut self.market, &mut self.looks)?;
-        }
-        self.record.stage = Stage::Paths;
+        self.record.slackness = if mean < spread / 50 { mean.max(1) } else { 0 };
+        self.lower_dear(scaled)?;
+        self.record = self.record.with_stage(Stage::WarmTight);
+        self.record.place = 1;
         Ok(())
     }
 
-    // Searches for these persons one by one, up to a limit of looks, or while the pace is good. At least
-    // one ends, so that calls of any budget get on.
+    // Whether there are far more objects than persons, which is solved in a few passes over all pairs,
+    // and some persons have no object or no best one.
+    fn is_sooner_cold(&mut self, scaled: Scaled<'a>) -> bool {
+        let (persons, objects) = (self.problem.persons(), self.problem.objects);
+        if objects <= persons.saturating_add(persons / WIDE) {
+            return false;
+        }
+        let few = persons / FEW;
+        self.market.count_unserved() > few
+            || count_slack(scaled, &self.market, SAMPLE, &mut self.looks) > few / SAMPLE
+    }
+
+    // Tight pairs at somebody's prices. Prices that fit few persons are left.
+    fn match_warm(&mut self) -> Result<(), AllocError> {
+        self.match_tight(Stage::FirstPaths)?;
+        let is_over = matches!(self.record.stage, Stage::FirstPaths);
+        let most = self.problem.persons() / MOST_LEFT;
+        if is_over && self.record.slackness == 0 && self.market.count_unserved() > most {
+            self.record = self.record.with_stage(Stage::Cold);
+        }
+        Ok(())
+    }
+
+    // Lowers the prices of unowned objects, unless searches for each are sooner done.
+    fn lower_dear(&mut self, scaled: Scaled<'_>) -> Result<(), AllocError> {
+        if self.market.count_dear() > FEW_DEAR {
+            lower_unowned(self.alloc, scaled, &mut self.market, &mut self.looks)?;
+        }
+        Ok(())
+    }
+
+    // Keeps tight pairs alone, and serves persons by them. Then this stage comes.
+    fn match_tight(&mut self, next: Stage) -> Result<(), AllocError> {
+        let scaled = self.scaled();
+        let place = self.record.place;
+        if place == 0 {
+            let _ = settle(scaled, &mut self.market, 0, &mut self.looks);
+            self.record.place = 1;
+            return Ok(());
+        }
+        let first = place.saturating_sub(1);
+        let ended = match_tight(self.alloc, scaled, &mut self.market, first, &mut self.looks)?;
+        self.record.place = ended.saturating_add(1);
+        if (ended as usize) >= self.problem.persons() {
+            self.record = self.record.with_stage(next);
+            self.record.bids = self.looks.done;
+            self.record.dummy_bids = 0;
+            self.record.usual = 0;
+        }
+        Ok(())
+    }
+
+    // Searches for these persons one by one, up to a limit of looks, or while the forecast is good. At
+    // least one ends, so that calls of any budget get on.
     fn serve_all(
         &mut self,
         persons: &[u32],
         limit: Looks,
-        pace: Option<Pace>,
+        forecast: &mut Option<Forecast>,
     ) -> Result<Served, AllocError> {
         let scaled = self.scaled();
-        let mut pace = pace;
         for (k, person) in persons.iter().enumerate() {
             if let End::Blocked = self
                 .search
@@ -222,73 +307,103 @@ impl<'a> Run<'a> {
                     .blocked_persons(self.alloc, &self.market, *person)?;
                 return Ok(Served::Hall(blocked));
             }
+            let left = persons.len().saturating_sub(k);
+            if is_slow(forecast, self.looks, left) {
+                return Ok(Served::Slow);
+            }
             if self.looks.done >= limit.limit {
                 return Ok(Served::Spent);
-            }
-            if is_slow(&mut pace, self.looks, persons.len().saturating_sub(k)) {
-                return Ok(Served::Slow);
             }
         }
         Ok(Served::All)
     }
 
     // After each person is served: unowned objects have to be as cheap as any.
-    fn settle_unowned(&mut self) -> Result<Option<RunEnd>, AllocError> {
+    fn after_all(&mut self) -> Option<RunEnd> {
+        if self.problem.is_square() {
+            return self.bring_to_costs();
+        }
+        self.record = self.record.with_stage(Stage::Unowned);
+        None
+    }
+
+    fn bring_to_costs(&mut self) -> Option<RunEnd> {
+        self.market.bring_to_costs(self.scaled().shift);
+        Some(RunEnd::Best)
+    }
+
+    fn bring_down_unowned(&mut self) -> Result<Option<RunEnd>, AllocError> {
         let scaled = self.scaled();
-        if !self.problem.is_square() {
-            lower_unowned(self.alloc, scaled, &mut self.market, &mut self.looks)?;
-            for _object in 0..self.problem.objects {
-                if !bring_down(&mut self.search, scaled, &mut self.market, &mut self.looks)? {
-                    break;
-                }
-                if self.looks.is_spent() {
-                    return Ok(Some(RunEnd::Stopped));
-                }
+        if self.record.place == 0 {
+            self.lower_dear(scaled)?;
+            self.record.place = 1;
+            return Ok(None);
+        }
+        for _object in 0..self.problem.objects {
+            if !bring_down(&mut self.search, scaled, &mut self.market, &mut self.looks)? {
+                return Ok(self.bring_to_costs());
+            }
+            if self.looks.is_spent() {
+                return Ok(None);
             }
         }
-        self.market.bring_to_costs(scaled.shift);
-        Ok(Some(RunEnd::Best))
+        Ok(self.bring_to_costs())
     }
 
     fn first_paths(&mut self) -> Result<Option<RunEnd>, AllocError> {
-        let scaled = self.scaled();
-        let left = match_tight(self.alloc, scaled, &mut self.market, &mut self.looks)?;
-        let most = FIRST_LOOKS.saturating_mul(self.pairs());
-        let pace = Pace::begin(left.len(), self.looks, most);
-        match self.serve_all(left.as_slice(), self.looks, Some(pace))? {
-            Served::All => self.settle_unowned(),
+        let left = self.market.unserved(self.alloc)?;
+        self.record.looks = self.looks.done;
+        let pairs = self.problem.pairs.len();
+        let mut forecast = Some(Forecast::of(&self.record, left.len(), pairs));
+        let served = self.serve_all(left.as_slice(), self.looks, &mut forecast)?;
+        if let Some(forecast) = forecast {
+            forecast.write(&mut self.record);
+        }
+        match served {
+            Served::All if !self.has_many_dear()? => Ok(self.after_all()),
             Served::Hall(persons) => Ok(Some(RunEnd::Hall(persons))),
-            Served::Spent => Ok(Some(RunEnd::Stopped)),
-            Served::Slow => {
+            Served::Spent => Ok(None),
+            Served::All | Served::Slow => {
                 self.begin_auction();
                 Ok(None)
             }
         }
     }
 
-    fn last_paths(&mut self) -> Result<Option<RunEnd>, AllocError> {
+    // Whether an auction is sooner done than a search for each dear unowned object.
+    fn has_many_dear(&mut self) -> Result<bool, AllocError> {
         let scaled = self.scaled();
-        let left = match_tight(self.alloc, scaled, &mut self.market, &mut self.looks)?;
-        match self.serve_all(left.as_slice(), self.looks, None)? {
-            Served::All => self.settle_unowned(),
+        self.lower_dear(scaled)?;
+        let looks = self
+            .market
+            .count_dear()
+            .saturating_mul(self.problem.objects);
+        Ok(looks as u64 > DEAR_LOOKS.saturating_mul(self.pairs()))
+    }
+
+    fn last_paths(&mut self) -> Result<Option<RunEnd>, AllocError> {
+        let left = self.market.unserved(self.alloc)?;
+        match self.serve_all(left.as_slice(), self.looks, &mut None)? {
+            Served::All => Ok(self.after_all()),
             Served::Hall(persons) => Ok(Some(RunEnd::Hall(persons))),
-            Served::Spent | Served::Slow => Ok(Some(RunEnd::Stopped)),
+            Served::Spent | Served::Slow => Ok(None),
         }
     }
 
     fn begin_auction(&mut self) {
-        let shift = shift_for(self.problem, self.spread);
+        let spread = self.spread();
+        let shift = shift_for(self.problem, spread);
         if self.record.slackness > 0 {
             self.market.scale_prices(shift);
             self.record.slackness = self.record.slackness.wrapping_shl(shift);
         } else {
             self.market.clear_prices();
-            self.record.slackness = self.spread.wrapping_shl(shift) / FALL;
+            self.record.slackness = spread.wrapping_shl(shift) / FALL;
         }
         self.record.slackness = self.record.slackness.max(1);
         self.record.shift = shift;
         self.begin_phase();
-        self.record.stage = Stage::Auction;
+        self.record = self.record.with_stage(Stage::Auction);
     }
 
     fn begin_phase(&mut self) {
@@ -297,8 +412,8 @@ impl<'a> Run<'a> {
         self.record.dummy_bids = 0;
     }
 
-    fn terms(&self) -> Terms {
-        let scaled_spread = self.spread.wrapping_shl(self.scaled().shift);
+    fn terms(&mut self) -> Terms {
+        let scaled_spread = self.spread().wrapping_shl(self.scaled().shift);
         Terms {
             slackness: self.record.slackness.max(1),
             lone_raise: scaled_spread.wrapping_mul(2).wrapping_add(1),
@@ -328,72 +443,79 @@ impl<'a> Run<'a> {
         );
         self.record.bids = self.record.bids.saturating_add(made);
         if queue.is_empty() && made <= most {
-            return self.end_phase();
+            self.end_phase()?;
+            return Ok(None);
         }
         if self.looks.is_spent() {
-            return Ok(Some(RunEnd::Stopped));
+            return Ok(None);
         }
         if self.record.has_assignment {
-            self.help_phase()
+            self.begin_help();
+            Ok(None)
         } else {
             self.find_matching(false)
         }
     }
 
-    // Searches for those who still wait, at the slackness of the phase.
-    fn help_phase(&mut self) -> Result<Option<RunEnd>, AllocError> {
-        let waiting = self.market.unserved(self.alloc)?;
+    fn begin_help(&mut self) {
         let most = SEARCH_LOOKS
             .saturating_mul(self.pairs())
             .max(self.looks.done / 2);
+        self.record = self.record.with_stage(Stage::Help);
+        self.record.bids = self.looks.done.saturating_add(most);
+    }
+
+    // Searches for those who still wait, at the slackness of the phase.
+    fn help(&mut self) -> Result<Option<RunEnd>, AllocError> {
+        let waiting = self.market.unserved(self.alloc)?;
+        let most = self.record.bids.saturating_sub(self.looks.done);
+        let served = self.serve_all(waiting.as_slice(), self.looks.within(most), &mut None)?;
+        if self.looks.is_spent() && self.looks.done < self.record.bids {
+            return Ok(end_if_blocked(served));
+        }
+        self.record = self.record.with_stage(Stage::Auction);
         self.record.bids = 0;
-        match self.serve_all(waiting.as_slice(), self.looks.within(most), None)? {
-            Served::All => self.end_phase(),
-            Served::Hall(persons) => Ok(Some(RunEnd::Hall(persons))),
-            Served::Spent | Served::Slow => Ok(self.stop_if_spent()),
+        match served {
+            Served::All => self.end_phase()?,
+            Served::Hall(persons) => return Ok(Some(RunEnd::Hall(persons))),
+            Served::Spent | Served::Slow => {}
         }
+        Ok(None)
     }
 
-    fn stop_if_spent(&self) -> Option<RunEnd> {
-        if self.looks.is_spent() {
-            Some(RunEnd::Stopped)
-        } else {
-            None
-        }
-    }
-
-    fn end_phase(&mut self) -> Result<Option<RunEnd>, AllocError> {
+    fn end_phase(&mut self) -> Result<(), AllocError> {
         if !self.problem.is_square() && self.record.dummy_bids < DUMMY_BIDS {
             self.record.dummy_bids = self.record.dummy_bids.wrapping_add(1);
             self.looks.add(self.problem.objects);
             if bid_for_dummies(self.alloc, &mut self.market, self.record.slackness)? {
-                return Ok(self.stop_if_spent());
+                return Ok(());
             }
         }
         if self.record.slackness <= 1 {
-            self.record.stage = Stage::Finish;
+            self.record = self.record.with_stage(Stage::LastTight);
         } else {
             self.record.slackness = (self.record.slackness / FALL).max(1);
             self.begin_phase();
         }
-        Ok(self.stop_if_spent())
+        Ok(())
     }
 
     // A matching that was stopped: the phase begins again after it.
     fn go_on_matching(&mut self) -> Result<Option<RunEnd>, AllocError> {
-        self.record.stage = Stage::Auction;
+        self.record = self.record.with_stage(Stage::Auction);
         self.find_matching(true)
     }
 
     // Whether an assignment exists, and whether some pairs are in none.
     fn find_matching(&mut self, begins_anew: bool) -> Result<Option<RunEnd>, AllocError> {
-        let mut matching = Matching::begin(
-            self.alloc,
-            self.problem,
-            self.market.objects.as_slice(),
-        )?;
-        match matching.grow(self.problem, &mut self.looks)? {
-            Known::Full => {
+        let begun = self.looks.done;
+        let objects = self.market.objects.as_slice();
+        let mut matching = Matching::begin(self.alloc, self.problem, objects, &mut self.looks)?;
+        let is_fresh = begun == self.record.looks;
+        let known = matching.grow(self.problem, is_fresh, &mut self.looks)?;
+        let is_known = is_fresh && self.looks.done == begun;
+        match known {
+            Known::Full if is_known || self.has_room() => {
                 self.record.has_assignment = true;
                 if begins_anew {
                     self.begin_phase();
@@ -406,32 +528,50 @@ impl<'a> Run<'a> {
                 let persons = Vec::from_slice(self.alloc, matching.persons())?;
                 Ok(Some(RunEnd::Hall(persons)))
             }
-            Known::Open => {
+            Known::Full | Known::Open => {
                 self.market.take_plan(matching.objects.as_slice());
-                self.record.stage = Stage::Matching;
+                self.record = self.record.with_stage(Stage::Matching);
                 Ok(Some(RunEnd::Stopped))
             }
         }
     }
 
-    // Drops pairs if at least a twentieth is in no assignment.
+    // Whether looks for the passes are left that find and drop pairs.
+    fn has_room(&self) -> bool {
+        let passes = self.pairs().saturating_mul(3);
+        self.looks.done.saturating_add(passes) <= self.looks.limit
+    }
+
+    // Drops pairs if at least a twentieth is in no assignment. A search with a limit would have to find
+    // them in each call: it drops pairs if a single plan is left, and else leaves the auction.
     fn look_for_blocks(&mut self, owners: Vec<u32>) -> Result<Option<RunEnd>, AllocError> {
         let blocks = find_blocks(self.alloc, self.problem, owners, &mut self.looks)?;
         let kept = blocks.count_kept(self.problem);
         let pairs = self.problem.pairs.len();
-        if kept < pairs.saturating_sub(pairs / 20) {
-            Ok(Some(RunEnd::Drops(blocks)))
-        } else {
-            Ok(None)
+        if kept >= pairs.saturating_sub(pairs / 20) {
+            return Ok(None);
         }
+        if self.looks.limit == u64::MAX || kept == self.problem.persons() {
+            return Ok(Some(RunEnd::Drops(blocks)));
+        }
+        self.begin_cold();
+        Ok(None)
     }
 }
 
-// Whether the pace is too slow after one more search.
-fn is_slow(pace: &mut Option<Pace>, looks: Looks, left: usize) -> bool {
-    match pace {
+// The end of searches that are stopped.
+fn end_if_blocked(served: Served) -> Option<RunEnd> {
+    match served {
+        Served::Hall(persons) => Some(RunEnd::Hall(persons)),
+        Served::All | Served::Spent | Served::Slow => None,
+    }
+}
+
+// Whether searches would take too long, after one more.
+fn is_slow(forecast: &mut Option<Forecast>, looks: Looks, left: usize) -> bool {
+    match forecast {
         None => false,
-        Some(pace) => !pace.goes_on(looks, left),
+        Some(forecast) => !forecast.goes_on(looks, left),
     }
 }
 

@@ -3,11 +3,11 @@ use super::looks::Looks;
 use super::market::Market;
 use super::place::{NOBODY, at, is_unowned, place_at, put};
 use super::problem::{Pair, Scaled};
-use super::row::{FAR, look_at, value};
+use super::row::{FAR, Look, least_value, look_at, value};
 use std::alloc::{AllocError, Global};
 
-// Where a search along tight pairs stands: the least value of each person, the next pairs of each row
-// in which an owned and an unowned object are looked for, the persons seen, and the path.
+// Where a search along tight pairs stands: the least value of each person seen, the next pairs of
+// each row in which an owned and an unowned object are looked for, the persons seen, and the path.
 #[derive(Drop)]
 struct Deepening {
     leasts: Vec<i64>,
@@ -86,10 +86,9 @@ fn mark(seen: &mut [bool], place: u32) {
 }
 
 impl Deepening {
-    fn new(alloc: Global, leasts: Vec<i64>) -> Result<Deepening, AllocError> {
-        let count = leasts.len();
+    fn new(alloc: Global, count: usize) -> Result<Deepening, AllocError> {
         Ok(Deepening {
-            leasts,
+            leasts: vec![in alloc; 0i64; count]?,
             next: vec![in alloc; 0u32; count]?,
             ahead: vec![in alloc; 0u32; count]?,
             seen: vec![in alloc; false; count]?,
@@ -106,9 +105,28 @@ impl Deepening {
         }
     }
 
-    fn enter(&mut self, person: u32) -> Result<(), AllocError> {
+    fn enter(
+        &mut self,
+        scaled: Scaled<'_>,
+        market: &Market,
+        person: u32,
+        looks: &mut Looks,
+    ) -> Result<(), AllocError> {
+        let row = scaled.problem.row(person);
+        looks.add(row.len());
+        let place = person as usize;
+        if place < self.leasts.len() {
+            self.leasts[place] = least_value(row, market.prices.as_slice(), scaled.shift);
+        }
         mark(self.seen.as_mut_slice(), person);
         Ok(self.path.push(person)?)
+    }
+
+    // Keeps where the look for objects goes on.
+    fn note(list: &mut [u32], person: u32, spot: Spot, looks: &mut Looks) {
+        let from = at(list, person);
+        looks.add(spot.pair.saturating_sub(from) as usize);
+        put(list, person, spot.pair);
     }
 
     // One step from the end of the path: to an unowned object, to another person, or back. Returns
@@ -118,89 +136,111 @@ impl Deepening {
         scaled: Scaled<'_>,
         market: &mut Market,
         person: u32,
+        looks: &mut Looks,
     ) -> Result<bool, AllocError> {
         let sight = self.sight(scaled, person, at(self.ahead.as_slice(), person));
         let unowned = find_unowned(sight, market);
-        put(self.ahead.as_mut_slice(), person, unowned.pair);
+        Deepening::note(self.ahead.as_mut_slice(), person, unowned, looks);
         if unowned.place != NOBODY {
             take_path(self.path.as_slice(), market, unowned.place);
             return Ok(true);
         }
         let sight = self.sight(scaled, person, at(self.next.as_slice(), person));
         let owner = find_owner(sight, market, self.seen.as_slice());
-        put(self.next.as_mut_slice(), person, owner.pair);
+        Deepening::note(self.next.as_mut_slice(), person, owner, looks);
         if owner.place == NOBODY {
             let _ = self.path.pop();
         } else {
-            self.enter(owner.place)?;
+            self.enter(scaled, market, owner.place, looks)?;
         }
         Ok(false)
     }
 
-    // Whether the person got an object.
+    // Gives the person an object if tight pairs lead to one, and the looks last.
     fn serve(
         &mut self,
         scaled: Scaled<'_>,
         market: &mut Market,
         first: u32,
-    ) -> Result<bool, AllocError> {
+        looks: &mut Looks,
+    ) -> Result<(), AllocError> {
         self.path.clear();
-        self.enter(first)?;
+        self.enter(scaled, market, first, looks)?;
         for _step in 0..self.leasts.len().saturating_mul(2).saturating_add(1) {
             let Some(person) = self.path.last().copied() else {
-                return Ok(false);
+                return Ok(());
             };
-            if self.step(scaled, market, person)? {
-                return Ok(true);
+            if looks.is_spent() || self.step(scaled, market, person, looks)? {
+                return Ok(());
             }
         }
-        Ok(false)
+        Ok(())
     }
 }
 
-// Takes their objects from persons whose pairs aren't tight, and gives unowned objects with tight
-// pairs to persons without one. Returns the least value of each person.
-fn settle(alloc: Global, scaled: Scaled<'_>, market: &mut Market) -> Result<Vec<i64>, AllocError> {
-    let persons = scaled.problem.persons();
-    let mut leasts = Vec::with_capacity(alloc, persons)?;
-    for person in 0..place_at(persons) {
+/// How many persons own no object with a tight pair, among each `step`th one.
+pub fn count_slack(scaled: Scaled<'_>, market: &Market, step: usize, looks: &mut Looks) -> usize {
+    let mut count = 0usize;
+    for k in 0..scaled.problem.persons() / step.max(1) {
+        let person = place_at(k.wrapping_mul(step));
         let own = at(market.objects.as_slice(), person);
         let (prices, owners) = (market.prices.as_slice(), market.owners.as_slice());
-        let look = look_at(
-            scaled.problem.row(person),
-            prices,
-            owners,
-            scaled.shift,
-            own,
-        );
-        if own != NOBODY && (look.own > look.least || look.own >= FAR) {
-            market.leave(person);
+        let row = scaled.problem.row(person);
+        looks.add(row.len());
+        let look = look_at(row, prices, owners, scaled.shift, own);
+        if look.own > look.least || look.own >= FAR {
+            count = count.wrapping_add(1);
         }
-        if at(market.objects.as_slice(), person) == NOBODY && look.unowned != NOBODY {
-            market.give(look.unowned, person);
-        }
-        leasts.push(look.least)?;
     }
-    Ok(leasts)
+    count
 }
 
-/// Keeps tight pairs alone, and serves as many persons by them as a search in depth finds. Returns the
-/// persons left over.
+// Takes its object from a person whose pair isn't tight, and gives an unowned one with a tight pair.
+fn settle_person(market: &mut Market, person: u32, own: u32, look: Look) {
+    if own != NOBODY && (look.own > look.least || look.own >= FAR) {
+        market.leave(person);
+    }
+    if at(market.objects.as_slice(), person) == NOBODY && look.unowned != NOBODY {
+        market.give(look.unowned, person);
+    }
+}
+
+/// Takes their objects from persons whose pairs aren't tight, and gives unowned objects with tight
+/// pairs to persons without one. Returns the sum of how much objects were worse than the best, at most
+/// this much each, and as much for persons without one.
+pub fn settle(scaled: Scaled<'_>, market: &mut Market, most: i64, looks: &mut Looks) -> i64 {
+    let mut sum = 0i64;
+    for person in 0..place_at(scaled.problem.persons()) {
+        let own = at(market.objects.as_slice(), person);
+        let (prices, owners) = (market.prices.as_slice(), market.owners.as_slice());
+        let row = scaled.problem.row(person);
+        let look = look_at(row, prices, owners, scaled.shift, own);
+        let slack = look.own.saturating_sub(look.least).min(most);
+        sum = sum.saturating_add(slack);
+        settle_person(market, person, own, look);
+    }
+    looks.add(scaled.problem.pairs.len());
+    sum
+}
+
+/// Serves persons from this one on by tight pairs, as far as a search in depth finds them, while looks
+/// are left. Returns from whom to go on, at the end the number of persons.
 pub fn match_tight(
     alloc: Global,
     scaled: Scaled<'_>,
     market: &mut Market,
+    first: u32,
     looks: &mut Looks,
-) -> Result<Vec<u32>, AllocError> {
-    let leasts = settle(alloc, scaled, market)?;
-    let mut deepening = Deepening::new(alloc, leasts)?;
-    looks.add(scaled.problem.pairs.len().saturating_mul(2));
-    let mut left = Vec::new(alloc);
-    for person in 0..place_at(scaled.problem.persons()) {
-        let is_served = at(market.objects.as_slice(), person) != NOBODY;
-        if !is_served && !deepening.serve(scaled, market, person)? {
-            left.push(person)?;
+) -> Result<u32, AllocError> {
+    let persons = scaled.problem.persons();
+    let mut deepening = Deepening::new(alloc, persons)?;
+    for person in first..place_at(persons) {
+        if looks.is_spent() {
+            return Ok(person);
+        }
+        if at(market.objects.as_slice(), person) == NOBODY {
+            deepening.serve(scaled, market, person, looks)?;
         }
     }
-    Ok(left)
+    Ok(place_at(persons))
 }
