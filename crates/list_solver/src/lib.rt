@@ -1,5 +1,5 @@
 //! Optimal assignments with exact prices, and Hall sets, over lent lists of costs: an untrusted
-//! search finds them, the checker of exact prices accepts them, and a proved search stands behind.
+//! search finds them, and the checker of exact prices accepts them. Else a proved search answers.
 #![tactic(auto)]
 
 mod dense_lists;

@@ -87,7 +87,7 @@ fn bid_on(
 }
 
 /// Lets persons without an object bid, from this one on, and those who lose their objects, while bids
-/// and looks are left. Returns from whom to go on, at the end the number of persons, and how many bids
+/// and looks are left. Returns the person to go on from, at the end the number of persons, and how many bids
 /// are left.
 pub fn bid_all(
     scaled: Scaled<'_>,

@@ -224,7 +224,7 @@ pub fn settle(scaled: Scaled<'_>, market: &mut Market, most: i64, looks: &mut Lo
 }
 
 /// Serves persons from this one on by tight pairs, as far as a search in depth finds them, while looks
-/// are left. Returns from whom to go on, at the end the number of persons.
+/// are left. Returns the person to go on from, at the end the number of persons.
 pub fn match_tight(
     alloc: Global,
     scaled: Scaled<'_>,
