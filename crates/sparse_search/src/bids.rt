@@ -87,8 +87,8 @@ fn bid_on(
 }
 
 /// Lets persons without an object bid, from this one on, and those who lose their objects, while bids
-/// and looks are left. Returns the person to go on from, at the end the number of persons, and how many bids
-/// are left.
+/// and looks are left. Returns the person to go on from, at the end the number of persons, and how
+/// many bids are left.
 pub fn bid_all(
     scaled: Scaled<'_>,
     market: &mut Market,
