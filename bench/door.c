@@ -2,7 +2,8 @@
    processor time of this thread, the least of so many calls in turns. What they find is compared. Each line ends with four
    numbers: seconds of the library, of plain Rust, of plain C, and of a check of the library's answer. 0: it wasn't called.
      door text TIMES FORM [alone]   a problem from standard input, dense or sparse; with the word alone the library alone
-     door drawn N M MOST COUNT TIMES [alone]   so many dense problems of N persons and M objects, costs 1..MOST
+     door drawn N M MOST COUNT TIMES [alone]   so many dense problems of N persons and M objects, costs 1..MOST; MOST 0:
+                                distances of points drawn in a square, MOST -1: i * j
      door memory N M MOST       the greatest memory of a call and of a check, next to the caller's lists, as shares of the costs
      door starts TIMES          N = 2000, costs 1..1000: cold, then from the prices of the same problem, of one with one
                                 redrawn row, and with more and more of them; seconds
@@ -15,6 +16,7 @@
                                 same problem and of ones with redrawn rows, and from useless prices; seconds */
 #define _DEFAULT_SOURCE
 #include "../c/nushbaret.h"
+#include <math.h>
 #include <stdio.h>
 #include <stdlib.h>
 #include <string.h>
@@ -184,6 +186,27 @@ static void draw(int64_t *costs, size_t count, int64_t most) {
         if (most > INT64_C(1) << 31) drawn = drawn << 31 | next();
         *costs++ = 1 + drawn % most;
     }
+}
+
+/* Distances of persons and objects, which are points of a square of 10^5 by 10^5. */
+static void draw_points(struct problem *p) {
+    const size_t n = p->given.n, m = p->given.m;
+    int64_t *places = (int64_t *)room((n + m) * 2 * sizeof *places);
+    size_t i, j;
+    draw(places, (n + m) * 2, 100000);
+    for (i = 0; i < n; i++)
+        for (j = 0; j < m; j++) {
+            const double x = (double)(places[2 * i] - places[2 * (n + j)]);
+            const double y = (double)(places[2 * i + 1] - places[2 * (n + j) + 1]);
+            p->costs[i * m + j] = (int64_t)sqrt(x * x + y * y);
+        }
+    free(places);
+}
+
+static void draw_products(struct problem *p) {
+    size_t i, j;
+    for (i = 0; i < p->given.n; i++)
+        for (j = 0; j < p->given.m; j++) p->costs[i * p->given.m + j] = (int64_t)((i + 1) * (j + 1));
 }
 
 /* Seconds of the library, of what stands next to it, and of a check. */
@@ -359,7 +382,9 @@ static void drawn(size_t n, size_t m, int64_t most, int count, int times, int al
         int k;
         state = 7;
         for (k = 0; k < count; k++) {
-            draw(p.costs, p.given.count, most);
+            if (most > 0) draw(p.costs, p.given.count, most);
+            else if (most == 0) draw_points(&p);
+            else draw_products(&p);
             take_turn(&p, alone, &spent);
         }
         keep(&least, &spent);

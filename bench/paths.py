@@ -3,13 +3,14 @@
 plain C of Jonker and Volgenant's method; `auction_cli solve` in rounds and with one worker; starts from first prices;
 squares and rectangles.
 
-Run it at the top of the repository after c/build.sh and `rt run` in crates/auction_cli: bench/paths.py [PROGRAM [shares
-| kinds | large | starts | neighbours | poor | calls | rectangles | memory | whole]]. It writes its inputs below
-bench/out and needs rustc, cc and the repository's history, which has the release. Calls, plain Rust and plain C take
-turns in one process (bench/door.c), one process for each library in turns; of each the least processor time counts. Of
-the program it is that of the whole run, on one processor, less that of reading the same text with a word too many at
-its end. A run of more than LIMIT seconds is cut off, one of more than a second isn't repeated. Whole runs by shortest
-paths come last.
+Run it at the top of the repository after c/build.sh and `rt run` in crates/auction_cli: bench/paths.py [PROGRAM
+[shares | kinds | large | starts | neighbours | poor | calls | rectangles | memory | whole]]. It writes its inputs
+below bench/out and needs rustc, cc, binutils and the repository's history, which has the release (bench/earlier.c
+makes its calls). NUSHBARET_ARCHIVE in the environment names an archive to measure in place of c/out/libnushbaret.a.
+Calls, plain Rust and plain C take turns in one process (bench/door.c), one process for each library in turns; of each
+the least processor time counts. Of the program it is that of the whole run, on one processor, less that of reading
+the same text with a word too many at its end. A run of more than LIMIT seconds is cut off, one of more than a second
+isn't repeated. Whole runs by shortest paths come last.
 """
 import collections
 import os
@@ -21,47 +22,61 @@ from measure import HERE, OUT, PEAK, PROGRAM, build
 LIMIT = 10
 TIMES = 5
 # The release that this library is compared with, and its commit.
-RELEASE, COMMIT = "nushbaret-2.0.0-linux-x86_64", "66db371"
-DOOR, EARLIER, KINDS, LIBRARY, PLAIN_C = (os.path.join(OUT, name)
-                                          for name in ("door", "door_earlier", "kinds", "libplain_paths.so", "lapjv.o"))
-DENSE = ("to_10", "to_1000", "to_million", "equal_rows", "all_equal", "like_rows", "products", "dear_column",
-         "two_costs", "dear_marks", "dummy_rows", "dummy_columns", "few_rows")
+RELEASE, COMMIT = "nushbaret-3.0.0-linux-x86_64", "4f4f0a2e"
+DOOR, EARLIER, KINDS, LIBRARY, PLAIN_C, RENAMED = (os.path.join(OUT, name) for name in (
+    "door", "door_earlier", "kinds", "libplain_paths.so", "lapjv.o", "libearlier.a"))
+DENSE = (
+    "to_10",
+    "to_1000",
+    "to_million",
+    "equal_rows",
+    "all_equal",
+    "like_rows",
+    "products",
+    "dear_column",
+    "two_costs",
+    "dear_marks",
+    "dummy_rows",
+    "dummy_columns",
+     "few_rows")
 SPARSE = (("pairs=5", 8192), ("pairs=10", 8192), ("pairs=50", 8192), ("contested=50", 1000), ("contested=50", 8192),
           ("contested=1000", 1000), ("contested=1000", 8192))
-RECTANGLES = ((80, 3000, 3000), (20, 8000, 8000), (1000, 2000, 2000), (1000, 1100, 1100), (1, 8192, 8192),
-              (500, 4000, 10))
-# Persons, objects, the greatest cost, and the number of calls.
-DRAWN = ((8, 8, 1000, 1000), *((n, n, most, 1) for n, most in ((1000, 1000), (2000, 1000), (4000, 1000), (4000, 10**6),
-                                                               (4000, 10**12), (8192, 1000), (8192, 10**6),
-                                                               (8192, 10**12))), (1000, 2000, 10**6, 1),
-         (3000, 4000, 10**6, 1), (80, 3000, 10**6, 1), (20, 8000, 10**6, 1))
+RECTANGLES = ((80, 3000, 3000), (20, 8000, 8000), (1000, 2000, 2000),
+              (1000, 1100, 1100), (1, 8192, 8192), (500, 4000, 10))
+# Persons, objects, the greatest cost (0: points of a square, -1: i * j), and the number of calls.
+DRAWN = ((8, 8, 1000, 1000), (50, 50, 10**6, 100), (200, 200, 10**6, 10),
+         *((n, n, most, 1) for n, most in ((1000, 1000), (1000, 10**6), (2000, 1000), (2000, 10**6), (4000, 1000), (4000, 10**6), (4000, 10**12),
+         (8192, 1000), (8192, 10**6), (8192, 10**12), (200, 0), (1000, 0), (4000, 0), (1000, -1))), (1000, 2000, 10**6, 1), (3000, 4000, 10**6, 1), (80, 3000, 10**6, 1), (20, 8000, 10**6, 1))
 ROUNDS = ["--mode", "rounds"]
 WORKER = ["--mode", "workers", "--workers", "1"]
 PATHS = ["--method", "paths"]
 
 
 def unpack_release():
-    """The archive of the earlier release."""
-    folder = os.path.join(OUT, "release")
+    """The archive of the earlier release, whose calls begin with `earlier_`."""
+    folder = os.path.join(OUT, RELEASE)
     os.makedirs(folder, exist_ok=True)
-    packed = subprocess.run(["git", "show", f"{COMMIT}:release/{RELEASE}.tar.gz"], cwd=HERE, stdout=subprocess.PIPE,
-                            check=True).stdout
+    packed = subprocess.run(["git", "show", f"{COMMIT}:release/{RELEASE}.tar.gz"],
+                            cwd=HERE, stdout=subprocess.PIPE, check=True).stdout
     subprocess.run(["tar", "-xz", "-C", folder], input=packed, check=True)
-    found = [os.path.join(at, "libnushbaret.a") for at, _, files in os.walk(folder) if "libnushbaret.a" in files]
-    return found[0]
+    [found] = [os.path.join(at, "libnushbaret.a") for at, _, files in os.walk(folder) if "libnushbaret.a" in files]
+    names = [f"--redefine-sym=nushbaret_{name}=earlier_nushbaret_{name}" for name in
+             ("dense", "dense_from", "sparse", "sparse_from", "check", "check_hall", "version")]
+    subprocess.run(["objcopy", *names, found, RENAMED], check=True)
+    return RENAMED
 
 
 def build_door():
     build(kinds=KINDS)
     plain = os.path.join(HERE, "plain", "paths.rs")
-    subprocess.run(["rustc", "--edition", "2024", "-O", "-C", "target-cpu=x86-64-v2", "--crate-type", "cdylib", "-o",
-                    LIBRARY, plain], check=True)
-    subprocess.run(["cc", "-std=c99", "-O3", "-march=x86-64-v2", "-Wall", "-Wextra", "-c", "-o", PLAIN_C,
-                    os.path.join(HERE, "plain", "lapjv.c")], check=True)
-    for program, archive in ((DOOR, os.path.join(HERE, "..", "c", "out", "libnushbaret.a")),
-                             (EARLIER, unpack_release())):
-        subprocess.run(["cc", "-std=c99", "-O2", "-Wall", "-Wextra", "-o", program, os.path.join(HERE, "door.c"),
-                        PLAIN_C, archive, LIBRARY, f"-Wl,-rpath,{OUT}"], check=True)
+    subprocess.run(["rustc", "--edition", "2024", "-O", "-C", "target-cpu=x86-64-v2",
+                   "--crate-type", "cdylib", "-o", LIBRARY, plain], check=True)
+    subprocess.run(["cc", "-std=c99", "-O3", "-march=x86-64-v2", "-Wall", "-Wextra", "-c",
+                   "-o", PLAIN_C, os.path.join(HERE, "plain", "lapjv.c")], check=True)
+    ours = [os.environ.get("NUSHBARET_ARCHIVE", os.path.join(HERE, "..", "c", "out", "libnushbaret.a"))]
+    for program, archives in ((DOOR, ours), (EARLIER, [os.path.join(HERE, "earlier.c"), unpack_release()])):
+        subprocess.run(["cc", "-std=c99", "-O2", "-Wall", "-Wextra", "-o", program, os.path.join(HERE,
+                       "door.c"), PLAIN_C, *archives, LIBRARY, "-lm", f"-Wl,-rpath,{OUT}"], check=True)
 
 
 def text_of(kind, n):
@@ -74,8 +89,8 @@ def text_of(kind, n):
 
 def door(*words, stdin=None, program=DOOR):
     """Seconds of the library, of plain Rust, of plain C, and of a check, by name."""
-    printed = subprocess.run([program, *map(str, words)], stdin=stdin, stdout=subprocess.PIPE, check=True,
-                             text=True).stdout
+    printed = subprocess.run([program, *map(str, words)], stdin=stdin,
+                             stdout=subprocess.PIPE, check=True, text=True).stdout
     for line in printed.splitlines():
         name, *numbers = line.rsplit(" ", 4)
         yield name, [float(number) for number in numbers]
@@ -95,8 +110,8 @@ def spent(words, path, statuses, limit=LIMIT):
     """The processor time of a run of the program, or None where it was cut off."""
     peak = os.path.join(OUT, "peak.txt")
     with open(path) as file:
-        ran = subprocess.run(["taskset", "-c", "0", "timeout", str(limit), PEAK, peak, PROGRAM, "solve", *words],
-                             stdin=file, stdout=subprocess.DEVNULL, stderr=subprocess.DEVNULL)
+        ran = subprocess.run(["taskset", "-c", "0", "timeout", str(limit), PEAK, peak, PROGRAM,
+                             "solve", *words], stdin=file, stdout=subprocess.DEVNULL, stderr=subprocess.DEVNULL)
     if ran.returncode == 124:
         return None
     assert ran.returncode in statuses, (words, path, ran.returncode)
@@ -122,8 +137,8 @@ def printed(seconds):
     return f"over {LIMIT}" if seconds is None else f"{seconds:.4f}"
 
 
-def ratio(seconds, other):
-    return f"{seconds / other:.2f}" if other else ""
+def ratio(seconds, beside):
+    return f"{seconds / beside:.2f}" if beside else ""
 
 
 def kind(name, n, runs=TIMES, words_of_door=()):
@@ -135,8 +150,9 @@ def kind(name, n, runs=TIMES, words_of_door=()):
     (call, rust, c, _), (earlier, *_) = both(("text", 1, "sparse" if sparse else "dense", *words_of_door), path)
     words = ["--sparse"] if sparse else []
     rounds, worker = (alone([*words, *mode], path, bad, runs) for mode in (ROUNDS, WORKER))
-    print(f"| {name}, n = {n} | {call:.4f} | {ratio(call, earlier)} | {ratio(call, rust)} | {ratio(call, c)} | "
-          f"{printed(rounds)} | {printed(worker)} |", flush=True)
+    print(
+    f"| {name}, n = {n} | {call:.4f} | {ratio(call, earlier)} | {ratio(call, rust)} | {ratio(call, c)} | {printed(rounds)} | {printed(worker)} |",
+     flush=True)
 
 
 def kinds():
@@ -158,17 +174,17 @@ def shares():
     print("| problem | call | of the earlier release | of plain Rust | of plain C | check, of the earlier release |")
     for n, m, most, count in DRAWN:
         (call, rust, c, check), (earlier, _, _, checked) = both(("drawn", n, m, most, count, 1))
-        print(f"| {n} x {m}, costs to {most}, {count} calls | {call:.4f} | {ratio(call, earlier)} | "
-              f"{ratio(call, rust)} | {ratio(call, c)} | {ratio(check, checked)} |", flush=True)
+        kind = {0: "points", -1: "i * j"}.get(most, f"costs to {most}")
+        print(
+    f"| {n} x {m}, {kind}, {count} calls | {call:.4f} | {ratio(call, earlier)} | {ratio(call, rust)} | {ratio(call, c)} | {ratio(check, checked)} |",
+     flush=True)
 
 
 def memory():
-    """The greatest memory of one call, as a share of the caller's list, by both libraries."""
-    for most in (1000, 10**6, 10**12):
-        for name, program in (("this", DOOR), ("the earlier release", EARLIER)):
-            [(_, (solving, _, _, checking))] = door("memory", 4000, 4000, most, program=program)
-            print(f"4000 x 4000, costs to {most}, {name}: {solving:.2f} of the list for a call, {checking:.2f} for a "
-                  "check", flush=True)
+    """The greatest memory of one call, as a share of the caller's list."""
+    for n, most in ((1000, 10**6), (4000, 1000), (4000, 10**6), (4000, 10**12), (8192, 10**6)):
+        [(_, (solving, _, _, checking))] = door("memory", n, n, most)
+        print(f"{n} x {n}, costs to {most}: {solving:.2f} of the list for a call, {checking:.2f} for a check", flush=True)
 
 
 def starts():
@@ -206,8 +222,9 @@ def rectangles():
     """Calls on n persons, each with so many pairs, and m objects: from first prices, as shares of cold ones."""
     for n, m, each in RECTANGLES:
         for name, (warm, cold, *_) in door("rectangle", n, m, each, 10**6, TIMES):
-            print(f"{n} persons of {each} pairs, {m} objects, from first prices, {name}: {warm:.4f} s, "
-                  f"{warm / cold:.2f} of {cold:.4f} s cold", flush=True)
+            print(
+    f"{n} persons of {each} pairs, {m} objects, from first prices, {name}: {warm:.4f} s, {warm / cold:.2f} of {cold:.4f} s cold",
+     flush=True)
 
 
 def whole():
@@ -219,8 +236,17 @@ def whole():
 
 def main():
     build_door()
-    parts = {"shares": shares, "kinds": kinds, "large": large, "starts": starts, "neighbours": neighbours, "poor": poor,
-             "calls": calls, "rectangles": rectangles, "memory": memory, "whole": whole}
+    parts = {
+    "shares": shares,
+    "kinds": kinds,
+    "large": large,
+    "starts": starts,
+    "neighbours": neighbours,
+    "poor": poor,
+    "calls": calls,
+    "rectangles": rectangles,
+    "memory": memory,
+     "whole": whole}
     for part in sys.argv[2:] or parts:
         parts[part]()
 

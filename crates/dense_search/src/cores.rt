@@ -3,17 +3,18 @@ use super::market::Market;
 use super::matrix::Matrix;
 use super::pick::{Core, pick_by_means, pick_by_prices};
 use super::prices::{begin_at_zero, reduce};
-use super::pricing::{better_pairs, merge};
+use super::pricing::{Better, better_pairs, merge};
 use super::reading::Reading;
 use super::record::{Ended, Record};
 use sparse_search::{Looks, Pair, SparseProblem};
 use std::alloc::{AllocError, Global};
 
-// The most passes; and after how many passes at most a quarter of the persons may have better
-// pairs.
+// The most passes.
 const PASSES: u64 = 20;
 
-const PASSES_WITH_MANY: u64 = 2;
+// The looks that a core may take whatever the budget is, as passes over all pairs: it is forgotten
+// where a call stops.
+const PASSES_A_CORE: u64 = 8;
 
 // What is taken from all costs of a core, and the factor that the rest has in common.
 #[derive(Clone, Copy)]
@@ -94,23 +95,27 @@ fn multiply(prices: &mut [i64], factor: i64) {
     }
 }
 
+// The looks up to the limit.
+fn left_in(looks: Looks) -> u64 {
+    looks.limit.saturating_sub(looks.done)
+}
+
 // The most looks of a step that takes at least so many, or 0 if there is no bound.
 fn left_for(looks: Looks, least: u64) -> u64 {
     if looks.limit == u64::MAX {
         0
     } else {
-        looks.limit.saturating_sub(looks.done).max(least)
+        left_in(looks).max(least)
     }
 }
 
-// Solves a core from the prices and objects of the market, with at least so many looks.
+// Solves a core from the prices and objects of the market. `Long` if it takes too many looks.
 fn solve_core<R: Reading<i64>>(
     alloc: Global,
     matrix: &Matrix<'_, i64, R>,
     market: &mut Market<'_, i64>,
     core: &Core,
     looks: &mut Looks,
-    least: u64,
 ) -> Result<Ended, AllocError> {
     let unit = unit_of(&matrix.reading, core.pairs.as_slice());
     let pairs = in_unit(alloc, &matrix.reading, core.pairs.as_slice(), unit)?;
@@ -122,7 +127,10 @@ fn solve_core<R: Reading<i64>>(
     let mut record = sparse_search::Record::warm();
     begin_at_zero(market.prices);
     divide(market.prices, unit.factor);
-    let most = left_for(*looks, least);
+    let most = left_for(
+        *looks,
+        (matrix.pairs() as u64).saturating_mul(PASSES_A_CORE),
+    );
     let (prices, objects) = (&mut *market.prices, &mut *market.objects);
     let outcome = sparse_search::search(alloc, problem, prices, objects, &mut record, most)?;
     looks.done = looks.done.saturating_add(record.looks);
@@ -133,13 +141,44 @@ fn solve_core<R: Reading<i64>>(
     }
     multiply(market.prices, unit.factor);
     market.enter_objects();
-    Ok(if is_best {
-        Ended::Served
-    } else if is_stopped {
-        Ended::Stopped
-    } else {
-        Ended::Long
-    })
+    Ok(if is_best { Ended::Served } else { Ended::Long })
+}
+
+// Adds better pairs to a core. Where many persons have some, it gets those that are cheapest by
+// another measure too.
+fn grow<R: Reading<i64>>(
+    alloc: Global,
+    matrix: &Matrix<'_, i64, R>,
+    core: &Core,
+    better: &Better,
+    looks: &mut Looks,
+) -> Result<Core, AllocError> {
+    let grown = merge(alloc, core, &better.core, matrix.persons)?;
+    if !are_many(matrix, better) || matrix.persons < matrix.objects {
+        return Ok(grown);
+    }
+    let others = pick_by_means(alloc, matrix)?;
+    looks.add(matrix.pairs());
+    merge(alloc, &grown, &others, matrix.persons)
+}
+
+// Whether many persons have better pairs.
+fn are_many<R: Reading<i64>>(matrix: &Matrix<'_, i64, R>, better: &Better) -> bool {
+    better.persons > matrix.persons as u64 / 4
+}
+
+// Whether cores aren't worth going on with: many persons have better pairs after two, or three
+// quarters of them after one, where searches over a copy can follow.
+fn are_too_many<R: Reading<i64>>(
+    matrix: &Matrix<'_, i64, R>,
+    better: &Better,
+    solved: u64,
+    may_copy: bool,
+) -> bool {
+    if solved > 1 {
+        return are_many(matrix, better);
+    }
+    may_copy && better.persons / 3 > matrix.persons as u64 / 4
 }
 
 // Solves cores until no pair beats the prices. `Long` if passes don't converge; the record then has
@@ -150,16 +189,18 @@ pub fn solve_by_cores<R: Reading<i64>>(
     market: &mut Market<'_, i64>,
     record: &mut Record,
     looks: &mut Looks,
+    may_copy: bool,
 ) -> Result<Ended, AllocError> {
     let mut core = pick_by_prices(alloc, matrix, market)?;
     looks.add(matrix.pairs());
-    for _ in record.passes..PASSES {
-        // A core is forgotten where a call stops, and the next call may look the longer.
+    for _ in 0..PASSES {
         record.passes = record.passes.saturating_add(1);
-        let least = (matrix.pairs() as u64).saturating_mul(record.passes);
-        match solve_core(alloc, matrix, market, &core, looks, least)? {
+        match solve_core(alloc, matrix, market, &core, looks)? {
             Ended::Served => {}
             ended => return Ok(ended),
+        }
+        if left_in(*looks) < matrix.pairs() as u64 {
+            return Ok(Ended::Stopped);
         }
         let better = better_pairs(alloc, matrix, market)?;
         looks.add(matrix.pairs());
@@ -167,19 +208,31 @@ pub fn solve_by_cores<R: Reading<i64>>(
             return Ok(Ended::Served);
         }
         record.slackness = better.mean_gain();
-        let are_many = better.persons > matrix.persons as u64 / 4;
-        if are_many && record.passes >= PASSES_WITH_MANY {
+        if are_too_many(matrix, &better, record.passes, may_copy) {
             return Ok(Ended::Long);
         }
-        if looks.is_spent() {
-            return Ok(Ended::Stopped);
-        }
-        core = merge(alloc, &core, &better.core, matrix.persons)?;
-        if are_many && matrix.persons == matrix.objects {
-            let others = pick_by_means(alloc, matrix)?;
-            looks.add(matrix.pairs());
-            core = merge(alloc, &core, &others, matrix.persons)?;
-        }
+        core = grow(alloc, matrix, &core, &better, looks)?;
     }
     Ok(Ended::Long)
+}
+
+// What a core is worth that an earlier call solved, and of which only prices and objects are left:
+// `Served` if no pair beats the prices, `Long` if those of many persons do.
+pub fn judge_core<R: Reading<i64>>(
+    alloc: Global,
+    matrix: &Matrix<'_, i64, R>,
+    market: &Market<'_, i64>,
+    record: &mut Record,
+    looks: &mut Looks,
+) -> Result<Ended, AllocError> {
+    let better = better_pairs(alloc, matrix, market)?;
+    looks.add(matrix.pairs());
+    record.slackness = better.mean_gain();
+    Ok(if better.persons == 0 && market.unserved() == 0 {
+        Ended::Served
+    } else if are_many(matrix, &better) {
+        Ended::Long
+    } else {
+        Ended::Stopped
+    })
 }

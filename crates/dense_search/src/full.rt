@@ -1,5 +1,7 @@
 // The search for a shortest path from a person without an object to an unowned object (Dijkstra's;
 // Edmonds and Karp 1972, Tomizawa 1971), by scans of whole rows of which compilers make vectors.
+ghost use Rattle.std.specs.Prelude.{◌≡◌, ◌≤◌, length};
+
 use super::market::Market;
 use super::matrix::Matrix;
 use super::number::{Number, least_of, lesser};
@@ -28,24 +30,53 @@ pub struct FullSearch<K> {
     pub is_beyond: bool,
 }
 
-// The objects of a block: lowers the costs at which they are reached, and returns the least
-// distance.
+// The objects from one place to another: lowers the costs at which they are reached, and returns the
+// least distance. Compilers make vectors of this loop, and of one over iterators they don't.
 fn reach_block<K: Number, R: Reading<K>>(
     reading: &R,
     row: &[K],
     base: K,
     costs: &mut [K],
     keys: &[K],
-) -> K {
+    from: usize,
+    to: usize,
+) -> K
+    requires row { length row.now ≡ length costs.old }
+    requires keys { length keys.now ≡ length costs.old }
+    requires to { to ≤ length costs.old }
+{
     let mut least = K::hidden();
-    for ((of, cost), key) in row.iter().zip(costs.iter_mut()).zip(keys) {
-        let reached = lesser(*cost, base.plus(reading.value(*of)));
-        *cost = reached;
-        least = lesser(least, reached.plus(*key));
+    for k in from..to {
+        let reached = lesser(costs[k], base.plus(reading.value(row[k])));
+        costs[k] = reached;
+        least = lesser(least, reached.plus(keys[k]));
     }
     least
 }
 
+// The same block by block, with the least distance of each.
+fn reach_blocks<K: Number, R: Reading<K>>(
+    reading: &R,
+    row: &[K],
+    base: K,
+    costs: &mut [K],
+    keys: &[K],
+    blocks: &mut Vec<K>,
+) -> Result<(), AllocError>
+    requires row { length row.now ≡ length costs.old }
+    requires keys { length keys.now ≡ length costs.old }
+{
+    let count = row.len();
+    let mut at = 0usize;
+    for _block in 0..count.div_ceil(BLOCK) {
+        let to = at.saturating_add(BLOCK).min(count);
+        blocks.push(reach_block(reading, row, base, costs, keys, at, to))?;
+        at = to;
+    }
+    Ok(())
+}
+
+// A row; nothing if the lists don't have one length.
 fn reach_row<K: Number, R: Reading<K>>(
     reading: &R,
     row: &[K],
@@ -55,9 +86,8 @@ fn reach_row<K: Number, R: Reading<K>>(
     blocks: &mut Vec<K>,
 ) -> Result<(), AllocError> {
     blocks.clear();
-    let parts = row.chunks(BLOCK).zip(costs.chunks_mut(BLOCK));
-    for ((row, costs), keys) in parts.zip(keys.chunks(BLOCK)) {
-        blocks.push(reach_block(reading, row, base, costs, keys))?;
+    if row.len() == costs.len() && keys.len() == costs.len() {
+        reach_blocks(reading, row, base, costs, keys, blocks)?;
     }
     Ok(())
 }

@@ -29,6 +29,9 @@ pub trait Number: Copy + Drop {
     fn joined(self, other: Self) -> Self;
 
     fn wide(self) -> i64;
+
+    // Whether a vector's lesser numbers take one instruction.
+    fn is_narrow() -> bool;
 }
 
 impl Number for i64 {
@@ -71,6 +74,10 @@ impl Number for i64 {
     fn wide(self) -> i64 {
         self
     }
+
+    fn is_narrow() -> bool {
+        false
+    }
 }
 
 impl Number for i32 {
@@ -112,6 +119,10 @@ impl Number for i32 {
 
     fn wide(self) -> i64 {
         i64::from(self)
+    }
+
+    fn is_narrow() -> bool {
+        true
     }
 }
 

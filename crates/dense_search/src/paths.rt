@@ -45,6 +45,7 @@ pub fn serve_all<K: Number, R: Reading<K>>(
         return Ok(Ended::Served);
     }
     let mut search = Search::new(alloc, market)?;
+    let first = looks.done;
     let mut pace = Pace::begin(left, *looks, allowed.most);
     for k in 0..matrix.persons {
         let person = place_at(k);
@@ -56,14 +57,15 @@ pub fn serve_all<K: Number, R: Reading<K>>(
             if left == 0 {
                 return Ok(Ended::Served);
             }
-            if looks.is_spent() {
-                return Ok(Ended::Stopped);
-            }
             if search.is_beyond {
                 return Ok(Ended::Blocked);
             }
-            if left > few && !pace.goes_on(*looks, allowed.searches_for(left)) {
+            let is_over = looks.done.saturating_sub(first) > allowed.most;
+            if left > few && (is_over || !pace.goes_on(*looks, allowed.searches_for(left))) {
                 return Ok(Ended::Long);
+            }
+            if looks.is_spent() {
+                return Ok(Ended::Stopped);
             }
         }
     }

@@ -1,6 +1,6 @@
 // First and last prices.
 use super::matrix::Matrix;
-use super::number::Number;
+use super::number::{Number, lesser};
 use super::reading::Reading;
 use sparse_search::place_at;
 
@@ -9,10 +9,7 @@ const GREATEST_PRICE: i64 = 1 << 60;
 
 fn lower<K: Number, R: Reading<K>>(reading: &R, row: &[K], least: &mut [K]) {
     for (cost, least) in row.iter().zip(least.iter_mut()) {
-        let value = reading.value(*cost);
-        if value.is_below(*least) {
-            *least = value;
-        }
+        *least = lesser(*least, reading.value(*cost));
     }
 }
 

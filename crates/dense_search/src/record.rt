@@ -32,7 +32,7 @@ pub struct Record {
     pub slackness: i64,
     /// The bids of this phase of the auction.
     pub bids: u64,
-    /// The passes over all pairs that found pairs better than the core's.
+    /// How often a core was solved; of searches, the passes over all pairs that they took so far.
     pub passes: u64,
     /// The looks at pairs of all calls.
     pub looks: u64,

@@ -1,6 +1,6 @@
 // Scans of rows. The value of an object is the sum of its cost, as it is read, and its key, mostly
 // its price.
-use super::number::Number;
+use super::number::{Number, lesser};
 use super::reading::Reading;
 use sparse_search::{NOBODY, place_at};
 
@@ -86,15 +86,60 @@ fn two_with_block<K: Number, R: Reading<K>>(
     two
 }
 
-// The two best objects of a row.
-pub fn two_best<K: Number, R: Reading<K>>(reading: &R, row: &[K], keys: &[K]) -> Two<K> {
+// The least value of a block.
+fn least_value<K: Number, R: Reading<K>>(reading: &R, costs: &[K], keys: &[K]) -> K {
+    let mut least = K::far();
+    for (cost, key) in costs.iter().zip(keys) {
+        least = lesser(least, reading.value(*cost).plus(*key));
+    }
+    least
+}
+
+// Whether a block may have a value below the limit. Where vectors have the least of numbers at once,
+// a look before that saves nothing.
+fn may_be_below<K: Number, R: Reading<K>>(reading: &R, costs: &[K], keys: &[K], limit: K) -> bool {
+    K::is_narrow() || is_any_below(reading, costs, keys, limit)
+}
+
+// The two with a block of this number and this least value.
+fn two_with_value<K: Number>(two: Two<K>, block: usize, value: K) -> Two<K> {
+    if value.is_below(two.second) {
+        two.with(place_at(block), value)
+    } else {
+        two
+    }
+}
+
+// The two blocks with the least values, by their numbers from 0.
+fn two_blocks<K: Number, R: Reading<K>>(reading: &R, row: &[K], keys: &[K]) -> Two<K> {
     let mut two = Two::none();
-    let mut at = 0usize;
-    for (costs, keys) in row.chunks(BLOCK).zip(keys.chunks(BLOCK)) {
-        if is_any_below(reading, costs, keys, two.second) {
-            two = two_with_block(two, reading, costs, keys, at);
+    for (k, (costs, keys)) in row.chunks(BLOCK).zip(keys.chunks(BLOCK)).enumerate() {
+        if may_be_below(reading, costs, keys, two.second) {
+            two = two_with_value(two, k, least_value(reading, costs, keys));
         }
-        at = at.wrapping_add(BLOCK);
     }
     two
+}
+
+fn block_of<K>(numbers: &[K], from: usize) -> &[K] {
+    let to = from.saturating_add(BLOCK).min(numbers.len());
+    numbers.get(from..to).unwrap_or(&[])
+}
+
+// The two best objects of a row. They lie in the two blocks with the least values.
+pub fn two_best<K: Number, R: Reading<K>>(reading: &R, row: &[K], keys: &[K]) -> Two<K> {
+    let blocks = two_blocks(reading, row, keys);
+    let at = (blocks.object as usize).saturating_mul(BLOCK);
+    let two = two_with_block(
+        Two::none(),
+        reading,
+        block_of(row, at),
+        block_of(keys, at),
+        at,
+    );
+    if !blocks.second.is_below(two.second) {
+        return two;
+    }
+    let at = (blocks.other as usize).saturating_mul(BLOCK);
+    two_with_block(two, reading, block_of(row, at), block_of(keys, at), at)
 }

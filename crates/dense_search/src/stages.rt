@@ -1,7 +1,7 @@
 // The whole search, stage by stage.
 use super::auction::auction;
 use super::bids::bid_all;
-use super::cores::solve_by_cores;
+use super::cores::{judge_core, solve_by_cores};
 use super::market::Market;
 use super::matrix::{DenseProblem, Matrix};
 use super::middle::search_copy;
@@ -26,6 +26,9 @@ const SMALL: usize = 1 << 14;
 
 // Problems with more pairs aren't copied: a core is faster.
 const MOST_NARROW: usize = 1 << 21;
+
+// Problems with more pairs aren't copied where a core isn't enough.
+const MOST_COPIED: usize = 1 << 24;
 
 // Problems with fewer pairs are mostly served by searches.
 const MIDDLE: usize = 1 << 19;
@@ -129,7 +132,7 @@ struct Work<'a> {
     // Where the first searches ended, while a core is solved; then where the core ended.
     kept: Option<Kept>,
     // Whether the costs may be searched over a copy in 32 bits. A budget is kept without one.
-    is_narrow: bool,
+    may_copy: bool,
 }
 
 impl<'a> Work<'a> {
@@ -152,17 +155,42 @@ impl<'a> Work<'a> {
         matrix: &Matrix<'_, i64, R>,
     ) -> Result<Step, AllocError> {
         self.market.release_all();
-        if self.is_narrow && is_middle(matrix) {
-            self.is_narrow = false;
-            if let Some(costs) = narrow_costs(alloc, matrix)? {
-                let ended = self.search_narrow(alloc, &matrix.over(costs.as_slice()))?;
-                return self.after_searches(alloc, matrix, ended, Stage::Cold);
+        if is_middle(matrix) {
+            if let Some(step) = self.search_copied(alloc, matrix, Stage::Cold)? {
+                return Ok(step);
             }
         }
         let looks = begin(matrix, self.market.prices);
         self.looks.add(looks);
+        Ok(self.begin_paths())
+    }
+
+    fn begin_paths(&mut self) -> Step {
         self.record.bids = 0;
-        Ok(Step::To(Stage::Paths))
+        self.record.passes = 0;
+        Step::To(Stage::Paths)
+    }
+
+    // Bids and searches over a copy of the costs, if there may be one and they fit. If sums leave 32
+    // bits the stage `long` is next.
+    fn search_copied<R: Reading<i64>>(
+        &mut self,
+        alloc: Global,
+        matrix: &Matrix<'_, i64, R>,
+        long: Stage,
+    ) -> Result<Option<Step>, AllocError> {
+        if !self.may_copy {
+            return Ok(None);
+        }
+        self.may_copy = false;
+        match narrow_costs(alloc, matrix)? {
+            Some(costs) => {
+                self.market.release_all();
+                let ended = self.search_narrow(alloc, &matrix.over(costs.as_slice()))?;
+                Ok(Some(self.after_searches(alloc, matrix, ended, long)?))
+            }
+            None => Ok(None),
+        }
     }
 
     // Bids and searches over a copy of the costs. `Long` if sums leave 32 bits.
@@ -197,17 +225,30 @@ impl<'a> Work<'a> {
         if self.market.unserved() > matrix.persons / 2 {
             return Step::To(Stage::Cold);
         }
-        self.record.bids = 0;
-        Step::To(Stage::Paths)
+        self.begin_paths()
     }
 
+    // Searches for all persons, as far as this many looks allow in all calls of the stage.
     fn serve<R: Reading<i64>>(
         &mut self,
         alloc: Global,
         matrix: &Matrix<'_, i64, R>,
-        allowed: Allowance,
+        most: u64,
+        is_growing: bool,
     ) -> Result<Ended, AllocError> {
-        serve_all(alloc, matrix, &mut self.market, allowed, &mut self.looks)
+        let pairs = matrix.pairs() as u64;
+        let before = self.looks.done;
+        let allowed = Allowance {
+            most: most.saturating_sub(self.record.passes.saturating_mul(pairs)),
+            is_growing,
+        };
+        let ended = serve_all(alloc, matrix, &mut self.market, allowed, &mut self.looks)?;
+        let passes = self.looks.done.saturating_sub(before) / pairs.max(1);
+        self.record.passes = match ended {
+            Ended::Stopped => self.record.passes.saturating_add(passes.saturating_add(1)),
+            _ => 0,
+        };
+        Ok(ended)
     }
 
     // Each person has an object: unowned objects come down to the least price.
@@ -245,11 +286,7 @@ impl<'a> Work<'a> {
         if self.bid_first(matrix) {
             return Ok(Step::End(Outcome::Stopped));
         }
-        let allowed = Allowance {
-            most: most_looks(matrix),
-            is_growing: true,
-        };
-        let ended = self.serve(alloc, matrix, allowed)?;
+        let ended = self.serve(alloc, matrix, most_looks(matrix), true)?;
         if let Ended::Long = ended {
             self.kept = Some(Kept::of(alloc, &self.market)?);
         }
@@ -261,9 +298,38 @@ impl<'a> Work<'a> {
         alloc: Global,
         matrix: &Matrix<'_, i64, R>,
     ) -> Result<Step, AllocError> {
+        if self.record.passes > 0 {
+            return self.leave_core(alloc, matrix);
+        }
+        let may_copy = self.may_copy_later(matrix);
         let record = &mut self.record;
-        let ended = solve_by_cores(alloc, matrix, &mut self.market, record, &mut self.looks)?;
+        let looks = &mut self.looks;
+        let ended = solve_by_cores(alloc, matrix, &mut self.market, record, looks, may_copy)?;
+        if let Ended::Long = ended {
+            self.record.passes = 0;
+        }
         Ok(after(ended, Step::End(Outcome::Best), Stage::Retry))
+    }
+
+    // Goes on where an earlier call stopped after a core.
+    fn leave_core<R: Reading<i64>>(
+        &mut self,
+        alloc: Global,
+        matrix: &Matrix<'_, i64, R>,
+    ) -> Result<Step, AllocError> {
+        let (record, looks) = (&mut self.record, &mut self.looks);
+        let ended = judge_core(alloc, matrix, &self.market, record, looks)?;
+        self.record.passes = 0;
+        Ok(match ended {
+            Ended::Served => Step::End(Outcome::Best),
+            Ended::Long => Step::To(Stage::Auction),
+            _ => Step::To(Stage::Retry),
+        })
+    }
+
+    // Whether searches over a copy can follow on a core.
+    fn may_copy_later<R: Reading<i64>>(&self, matrix: &Matrix<'_, i64, R>) -> bool {
+        self.may_copy && matrix.pairs() <= MOST_COPIED
     }
 
     // Changes places with what is kept. Returns whether anything is.
@@ -277,22 +343,24 @@ impl<'a> Work<'a> {
         }
     }
 
-    // Searches on from where the first ones ended; if these take too long, the core's prices are
-    // those of the auction.
+    // Searches over a copy, or on from where the first ones ended; if these take too long, the core's
+    // prices are those of the auction.
     fn retry<R: Reading<i64>>(
         &mut self,
         alloc: Global,
         matrix: &Matrix<'_, i64, R>,
     ) -> Result<Step, AllocError> {
-        if !self.swap_kept() {
+        if self.may_copy_later(matrix) {
+            if let Some(step) = self.search_copied(alloc, matrix, Stage::Retry)? {
+                return Ok(step);
+            }
+        }
+        if !self.swap_kept() && self.record.passes == 0 {
             let looks = settle_all(matrix, &mut self.market);
             self.looks.add(looks);
         }
-        let allowed = Allowance {
-            most: (matrix.pairs() as u64).saturating_mul(RETRY_PASSES),
-            is_growing: false,
-        };
-        let ended = self.serve(alloc, matrix, allowed)?;
+        let most = (matrix.pairs() as u64).saturating_mul(RETRY_PASSES);
+        let ended = self.serve(alloc, matrix, most, false)?;
         if let Ended::Long = ended {
             let _ = self.swap_kept();
         }
@@ -319,6 +387,16 @@ impl<'a> Work<'a> {
         Ok(after(ended, Step::To(Stage::Finish), Stage::Finish))
     }
 
+    // Who keeps or takes a best object, in the unit of the prices, and bids of the others.
+    fn begin_finish<R: Reading<i64>>(&mut self, matrix: &Matrix<'_, i64, R>) {
+        let looks = settle_all(matrix, &mut self.market);
+        self.looks.add(looks);
+        let unserved = self.market.unserved();
+        let made = bid_all(matrix, &mut self.market, 0, unserved);
+        self.looks.add(made.saturating_mul(matrix.objects));
+        self.record.passes = 1;
+    }
+
     // Searches to the end, in the unit of the prices.
     fn finish<R: Reading<i64>>(
         &mut self,
@@ -326,11 +404,9 @@ impl<'a> Work<'a> {
         matrix: &Matrix<'_, i64, R>,
     ) -> Result<Step, AllocError> {
         let matrix = &matrix.magnified(self.record.shift);
-        let looks = settle_all(matrix, &mut self.market);
-        self.looks.add(looks);
-        let unserved = self.market.unserved();
-        let made = bid_all(matrix, &mut self.market, 0, unserved);
-        self.looks.add(made.saturating_mul(matrix.objects));
+        if self.record.passes == 0 {
+            self.begin_finish(matrix);
+        }
         let allowed = Allowance {
             most: u64::MAX,
             is_growing: false,
@@ -379,6 +455,16 @@ impl<'a> Work<'a> {
         self.market.unserved() == 0 && !self.market.has_dear_unowned()
     }
 
+    // Whether the budget is spent, or what is left of it is too little for a core.
+    fn is_ending<R: Reading<i64>>(&self, matrix: &Matrix<'_, i64, R>) -> bool {
+        let left = self.looks.limit.saturating_sub(self.looks.done);
+        let least = match self.record.stage {
+            Stage::Core => (matrix.pairs() as u64).saturating_mul(CORE_PASSES),
+            _ => 1,
+        };
+        left < least
+    }
+
     // Stage by stage up to an end.
     fn go_on<R: Reading<i64>>(
         &mut self,
@@ -389,7 +475,7 @@ impl<'a> Work<'a> {
             match self.step(alloc, matrix)? {
                 Step::To(stage) => {
                     self.record.stage = stage;
-                    if self.looks.is_spent() {
+                    if self.is_ending(matrix) {
                         return Ok(Outcome::Stopped);
                     }
                 }
@@ -399,6 +485,7 @@ impl<'a> Work<'a> {
                         return Ok(Outcome::Best);
                     }
                     self.record.stage = Stage::Finish;
+                    self.record.passes = 0;
                 }
                 Step::End(outcome) => return Ok(outcome),
             }
@@ -425,7 +512,7 @@ fn run_as<R: Reading<i64>>(
         record: record.sound(),
         is_resumed: record.is_begun(),
         kept: None,
-        is_narrow: limit == u64::MAX,
+        may_copy: limit == u64::MAX,
         looks: Looks {
             done: record.looks,
             limit,
