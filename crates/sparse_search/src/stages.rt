@@ -363,8 +363,11 @@ impl<'a> Run<'a> {
             return Ok(None);
         }
         for _object in 0..self.problem.objects {
-            if !bring_down(&mut self.search, scaled, &mut self.market, &mut self.looks)? {
+            if self.record.place > 1 {
                 return Ok(self.finish());
+            }
+            if !bring_down(&mut self.search, scaled, &mut self.market, &mut self.looks)? {
+                self.record.place = 2;
             }
             if self.looks.is_spent() {
                 return Ok(None);
