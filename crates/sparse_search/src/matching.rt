@@ -41,8 +41,12 @@ fn first_unowned(row: &[Pair], owners: &[u32]) -> u32 {
     NOBODY
 }
 
+fn lists(row: &[Pair], object: u32) -> bool {
+    row.iter().any(|pair| pair.object == object)
+}
+
 impl Matching {
-    /// Begins from these objects, which their persons list.
+    /// Begins from those of these objects that their persons list.
     pub fn begin(
         alloc: Global,
         problem: SparseProblem<'_>,
@@ -59,15 +63,17 @@ impl Matching {
             path: Vec::new(alloc),
             last_layer: NOBODY,
         };
-        matching.take_plan(first);
+        matching.take_listed(problem, first);
         matching.take_unowned(problem, looks);
         Ok(matching)
     }
 
-    fn take_plan(&mut self, first: &[u32]) {
+    fn take_listed(&mut self, problem: SparseProblem<'_>, first: &[u32]) {
         for (k, object) in first.iter().enumerate() {
-            if is_unowned(self.owners.as_slice(), *object) {
-                self.give(*object, place_at(k));
+            let person = place_at(k);
+            let is_free = is_unowned(self.owners.as_slice(), *object);
+            if is_free && lists(problem.row(person), *object) {
+                self.give(*object, person);
             }
         }
     }

@@ -54,6 +54,8 @@ pub struct Run<'a> {
     ahead: Ahead,
     // Once a stage asked for it.
     spread: Option<i64>,
+    // Whether it goes on from a record, which may hold anything.
+    is_resumed: bool,
 }
 
 /// How it ended.
@@ -119,6 +121,7 @@ impl<'a> Run<'a> {
             },
             ahead: Ahead { objects: 0 },
             spread: None,
+            is_resumed: !matches!(record.stage, Stage::Cold | Stage::Warm),
         })
     }
 
@@ -321,13 +324,33 @@ impl<'a> Run<'a> {
     // After each person is served: unowned objects have to be as cheap as any.
     fn after_all(&mut self) -> Option<RunEnd> {
         if self.problem.is_square() {
-            return self.bring_to_costs();
+            self.record = self.record.with_stage(Stage::LastPaths);
+            return self.finish();
         }
         self.record = self.record.with_stage(Stage::Unowned);
         None
     }
 
-    fn bring_to_costs(&mut self) -> Option<RunEnd> {
+    // Whether pairs are tight and unowned objects cheap, as a search leaves them.
+    fn is_settled(&mut self) -> bool {
+        let scaled = self.scaled();
+        let _ = settle(scaled, &mut self.market, 0, &mut self.looks);
+        self.market.count_unserved() == 0 && self.market.count_dear() == 0
+    }
+
+    // The end, after one more pass over all pairs where the search went on from a record.
+    fn finish(&mut self) -> Option<RunEnd> {
+        if self.is_resumed {
+            if self.looks.is_spent() {
+                return None;
+            }
+            self.is_resumed = false;
+            if !self.is_settled() {
+                self.record = self.record.with_stage(Stage::LastTight);
+                self.record.place = 1;
+                return None;
+            }
+        }
         self.market.bring_to_costs(self.scaled().shift);
         Some(RunEnd::Best)
     }
@@ -340,14 +363,17 @@ impl<'a> Run<'a> {
             return Ok(None);
         }
         for _object in 0..self.problem.objects {
+            if self.record.place > 1 {
+                return Ok(self.finish());
+            }
             if !bring_down(&mut self.search, scaled, &mut self.market, &mut self.looks)? {
-                return Ok(self.bring_to_costs());
+                self.record.place = 2;
             }
             if self.looks.is_spent() {
                 return Ok(None);
             }
         }
-        Ok(self.bring_to_costs())
+        Ok(self.finish())
     }
 
     fn first_paths(&mut self) -> Result<Option<RunEnd>, AllocError> {

@@ -166,13 +166,19 @@ fn draw_start(
 }
 
 fn draw_stage(seed: &mut u64) -> Stage {
-    match draw_wide(seed, 6) {
+    match draw_wide(seed, 12) {
         0 => Stage::Cold,
         1 => Stage::Warm,
-        2 => Stage::Paths,
-        3 => Stage::Auction,
-        4 => Stage::Matching,
-        _ => Stage::Finish,
+        2 => Stage::WarmTight,
+        3 => Stage::Bids,
+        4 => Stage::FirstTight,
+        5 => Stage::FirstPaths,
+        6 => Stage::Auction,
+        7 => Stage::Help,
+        8 => Stage::Matching,
+        9 => Stage::LastTight,
+        10 => Stage::LastPaths,
+        _ => Stage::Unowned,
     }
 }
 
@@ -185,7 +191,8 @@ fn draw_record(seed: &mut u64) -> Record {
         bids: draw_wide(seed, 200),
         dummy_bids: (draw_wide(seed, 6) & 7) as u32,
         has_assignment: draw_wide(seed, 2) == 0,
-        drops_pairs: draw_wide(seed, 4) == 0,
+        place: (draw_wide(seed, 9) & 15) as u32,
+        usual: (draw_wide(seed, 60) & 63) as u32,
         looks: draw_wide(seed, 1000),
     }
 }
