@@ -45,8 +45,10 @@ RECTANGLES = ((80, 3000, 3000), (20, 8000, 8000), (1000, 2000, 2000),
               (1000, 1100, 1100), (1, 8192, 8192), (500, 4000, 10))
 # Persons, objects, the greatest cost (0: points of a square, -1: i * j), and the number of calls.
 DRAWN = ((8, 8, 1000, 1000), (50, 50, 10**6, 100), (200, 200, 10**6, 10),
-         *((n, n, most, 1) for n, most in ((1000, 1000), (1000, 10**6), (2000, 1000), (2000, 10**6), (4000, 1000), (4000, 10**6), (4000, 10**12),
-         (8192, 1000), (8192, 10**6), (8192, 10**12), (200, 0), (1000, 0), (4000, 0), (1000, -1))), (1000, 2000, 10**6, 1), (3000, 4000, 10**6, 1), (80, 3000, 10**6, 1), (20, 8000, 10**6, 1))
+         *((n, n, most, 1) for n, most in ((1000, 1000), (1000, 10**6), (2000, 1000), (2000, 10**6), (4000, 1000),
+                                           (4000, 10**6), (4000, 10**12), (8192, 1000), (8192, 10**6),
+                                           (8192, 10**12), (200, 0), (1000, 0), (4000, 0), (1000, -1))),
+         (1000, 2000, 10**6, 1), (3000, 4000, 10**6, 1), (80, 3000, 10**6, 1), (20, 8000, 10**6, 1))
 ROUNDS = ["--mode", "rounds"]
 WORKER = ["--mode", "workers", "--workers", "1"]
 PATHS = ["--method", "paths"]
@@ -151,7 +153,8 @@ def kind(name, n, runs=TIMES, words_of_door=()):
     words = ["--sparse"] if sparse else []
     rounds, worker = (alone([*words, *mode], path, bad, runs) for mode in (ROUNDS, WORKER))
     print(
-    f"| {name}, n = {n} | {call:.4f} | {ratio(call, earlier)} | {ratio(call, rust)} | {ratio(call, c)} | {printed(rounds)} | {printed(worker)} |",
+    f"| {name}, n = {n} | {call:.4f} | {ratio(call, earlier)} | {ratio(call, rust)} | {ratio(call, c)} | "
+                    f"{printed(rounds)} | {printed(worker)} |",
      flush=True)
 
 
@@ -176,7 +179,8 @@ def shares():
         (call, rust, c, check), (earlier, _, _, checked) = both(("drawn", n, m, most, count, 1))
         kind = {0: "points", -1: "i * j"}.get(most, f"costs to {most}")
         print(
-    f"| {n} x {m}, {kind}, {count} calls | {call:.4f} | {ratio(call, earlier)} | {ratio(call, rust)} | {ratio(call, c)} | {ratio(check, checked)} |",
+    f"| {n} x {m}, {kind}, {count} calls | {call:.4f} | {ratio(call, earlier)} | {ratio(call, rust)} | "
+                f"{ratio(call, c)} | {ratio(check, checked)} |",
      flush=True)
 
 
@@ -184,7 +188,8 @@ def memory():
     """The greatest memory of one call, as a share of the caller's list."""
     for n, most in ((1000, 10**6), (4000, 1000), (4000, 10**6), (4000, 10**12), (8192, 10**6)):
         [(_, (solving, _, _, checking))] = door("memory", n, n, most)
-        print(f"{n} x {n}, costs to {most}: {solving:.2f} of the list for a call, {checking:.2f} for a check", flush=True)
+        print(f"{n} x {n}, costs to {most}: {solving:.2f} of the list for a call, {checking:.2f} for a check",
+              flush=True)
 
 
 def starts():
@@ -223,7 +228,8 @@ def rectangles():
     for n, m, each in RECTANGLES:
         for name, (warm, cold, *_) in door("rectangle", n, m, each, 10**6, TIMES):
             print(
-    f"{n} persons of {each} pairs, {m} objects, from first prices, {name}: {warm:.4f} s, {warm / cold:.2f} of {cold:.4f} s cold",
+    f"{n} persons of {each} pairs, {m} objects, from first prices, {name}: {warm:.4f} s, "
+                    f"{warm / cold:.2f} of {cold:.4f} s cold",
      flush=True)
 
 
