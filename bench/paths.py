@@ -152,10 +152,9 @@ def kind(name, n, runs=TIMES, words_of_door=()):
     (call, rust, c, _), (earlier, *_) = both(("text", 1, "sparse" if sparse else "dense", *words_of_door), path)
     words = ["--sparse"] if sparse else []
     rounds, worker = (alone([*words, *mode], path, bad, runs) for mode in (ROUNDS, WORKER))
-    print(
-    f"| {name}, n = {n} | {call:.4f} | {ratio(call, earlier)} | {ratio(call, rust)} | {ratio(call, c)} | "
-                    f"{printed(rounds)} | {printed(worker)} |",
-     flush=True)
+    print(f"| {name}, n = {n} | {call:.4f} | {ratio(call, earlier)} | {ratio(call, rust)} | {ratio(call, c)} | "
+          f"{printed(rounds)} | {printed(worker)} |",
+          flush=True)
 
 
 def kinds():
@@ -178,10 +177,9 @@ def shares():
     for n, m, most, count in DRAWN:
         (call, rust, c, check), (earlier, _, _, checked) = both(("drawn", n, m, most, count, 1))
         kind = {0: "points", -1: "i * j"}.get(most, f"costs to {most}")
-        print(
-    f"| {n} x {m}, {kind}, {count} calls | {call:.4f} | {ratio(call, earlier)} | {ratio(call, rust)} | "
-                f"{ratio(call, c)} | {ratio(check, checked)} |",
-     flush=True)
+        print(f"| {n} x {m}, {kind}, {count} calls | {call:.4f} | {ratio(call, earlier)} | {ratio(call, rust)} | "
+              f"{ratio(call, c)} | {ratio(check, checked)} |",
+              flush=True)
 
 
 def memory():
@@ -227,10 +225,9 @@ def rectangles():
     """Calls on n persons, each with so many pairs, and m objects: from first prices, as shares of cold ones."""
     for n, m, each in RECTANGLES:
         for name, (warm, cold, *_) in door("rectangle", n, m, each, 10**6, TIMES):
-            print(
-    f"{n} persons of {each} pairs, {m} objects, from first prices, {name}: {warm:.4f} s, "
-                    f"{warm / cold:.2f} of {cold:.4f} s cold",
-     flush=True)
+            print(f"{n} persons of {each} pairs, {m} objects, from first prices, {name}: {warm:.4f} s, "
+                  f"{warm / cold:.2f} of {cold:.4f} s cold",
+                  flush=True)
 
 
 def whole():
