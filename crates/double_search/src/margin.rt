@@ -1,0 +1,177 @@
+// Prices at which each other pair is worse by a margin: small steps on the prices of owned objects,
+// by longest paths among the near pairs.
+use super::lists::{Lists, NOBODY, at, copy, number_of, place_of, put};
+use super::scale::Scale;
+
+// The margin, in coarse units.
+const MARGIN: i64 = 4;
+
+// How far steps may go, and how far pairs count as near, in units.
+#[derive(Clone, Copy)]
+struct Bounds {
+    grid: i64,
+    margin: i64,
+    most: i64,
+}
+
+// Persons whose near pairs are to be looked at again, in a ring.
+#[derive(Clone, Copy)]
+struct Ring {
+    begin: usize,
+    count: usize,
+}
+
+// The nearest number of the grid, whose unit is a power of 2.
+fn on_grid(number: i64, grid: i64) -> i64 {
+    number.wrapping_add(grid >> 1) & grid.wrapping_neg()
+}
+
+fn up_to_grid(number: i64, grid: i64) -> i64 {
+    number.wrapping_add(grid.wrapping_sub(1)) & grid.wrapping_neg()
+}
+
+fn place_after(begin: usize, count: usize, size: usize) -> usize {
+    let place = begin.wrapping_add(count);
+    if place >= size {
+        place.wrapping_sub(size)
+    } else {
+        place
+    }
+}
+
+// The steps are in the levels, the ring in the passed, and who waits in it in the scanned.
+impl<'a> Lists<'a> {
+    fn begin_keys(&mut self, grid: i64) {
+        for k in 0..self.keys.len() {
+            let dual = at(self.duals, k);
+            self.keys[k] = on_grid(dual, grid);
+        }
+    }
+
+    // The greatest dual.
+    fn top(&self) -> i64 {
+        self.keys.iter().copied().max().unwrap_or(0)
+    }
+
+    fn has_near(&self, person: usize) -> bool {
+        at(self.starts, person) < at(self.starts, person.wrapping_add(1))
+    }
+
+    fn add(&mut self, ring: Ring, person: usize) -> Ring {
+        if at(self.scanned, person) != 0 || !self.has_near(person) {
+            return ring;
+        }
+        put(self.scanned, person, 1);
+        let place = place_after(ring.begin, ring.count, self.passed.len());
+        put(self.passed, place, number_of(person));
+        Ring {
+            count: ring.count.wrapping_add(1),
+            ..ring
+        }
+    }
+
+    // Duals of owned objects may rise as far as the greatest one, if an object is unowned.
+    fn begin_steps(&mut self, bounds: Bounds) -> Ring {
+        let top = self.top();
+        let has_unowned = self.has_unowned();
+        let least = (self.objects.len() as u64).cast_signed().wrapping_add(2);
+        let least = bounds.margin.wrapping_mul(least).wrapping_neg();
+        let mut ring = Ring { begin: 0, count: 0 };
+        for person in 0..self.objects.len() {
+            let object = place_of(at(self.objects, person));
+            let free = at(self.keys, object).wrapping_sub(top).max(least);
+            put(self.levels, person, if has_unowned { free } else { 0 });
+            put(self.scanned, person, 0);
+            ring = self.add(ring, person);
+        }
+        ring
+    }
+
+    fn is_short(&self, owner: i64, need: i64) -> bool {
+        need > at(self.levels, place_of(owner))
+    }
+
+    // Puts the keys in place of the duals.
+    fn enter_keys(&mut self) {
+        let keys = &*self.keys;
+        let duals = &mut *self.duals;
+        copy(keys, duals);
+    }
+
+    // The steps that a person's near pairs need; none if they can't be taken.
+    fn step(&mut self, ring: Ring, person: usize, bounds: Bounds) -> Option<Ring> {
+        let mut ring = ring;
+        let own = at(self.levels, person).wrapping_add(bounds.margin);
+        let from = at(self.starts, person);
+        let to = at(self.starts, person.wrapping_add(1));
+        for k in place_of(from)..place_of(to) {
+            let object = place_of(at(self.near, k));
+            let owner = at(self.owners, object);
+            let need = own.wrapping_sub(at(self.worse, k));
+            if owner == NOBODY {
+                if need > 0 {
+                    return None;
+                }
+            } else if self.is_short(owner, need) {
+                let step = up_to_grid(need, bounds.grid);
+                if step > bounds.most {
+                    return None;
+                }
+                let person = place_of(owner);
+                put(self.levels, person, step);
+                ring = self.add(ring, person);
+            }
+        }
+        Some(ring)
+    }
+
+    fn take_steps(&mut self, bounds: Bounds) -> bool {
+        let mut ring = self.begin_steps(bounds);
+        let persons = self.objects.len();
+        for _ in 0..persons.saturating_mul(20).saturating_add(100) {
+            if ring.count == 0 {
+                return true;
+            }
+            let person = place_of(at(self.passed, ring.begin));
+            put(self.scanned, person, 0);
+            let left = Ring {
+                begin: place_after(ring.begin, 1, persons),
+                count: ring.count.wrapping_sub(1),
+            };
+            match self.step(left, person, bounds) {
+                Some(next) => ring = next,
+                None => return false,
+            }
+        }
+        false
+    }
+
+    fn enter_steps(&mut self) {
+        for person in 0..self.objects.len() {
+            let object = place_of(at(self.objects, person));
+            let dual = at(self.keys, object).wrapping_sub(at(self.levels, person));
+            put(self.keys, object, dual);
+        }
+    }
+
+    // Duals at which each other pair is worse by a margin, in place of these, which may be off by
+    // so many units. Returns whether there are any.
+    pub fn spread(&mut self, scale: Scale, off: i64) -> bool {
+        let grid = scale.grid();
+        let persons = (self.objects.len() as u64).cast_signed();
+        let unit = grid.max(off);
+        let bounds = Bounds {
+            grid,
+            margin: MARGIN.wrapping_mul(grid),
+            most: unit.wrapping_mul(persons.wrapping_mul(8).wrapping_add(16)),
+        };
+        self.begin_keys(grid);
+        let reach = unit.wrapping_mul(persons.wrapping_mul(16).wrapping_add(64));
+        if !self.gather_near(reach) || !self.take_steps(bounds) {
+            return false;
+        }
+        self.enter_steps();
+        self.enter_keys();
+        true
+    }
+}

@@ -1,0 +1,244 @@
+// The search.
+ghost use Rattle.std.specs.Prelude.{◌≡◌, length};
+
+use super::block::{lists_in, room_of};
+use super::engine::{search_narrow, shift_of};
+use super::hall::{HallSet, all_persons, as_number, hall_set_of};
+use super::lists::{Lists, at, place_of};
+use super::paths::Path;
+use super::range::Range;
+use super::scale::Scale;
+use super::whole::{FAR, to_duals, to_prices, to_whole};
+use assign_core::Sense;
+use std::alloc::{AllocError, Global};
+
+// From so many persons on a search over fewer bits comes first.
+const LARGE: usize = 256;
+
+// Costs so many times as great as those that a plan will need are cut, for a finer unit.
+const CUT_FROM: f64 = 64.0;
+
+const CUT_TO: f64 = 32.0;
+
+/// Dense costs, row by row: an infinite one forbids its pair.
+#[derive(Clone, Copy)]
+pub struct Problem<'a> {
+    pub sense: Sense,
+    pub persons: usize,
+    pub objects: usize,
+    pub costs: &'a [f64],
+}
+
+/// How a search ends. A checker has to decide about what it found.
+#[derive(Drop)]
+pub enum Ended {
+    /// With a plan and prices.
+    Plan,
+    /// With persons who list fewer objects than they are.
+    Hall(HallSet),
+    /// With nothing.
+    Lost,
+}
+
+// How a search in one unit ends.
+#[derive(Drop)]
+enum Tried {
+    Plan,
+    Hall(HallSet),
+    Lost,
+    // The plan has a cost that was cut.
+    Cut,
+}
+
+impl<'a> Problem<'a> {
+    fn sign(self) -> f64 {
+        match self.sense {
+            Sense::Min => 1.0,
+            Sense::Max => -1.0,
+        }
+    }
+
+    fn full_scale(self, range: Range) -> Scale {
+        Scale::of(range.size(), self.sign(), range.has_infinite, false)
+    }
+
+    // A finer unit, where most costs are far greater than those that a plan will need.
+    fn scale(self, range: Range) -> Scale {
+        let near = range.near_size();
+        if near > 0.0 && range.size() > CUT_FROM * near {
+            return Scale::of(CUT_TO * near, self.sign(), range.has_infinite, true);
+        }
+        self.full_scale(range)
+    }
+}
+
+// Whether a person has an object whose cost was cut.
+fn has_cut(lists: &Lists<'_>, scale: Scale) -> bool {
+    let limit = (1i64 << 50).wrapping_mul(scale.grid());
+    for person in 0..lists.persons() {
+        if lists.cost(person, place_of(at(lists.objects, person))) >= limit {
+            return true;
+        }
+    }
+    false
+}
+
+fn write_objects(lists: &Lists<'_>, objects: &mut [u32]) {
+    for (object, place) in objects.iter_mut().zip(lists.objects.iter()) {
+        *object = as_number(place_of(*place));
+    }
+}
+
+fn write(lists: &Lists<'_>, scale: Scale, objects: &mut [u32], prices: &mut [f64])
+    ensures objects { length objects.new ≡ length objects.old }
+    ensures prices { length prices.new ≡ length prices.old }
+{
+    write_objects(lists, objects);
+    if prices.len() == lists.duals.len() {
+        to_prices(lists.duals, prices, scale.unit);
+    }
+}
+
+// After a search over fewer bits: duals with a margin, or those that are exact, or those of a search
+// from there.
+fn refine(lists: &mut Lists<'_>, scale: Scale) -> Path {
+    if lists.spread(scale, 1i64.wrapping_shl(shift_of(scale))) {
+        return Path::Found;
+    }
+    if lists.settle() == 0 && lists.are_unowned_on_top() {
+        return Path::Found;
+    }
+    let path = lists.search_warm();
+    let _ = path == Path::Found && lists.spread(scale, 0);
+    path
+}
+
+fn search_small(lists: &mut Lists<'_>, scale: Scale) -> Path {
+    let path = lists.search_cold();
+    let _ = path == Path::Found && lists.spread(scale, 0);
+    path
+}
+
+fn search_from_nothing(
+    alloc: Global,
+    lists: &mut Lists<'_>,
+    scale: Scale,
+) -> Result<Path, AllocError> {
+    if lists.persons() >= LARGE && search_narrow(alloc, lists, scale)? {
+        return Ok(refine(lists, scale));
+    }
+    Ok(search_small(lists, scale))
+}
+
+// A search from objects and prices.
+fn search_from_start(lists: &mut Lists<'_>, scale: Scale, objects: &[u32], prices: &[f64]) -> Path {
+    lists.release_all();
+    lists.enter(objects);
+    if prices.len() == lists.duals.len() {
+        to_duals(prices, lists.duals, scale);
+    }
+    let path = lists.search_warm();
+    let _ = path == Path::Found && lists.spread(scale, 0);
+    path
+}
+
+// A search in this unit.
+fn search_in(
+    alloc: Global,
+    problem: Problem<'_>,
+    scale: Scale,
+    has_start: bool,
+    objects: &mut [u32],
+    prices: &mut [f64],
+) -> Result<Tried, AllocError>
+    ensures objects { length objects.new ≡ length objects.old }
+    ensures prices { length prices.new ≡ length prices.old }
+{
+    let (n, m) = (problem.persons, problem.objects);
+    let mut costs = vec![in alloc; 0i64; problem.costs.len()]?;
+    to_whole(problem.costs, costs.as_mut_slice(), scale);
+    let mut block = vec![in alloc; 0i64; room_of(n, m)]?;
+    let mut lists = lists_in(n, m, costs.as_slice(), block.as_mut_slice());
+    let path = if has_start {
+        search_from_start(&mut lists, scale, objects, prices)
+    } else {
+        search_from_nothing(alloc, &mut lists, scale)?
+    };
+    match path {
+        Path::Lost => Ok(Tried::Lost),
+        Path::None(turns) => Ok(Tried::Hall(hall_set_of(alloc, &lists, turns)?)),
+        Path::Found => {
+            if scale.is_cut && has_cut(&lists, scale) {
+                return Ok(Tried::Cut);
+            }
+            write(&lists, scale, objects, prices);
+            Ok(Tried::Plan)
+        }
+    }
+}
+
+fn search_all(
+    alloc: Global,
+    problem: Problem<'_>,
+    has_start: bool,
+    objects: &mut [u32],
+    prices: &mut [f64],
+) -> Result<Ended, AllocError>
+    ensures objects { length objects.new ≡ length objects.old }
+    ensures prices { length prices.new ≡ length prices.old }
+{
+    let (n, m) = (problem.persons, problem.objects);
+    if n > m {
+        return Ok(Ended::Hall(all_persons(alloc, n, m, problem.costs)?));
+    }
+    let range = Range::of(problem.costs, m, problem.sign());
+    let scale = problem.scale(range);
+    match search_in(alloc, problem, scale, has_start, objects, prices)? {
+        Tried::Plan => Ok(Ended::Plan),
+        Tried::Hall(set) => Ok(Ended::Hall(set)),
+        Tried::Lost => Ok(Ended::Lost),
+        Tried::Cut => {
+            let scale = problem.full_scale(range);
+            match search_in(alloc, problem, scale, has_start, objects, prices)? {
+                Tried::Plan => Ok(Ended::Plan),
+                Tried::Hall(set) => Ok(Ended::Hall(set)),
+                Tried::Lost | Tried::Cut => Ok(Ended::Lost),
+            }
+        }
+    }
+}
+
+/// Searches for a best plan and prices, or for a Hall set. Prices are those at which each person's
+/// own object is a best one: the least sum of cost and price, under `Sense::Max` the greatest
+/// difference. What they are where the search ends otherwise is left open.
+///
+/// # Errors
+/// `AllocError` if memory is refused.
+pub fn search(
+    alloc: Global,
+    problem: Problem<'_>,
+    objects: &mut [u32],
+    prices: &mut [f64],
+) -> Result<Ended, AllocError>
+    ensures objects { length objects.new ≡ length objects.old }
+    ensures prices { length prices.new ≡ length prices.old }
+{
+    search_all(alloc, problem, false, objects, prices)
+}
+
+/// The same from an earlier plan and its prices. Persons with object 0, and those who have a better
+/// object at these prices, get one by a shortest path each.
+///
+/// # Errors
+/// `AllocError` if memory is refused.
+pub fn search_from(
+    alloc: Global,
+    problem: Problem<'_>,
+    objects: &mut [u32],
+    prices: &mut [f64],
+) -> Result<Ended, AllocError>
+    ensures objects { length objects.new ≡ length objects.old }
+    ensures prices { length prices.new ≡ length prices.old }
+{
+    search_all(alloc, problem, true, objects, prices)
+}

@@ -1,0 +1,84 @@
+// Where a search begins.
+use super::bids::{begin_with_least, bid_all};
+use super::lists::{Lists, NOBODY, at, fill, place_of, put, row_at};
+use super::paths::Path;
+use super::reach::least_of_row;
+use super::whole::FAR;
+
+impl<'a> Lists<'a> {
+    // Nobody has an object.
+    pub fn release_all(&mut self) {
+        fill(self.owners, NOBODY);
+        fill(self.objects, NOBODY);
+    }
+
+    // A search from nothing.
+    pub fn search_cold(&mut self) -> Path {
+        self.release_all();
+        if self.has_unowned() {
+            fill(self.duals, 0);
+        } else {
+            fill(self.duals, FAR);
+            let costs = self.costs;
+            let duals = &mut *self.duals;
+            begin_with_least(costs, duals);
+        }
+        bid_all(self);
+        self.augment_all()
+    }
+
+    // Whether a person's own object is a best one.
+    fn is_settled(&self, person: usize, object: i64) -> bool {
+        let (costs, m) = (self.costs, self.m);
+        let duals = &*self.duals;
+        let row = row_at(costs, m, person);
+        let place = place_of(object);
+        let own = at(row, place).wrapping_sub(at(duals, place));
+        own < FAR && own <= least_of_row(row, duals)
+    }
+
+    // Takes objects from the persons that have a better one. Returns from how many.
+    pub fn settle(&mut self) -> usize {
+        let mut count = 0usize;
+        for person in 0..self.objects.len() {
+            let object = at(self.objects, person);
+            if object != NOBODY && !self.is_settled(person, object) {
+                put(self.objects, person, NOBODY);
+                put(self.owners, place_of(object), NOBODY);
+                count = count.wrapping_add(1);
+            }
+        }
+        count
+    }
+
+    // Whether no dual is above that of an unowned object.
+    pub fn are_unowned_on_top(&self) -> bool {
+        let top = self.duals.iter().copied().max().unwrap_or(0);
+        for (dual, owner) in self.duals.iter().zip(self.owners.iter()) {
+            if *owner == NOBODY && *dual < top {
+                return false;
+            }
+        }
+        true
+    }
+
+    // A search from the duals and the plan that there are.
+    pub fn search_warm(&mut self) -> Path {
+        let _ = self.settle();
+        let path = self.augment_all();
+        if path == Path::Found && !self.are_unowned_on_top() {
+            return self.search_cold();
+        }
+        path
+    }
+
+    // Gives persons the objects with these numbers, each object once.
+    pub fn enter(&mut self, objects: &[u32]) {
+        for (person, number) in objects.iter().enumerate() {
+            let object = (*number as usize).wrapping_sub(1);
+            if *number != 0 && object < self.m && at(self.owners, object) == NOBODY {
+                self.give(person, object);
+            }
+        }
+    }
+}
