@@ -2,15 +2,14 @@
 // owned it bids next (the augmenting row reduction of Jonker and Volgenant, 1987).
 ghost use Rattle.std.specs.Prelude.{◌≡◌, length};
 
-use super::lists::{Lists, NOBODY, at, number_of, place_of, put, row_at};
+use super::lists::{Lists, Matrix, NOBODY, at, place_of, put};
 use super::reach::two_best;
 use super::whole::FAR;
 
 // One bid: the person who lost its object by it, or nobody.
-fn bid(lists: &mut Lists<'_>, person: usize) -> i64 {
-    let (costs, m) = (lists.costs, lists.m);
-    let duals = &*lists.duals;
-    let two = two_best(row_at(costs, m, person), duals);
+fn bid(matrix: Matrix<'_>, lists: &mut Lists<'_>, person: usize) -> i64 {
+    let duals = &mut *lists.duals;
+    let two = two_best(matrix.row(person), duals);
     if two.best >= FAR {
         return NOBODY;
     }
@@ -33,10 +32,10 @@ fn bid(lists: &mut Lists<'_>, person: usize) -> i64 {
 }
 
 // At most `most` bids of a person and of those who lose their objects in turn. Returns how many.
-fn bid_on(lists: &mut Lists<'_>, first: usize, most: usize) -> usize {
+fn bid_on(matrix: Matrix<'_>, lists: &mut Lists<'_>, first: usize, most: usize) -> usize {
     let mut person = first;
     for made in 0..most {
-        let loser = bid(lists, person);
+        let loser = bid(matrix, lists, person);
         if loser == NOBODY {
             return made;
         }
@@ -46,13 +45,13 @@ fn bid_on(lists: &mut Lists<'_>, first: usize, most: usize) -> usize {
 }
 
 // Bids of each person without an object.
-pub fn bid_all(lists: &mut Lists<'_>) {
+pub fn bid_all(matrix: Matrix<'_>, lists: &mut Lists<'_>) {
     let persons = lists.persons();
     let in_turn = persons.saturating_mul(2).saturating_add(4);
     let mut left = persons.saturating_mul(4).saturating_add(8);
     for person in 0..persons {
         if at(lists.objects, person) == NOBODY {
-            let made = bid_on(lists, person, in_turn.min(left).max(1));
+            let made = bid_on(matrix, lists, person, in_turn.min(left).max(1));
             left = left.saturating_sub(made);
         }
     }

@@ -20,7 +20,7 @@ pub fn most_near(n: usize) -> usize {
 }
 
 // The lists in a block.
-pub fn lists_in<'a>(n: usize, m: usize, costs: &'a [i64], block: &'a mut [i64]) -> Lists<'a> {
+pub fn lists_in<'a>(n: usize, m: usize, block: &'a mut [i64]) -> Lists<'a> {
     let (duals, block) = cut(block, m);
     let (keys, block) = cut(block, m);
     let (distances, block) = cut(block, m);
@@ -35,8 +35,6 @@ pub fn lists_in<'a>(n: usize, m: usize, costs: &'a [i64], block: &'a mut [i64]) 
     let (near, block) = cut(block, most_near(n));
     let (worse, _) = cut(block, most_near(n));
     Lists {
-        m,
-        costs,
         duals,
         keys,
         distances,

@@ -1,7 +1,7 @@
 // Larger problems: first a search over whole numbers of fewer bits.
 ghost use Rattle.std.specs.Prelude.{◌≡◌, length};
 
-use super::lists::{Lists, NOBODY, fill, number_of, put};
+use super::lists::{Lists, Matrix, NOBODY, fill, put};
 use super::scale::Scale;
 use assign_core::Sense;
 use dense_search::{DenseProblem, Outcome, Record, search};
@@ -36,12 +36,13 @@ fn enter(lists: &mut Lists<'_>, prices: &[i64], objects: &[u32], shift: u32) {
 // Duals and a plan that are best within the bits that are left out. Returns whether there are any.
 pub fn search_narrow(
     alloc: Global,
+    matrix: Matrix<'_>,
     lists: &mut Lists<'_>,
     scale: Scale,
 ) -> Result<bool, AllocError> {
-    let (persons, objects, shift) = (lists.persons(), lists.m, shift_of(scale));
-    let mut costs = vec![in alloc; 0i64; lists.costs.len()]?;
-    narrow(lists.costs, costs.as_mut_slice(), shift);
+    let (persons, objects, shift) = (lists.persons(), matrix.m, shift_of(scale));
+    let mut costs = vec![in alloc; 0i64; matrix.costs.len()]?;
+    narrow(matrix.costs, costs.as_mut_slice(), shift);
     let mut prices = vec![in alloc; 0i64; objects]?;
     let mut plan = vec![in alloc; u32::MAX; persons]?;
     let problem = DenseProblem {

@@ -4,12 +4,15 @@ ghost use Rattle.std.specs.Prelude.{◌≡◌, length};
 
 pub const NOBODY: i64 = -1;
 
+// The cost of each pair of a person and one of m objects, row by row.
+#[derive(Clone, Copy)]
+pub struct Matrix<'a> {
+    pub m: usize,
+    pub costs: &'a [i64],
+}
+
 #[derive(Drop)]
 pub struct Lists<'a> {
-    // The number of objects.
-    pub m: usize,
-    // The cost of each pair, row by row.
-    pub costs: &'a [i64],
     // Of each object: its dual, its key in a search, its distance, and its owner.
     pub duals: &'a mut [i64],
     pub keys: &'a mut [i64],
@@ -62,19 +65,23 @@ pub fn copy(from: &[i64], to: &mut [i64]) {
     }
 }
 
-// The costs of a person.
-pub fn row_at(costs: &[i64], m: usize, person: usize) -> &[i64] {
-    let from = person.wrapping_mul(m);
-    costs.get(from..from.wrapping_add(m)).unwrap_or(&[])
+impl<'a> Matrix<'a> {
+    // The costs of a person.
+    pub fn row(self, person: usize) -> &'a [i64] {
+        let from = person.wrapping_mul(self.m);
+        self.costs
+            .get(from..from.wrapping_add(self.m))
+            .unwrap_or(&[])
+    }
+
+    pub fn cost(self, person: usize, object: usize) -> i64 {
+        at(self.row(person), object)
+    }
 }
 
 impl<'a> Lists<'a> {
     pub fn persons(&self) -> usize {
         self.objects.len()
-    }
-
-    pub fn cost(&self, person: usize, object: usize) -> i64 {
-        at(row_at(self.costs, self.m, person), object)
     }
 
     // Gives a person an object; its earlier owner, if there is one, keeps its place.
@@ -84,6 +91,6 @@ impl<'a> Lists<'a> {
     }
 
     pub fn has_unowned(&self) -> bool {
-        self.m > self.objects.len()
+        self.owners.len() > self.objects.len()
     }
 }

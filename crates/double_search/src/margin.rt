@@ -1,6 +1,6 @@
 // Prices at which each other pair is worse by a margin: small steps on the prices of owned objects,
 // by longest paths among the near pairs.
-use super::lists::{Lists, NOBODY, at, copy, number_of, place_of, put};
+use super::lists::{Lists, Matrix, NOBODY, at, copy, number_of, place_of, put};
 use super::scale::Scale;
 
 // The margin, in coarse units.
@@ -93,7 +93,7 @@ impl<'a> Lists<'a> {
 
     // Puts the keys in place of the duals.
     fn enter_keys(&mut self) {
-        let keys = &*self.keys;
+        let keys = &mut *self.keys;
         let duals = &mut *self.duals;
         copy(keys, duals);
     }
@@ -156,7 +156,7 @@ impl<'a> Lists<'a> {
 
     // Duals at which each other pair is worse by a margin, in place of these, which may be off by
     // so many units. Returns whether there are any.
-    pub fn spread(&mut self, scale: Scale, off: i64) -> bool {
+    pub fn spread(&mut self, matrix: Matrix<'_>, scale: Scale, off: i64) -> bool {
         let grid = scale.grid();
         let persons = (self.objects.len() as u64).cast_signed();
         let unit = grid.max(off);
@@ -167,7 +167,7 @@ impl<'a> Lists<'a> {
         };
         self.begin_keys(grid);
         let reach = unit.wrapping_mul(persons.wrapping_mul(16).wrapping_add(64));
-        if !self.gather_near(reach) || !self.take_steps(bounds) {
+        if !self.gather_near(matrix, reach) || !self.take_steps(bounds) {
             return false;
         }
         self.enter_steps();

@@ -2,7 +2,7 @@
 // so much.
 ghost use Rattle.std.specs.Prelude.{◌≡◌, length};
 
-use super::lists::{Lists, at, number_of, place_of, put, row_at};
+use super::lists::{Lists, Matrix, at, number_of, place_of, put};
 use super::reach::{BLOCK, is_any_below};
 
 // A person's own object, and its value.
@@ -59,9 +59,9 @@ fn keep_row(
 }
 
 impl<'a> Lists<'a> {
-    fn own_of(&self, person: usize, most: i64) -> Own {
+    fn own_of(&self, matrix: Matrix<'_>, person: usize, most: i64) -> Own {
         let object = place_of(at(self.objects, person));
-        let cost = self.cost(person, object);
+        let cost = matrix.cost(person, object);
         let value = cost.wrapping_sub(at(self.keys, object));
         Own {
             object,
@@ -70,11 +70,10 @@ impl<'a> Lists<'a> {
         }
     }
 
-    fn gather_of(&mut self, person: usize, most: i64, count: usize) -> usize {
-        let own = self.own_of(person, most);
-        let (costs, m) = (self.costs, self.m);
-        let row = row_at(costs, m, person);
-        let keys = &*self.keys;
+    fn gather_of(&mut self, matrix: Matrix<'_>, person: usize, most: i64, count: usize) -> usize {
+        let own = self.own_of(matrix, person, most);
+        let row = matrix.row(person);
+        let keys = &mut *self.keys;
         let near = &mut *self.near;
         let worse = &mut *self.worse;
         keep_row(row, keys, own, near, worse, count)
@@ -82,13 +81,13 @@ impl<'a> Lists<'a> {
 
     // Lists the pairs that are worse by less than `most` at the duals in the keys. Returns whether
     // there is room for them.
-    pub fn gather_near(&mut self, most: i64) -> bool {
+    pub fn gather_near(&mut self, matrix: Matrix<'_>, most: i64) -> bool {
         let persons = self.objects.len();
         let room = self.near.len();
         let mut count = 0usize;
         for person in 0..persons {
             put(self.starts, person, number_of(count));
-            count = self.gather_of(person, most, count);
+            count = self.gather_of(matrix, person, most, count);
             if count > room {
                 return false;
             }

@@ -4,7 +4,7 @@ ghost use Rattle.std.specs.Prelude.{◌≡◌, length};
 use super::block::{lists_in, room_of};
 use super::engine::{search_narrow, shift_of};
 use super::hall::{HallSet, all_persons, as_number, hall_set_of};
-use super::lists::{Lists, at, place_of};
+use super::lists::{Lists, Matrix, at, place_of};
 use super::paths::Path;
 use super::range::Range;
 use super::scale::Scale;
@@ -73,10 +73,10 @@ impl<'a> Problem<'a> {
 }
 
 // Whether a person has an object whose cost was cut.
-fn has_cut(lists: &Lists<'_>, scale: Scale) -> bool {
+fn has_cut(matrix: Matrix<'_>, lists: &Lists<'_>, scale: Scale) -> bool {
     let limit = (1i64 << 50).wrapping_mul(scale.grid());
     for person in 0..lists.persons() {
-        if lists.cost(person, place_of(at(lists.objects, person))) >= limit {
+        if matrix.cost(person, place_of(at(lists.objects, person))) >= limit {
             return true;
         }
     }
@@ -101,44 +101,51 @@ fn write(lists: &Lists<'_>, scale: Scale, objects: &mut [u32], prices: &mut [f64
 
 // After a search over fewer bits: duals with a margin, or those that are exact, or those of a search
 // from there.
-fn refine(lists: &mut Lists<'_>, scale: Scale) -> Path {
-    if lists.spread(scale, 1i64.wrapping_shl(shift_of(scale))) {
+fn refine(matrix: Matrix<'_>, lists: &mut Lists<'_>, scale: Scale) -> Path {
+    if lists.spread(matrix, scale, 1i64.wrapping_shl(shift_of(scale))) {
         return Path::Found;
     }
-    if lists.settle() == 0 && lists.are_unowned_on_top() {
+    if lists.settle(matrix) == 0 && lists.are_unowned_on_top() {
         return Path::Found;
     }
-    let path = lists.search_warm();
-    let _ = path == Path::Found && lists.spread(scale, 0);
+    let path = lists.search_warm(matrix);
+    let _ = path == Path::Found && lists.spread(matrix, scale, 0);
     path
 }
 
-fn search_small(lists: &mut Lists<'_>, scale: Scale) -> Path {
-    let path = lists.search_cold();
-    let _ = path == Path::Found && lists.spread(scale, 0);
+fn search_small(matrix: Matrix<'_>, lists: &mut Lists<'_>, scale: Scale) -> Path {
+    let path = lists.search_cold(matrix);
+    let _ = path == Path::Found && lists.spread(matrix, scale, 0);
     path
 }
 
 fn search_from_nothing(
     alloc: Global,
+    matrix: Matrix<'_>,
     lists: &mut Lists<'_>,
     scale: Scale,
 ) -> Result<Path, AllocError> {
-    if lists.persons() >= LARGE && search_narrow(alloc, lists, scale)? {
-        return Ok(refine(lists, scale));
+    if lists.persons() >= LARGE && search_narrow(alloc, matrix, lists, scale)? {
+        return Ok(refine(matrix, lists, scale));
     }
-    Ok(search_small(lists, scale))
+    Ok(search_small(matrix, lists, scale))
 }
 
 // A search from objects and prices.
-fn search_from_start(lists: &mut Lists<'_>, scale: Scale, objects: &[u32], prices: &[f64]) -> Path {
+fn search_from_start(
+    matrix: Matrix<'_>,
+    lists: &mut Lists<'_>,
+    scale: Scale,
+    objects: &[u32],
+    prices: &[f64],
+) -> Path {
     lists.release_all();
     lists.enter(objects);
     if prices.len() == lists.duals.len() {
         to_duals(prices, lists.duals, scale);
     }
-    let path = lists.search_warm();
-    let _ = path == Path::Found && lists.spread(scale, 0);
+    let path = lists.search_warm(matrix);
+    let _ = path == Path::Found && lists.spread(matrix, scale, 0);
     path
 }
 
@@ -158,17 +165,21 @@ fn search_in(
     let mut costs = vec![in alloc; 0i64; problem.costs.len()]?;
     to_whole(problem.costs, costs.as_mut_slice(), scale);
     let mut block = vec![in alloc; 0i64; room_of(n, m)]?;
-    let mut lists = lists_in(n, m, costs.as_slice(), block.as_mut_slice());
+    let matrix = Matrix {
+        m,
+        costs: costs.as_slice(),
+    };
+    let mut lists = lists_in(n, m, block.as_mut_slice());
     let path = if has_start {
-        search_from_start(&mut lists, scale, objects, prices)
+        search_from_start(matrix, &mut lists, scale, objects, prices)
     } else {
-        search_from_nothing(alloc, &mut lists, scale)?
+        search_from_nothing(alloc, matrix, &mut lists, scale)?
     };
     match path {
         Path::Lost => Ok(Tried::Lost),
         Path::None(turns) => Ok(Tried::Hall(hall_set_of(alloc, &lists, turns)?)),
         Path::Found => {
-            if scale.is_cut && has_cut(&lists, scale) {
+            if scale.is_cut && has_cut(matrix, &lists, scale) {
                 return Ok(Tried::Cut);
             }
             write(&lists, scale, objects, prices);

@@ -1,6 +1,6 @@
 // Where a search begins.
 use super::bids::{begin_with_least, bid_all};
-use super::lists::{Lists, NOBODY, at, fill, place_of, put, row_at};
+use super::lists::{Lists, Matrix, NOBODY, at, fill, place_of, put};
 use super::paths::Path;
 use super::reach::least_of_row;
 use super::whole::FAR;
@@ -13,36 +13,33 @@ impl<'a> Lists<'a> {
     }
 
     // A search from nothing.
-    pub fn search_cold(&mut self) -> Path {
+    pub fn search_cold(&mut self, matrix: Matrix<'_>) -> Path {
         self.release_all();
         if self.has_unowned() {
             fill(self.duals, 0);
         } else {
             fill(self.duals, FAR);
-            let costs = self.costs;
-            let duals = &mut *self.duals;
-            begin_with_least(costs, duals);
+            begin_with_least(matrix.costs, self.duals);
         }
-        bid_all(self);
-        self.augment_all()
+        bid_all(matrix, self);
+        self.augment_all(matrix)
     }
 
     // Whether a person's own object is a best one.
-    fn is_settled(&self, person: usize, object: i64) -> bool {
-        let (costs, m) = (self.costs, self.m);
+    fn is_settled(&self, matrix: Matrix<'_>, person: usize, object: i64) -> bool {
+        let row = matrix.row(person);
         let duals = &*self.duals;
-        let row = row_at(costs, m, person);
         let place = place_of(object);
         let own = at(row, place).wrapping_sub(at(duals, place));
         own < FAR && own <= least_of_row(row, duals)
     }
 
     // Takes objects from the persons that have a better one. Returns from how many.
-    pub fn settle(&mut self) -> usize {
+    pub fn settle(&mut self, matrix: Matrix<'_>) -> usize {
         let mut count = 0usize;
         for person in 0..self.objects.len() {
             let object = at(self.objects, person);
-            if object != NOBODY && !self.is_settled(person, object) {
+            if object != NOBODY && !self.is_settled(matrix, person, object) {
                 put(self.objects, person, NOBODY);
                 put(self.owners, place_of(object), NOBODY);
                 count = count.wrapping_add(1);
@@ -63,11 +60,11 @@ impl<'a> Lists<'a> {
     }
 
     // A search from the duals and the plan that there are.
-    pub fn search_warm(&mut self) -> Path {
-        let _ = self.settle();
-        let path = self.augment_all();
+    pub fn search_warm(&mut self, matrix: Matrix<'_>) -> Path {
+        let _ = self.settle(matrix);
+        let path = self.augment_all(matrix);
         if path == Path::Found && !self.are_unowned_on_top() {
-            return self.search_cold();
+            return self.search_cold(matrix);
         }
         path
     }
@@ -76,7 +73,7 @@ impl<'a> Lists<'a> {
     pub fn enter(&mut self, objects: &[u32]) {
         for (person, number) in objects.iter().enumerate() {
             let object = (*number as usize).wrapping_sub(1);
-            if *number != 0 && object < self.m && at(self.owners, object) == NOBODY {
+            if *number != 0 && object < self.owners.len() && at(self.owners, object) == NOBODY {
                 self.give(person, object);
             }
         }
