@@ -5,8 +5,11 @@ use super::reach::BLOCK;
 // The numbers that the lists of a search take, besides the costs.
 pub fn room_of(n: usize, m: usize) -> usize {
     let of_objects = m.saturating_mul(4).saturating_add(m / BLOCK);
-    let of_persons = n.saturating_mul(14).saturating_add(160);
-    of_objects.saturating_add(of_persons)
+    let of_persons = n.saturating_mul(7).saturating_add(8);
+    let of_near = most_near(n).saturating_mul(2);
+    of_objects
+        .saturating_add(of_persons)
+        .saturating_add(of_near)
 }
 
 fn cut(block: &mut [i64], size: usize) -> (&mut [i64], &mut [i64]) {
@@ -16,7 +19,7 @@ fn cut(block: &mut [i64], size: usize) -> (&mut [i64], &mut [i64]) {
 
 // The most near pairs that are kept.
 pub fn most_near(n: usize) -> usize {
-    n.saturating_mul(4).saturating_add(64)
+    n.saturating_mul(n.min(16))
 }
 
 // The lists in a block.
@@ -33,7 +36,8 @@ pub fn lists_in<'a>(n: usize, m: usize, block: &'a mut [i64]) -> Lists<'a> {
     let (bases, block) = cut(block, n);
     let (starts, block) = cut(block, n.saturating_add(1));
     let (near, block) = cut(block, most_near(n));
-    let (worse, _) = cut(block, most_near(n));
+    let (spare, block) = cut(block, most_near(n));
+    let (caps, _) = cut(block, n);
     Lists {
         duals,
         keys,
@@ -47,6 +51,7 @@ pub fn lists_in<'a>(n: usize, m: usize, block: &'a mut [i64]) -> Lists<'a> {
         bases,
         starts,
         near,
-        worse,
+        spare,
+        caps,
     }
 }

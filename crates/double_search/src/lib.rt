@@ -18,4 +18,5 @@ mod start;
 mod whole;
 
 pub use hall::HallSet;
+pub use range::margin_of;
 pub use solver::{Ended, Problem, search, search_from};

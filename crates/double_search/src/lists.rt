@@ -28,10 +28,12 @@ pub struct Lists<'a> {
     pub levels: &'a mut [i64],
     pub scanned: &'a mut [i64],
     pub bases: &'a mut [i64],
-    // The near pairs: where those of a person begin, their objects, and how much worse they are.
+    // The near pairs: where those of a person begin, the owners of their objects, and by how much
+    // more they are worse than they have to be; and how far a person's own value may rise.
     pub starts: &'a mut [i64],
     pub near: &'a mut [i64],
-    pub worse: &'a mut [i64],
+    pub spare: &'a mut [i64],
+    pub caps: &'a mut [i64],
 }
 
 pub fn at(list: &[i64], place: usize) -> i64 {

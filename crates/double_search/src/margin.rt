@@ -1,10 +1,8 @@
 // Prices at which each other pair is worse by a margin: small steps on the prices of owned objects,
 // by longest paths among the near pairs.
 use super::lists::{Lists, Matrix, NOBODY, at, copy, number_of, place_of, put};
+use super::near::Nearness;
 use super::scale::Scale;
-
-// The margin, in coarse units.
-const MARGIN: i64 = 4;
 
 // How far steps may go, and how far pairs count as near, in units.
 #[derive(Clone, Copy)]
@@ -87,10 +85,6 @@ impl<'a> Lists<'a> {
         ring
     }
 
-    fn is_short(&self, owner: i64, need: i64) -> bool {
-        need > at(self.levels, place_of(owner))
-    }
-
     // Puts the keys in place of the duals.
     fn enter_keys(&mut self) {
         let keys = &mut *self.keys;
@@ -101,32 +95,37 @@ impl<'a> Lists<'a> {
     // The steps that a person's near pairs need; none if they can't be taken.
     fn step(&mut self, ring: Ring, person: usize, bounds: Bounds) -> Option<Ring> {
         let mut ring = ring;
-        let own = at(self.levels, person).wrapping_add(bounds.margin);
+        let own = at(self.levels, person);
         let from = at(self.starts, person);
         let to = at(self.starts, person.wrapping_add(1));
         for k in place_of(from)..place_of(to) {
-            let object = place_of(at(self.near, k));
-            let owner = at(self.owners, object);
-            let need = own.wrapping_sub(at(self.worse, k));
-            if owner == NOBODY {
-                if need > 0 {
-                    return None;
-                }
-            } else if self.is_short(owner, need) {
+            let owner = place_of(at(self.near, k));
+            let need = own.wrapping_sub(at(self.spare, k));
+            if need > at(self.levels, owner) {
                 let step = up_to_grid(need, bounds.grid);
-                if step > bounds.most {
+                if step > bounds.most.min(at(self.caps, owner)) {
                     return None;
                 }
-                let person = place_of(owner);
-                put(self.levels, person, step);
-                ring = self.add(ring, person);
+                put(self.levels, owner, step);
+                ring = self.add(ring, owner);
             }
         }
         Some(ring)
     }
 
+    // Whether the first steps leave the unowned objects worse.
+    fn are_capped(&self) -> bool {
+        self.levels
+            .iter()
+            .zip(self.caps.iter())
+            .all(|(level, cap)| *level <= *cap)
+    }
+
     fn take_steps(&mut self, bounds: Bounds) -> bool {
         let mut ring = self.begin_steps(bounds);
+        if !self.are_capped() {
+            return false;
+        }
         let persons = self.objects.len();
         for _ in 0..persons.saturating_mul(20).saturating_add(100) {
             if ring.count == 0 {
@@ -154,24 +153,49 @@ impl<'a> Lists<'a> {
         }
     }
 
-    // Duals at which each other pair is worse by a margin, in place of these, which may be off by
+    // Duals at which each near pair is worse by its margin, in place of these, which may be off by
     // so many units. Returns whether there are any.
-    pub fn spread(&mut self, matrix: Matrix<'_>, scale: Scale, off: i64) -> bool {
-        let grid = scale.grid();
-        let persons = (self.objects.len() as u64).cast_signed();
-        let unit = grid.max(off);
-        let bounds = Bounds {
-            grid,
-            margin: MARGIN.wrapping_mul(grid),
-            most: unit.wrapping_mul(persons.wrapping_mul(8).wrapping_add(16)),
-        };
-        self.begin_keys(grid);
-        let reach = unit.wrapping_mul(persons.wrapping_mul(16).wrapping_add(64));
-        if !self.gather_near(matrix, reach) || !self.take_steps(bounds) {
+    fn spread_by(&mut self, matrix: Matrix<'_>, bounds: Bounds, nearness: Nearness) -> bool {
+        self.begin_keys(bounds.grid);
+        if !self.gather_near(matrix, nearness) || !self.take_steps(bounds) {
             return false;
         }
         self.enter_steps();
         self.enter_keys();
         true
+    }
+
+    // The same for a margin.
+    fn spread_of(
+        &mut self,
+        matrix: Matrix<'_>,
+        scale: Scale,
+        margin: i64,
+        of_equal: i64,
+        off: i64,
+    ) -> bool {
+        let persons = (self.objects.len() as u64).cast_signed();
+        let unit = scale.grid().max(off).max(margin >> 2);
+        let bounds = Bounds {
+            grid: scale.grid(),
+            margin,
+            most: unit.wrapping_mul(persons.wrapping_mul(8).wrapping_add(16)),
+        };
+        let nearness = Nearness {
+            most: unit.wrapping_mul(persons.wrapping_mul(16).wrapping_add(64)),
+            margin,
+            of_equal,
+            far: scale.far(),
+        };
+        self.spread_by(matrix, bounds, nearness)
+    }
+
+    // Duals at which each other pair is worse by the margin that is wanted, or else each one whose
+    // cost isn't the same by the least margin.
+    pub fn spread(&mut self, matrix: Matrix<'_>, scale: Scale, off: i64) -> bool {
+        let least = scale.least_margin();
+        let wanted = scale.margin.max(least);
+        self.spread_of(matrix, scale, wanted, wanted, off)
+            || self.spread_of(matrix, scale, least, 0, off)
     }
 }

@@ -1,93 +1,160 @@
-// The near pairs at a plan: those of a person and an object that is worse than its own by at most
+// The near pairs at a plan: those of a person and an object that is worse than its own by less than
 // so much.
 ghost use Rattle.std.specs.Prelude.{◌≡◌, length};
 
-use super::lists::{Lists, Matrix, at, number_of, place_of, put};
+use super::lists::{Lists, Matrix, NOBODY, at, number_of, place_of, put};
 use super::reach::{BLOCK, is_any_below};
+use super::whole::FAR;
 
-// A person's own object, and its value.
+// Which pairs are near, and by how much they are to be worse.
+#[derive(Clone, Copy)]
+pub struct Nearness {
+    pub most: i64,
+    pub margin: i64,
+    // The margin of objects with the same cost.
+    pub of_equal: i64,
+    // Costs from this one on are far.
+    pub far: i64,
+}
+
+// A person's own object, with its cost and its value.
 #[derive(Clone, Copy)]
 struct Own {
     object: usize,
+    cost: i64,
     value: i64,
-    limit: i64,
 }
 
-// Keeps the near pairs of a block. Returns how many there are, of which those that find room are
-// kept.
-fn keep_block(
-    row: &[i64],
-    keys: &[i64],
-    own: Own,
-    from: usize,
-    near: &mut [i64],
-    worse: &mut [i64],
+// How many near pairs there are, and how far the own value may rise for the unowned objects.
+#[derive(Clone, Copy)]
+struct Kept {
     count: usize,
-) -> usize
-    requires { length keys.now ≡ length row.now }
+    cap: i64,
+}
+
+// A block of objects: a person's costs, the keys, and the owners.
+#[derive(Clone, Copy)]
+struct Block<'a> {
+    row: &'a [i64],
+    keys: &'a [i64],
+    owners: &'a [i64],
+    from: usize,
+}
+
+// Keeps the near pairs of a block as far as there is room: their owners, and by how much more they
+// are worse than they have to be.
+fn keep_block(
+    block: Block<'_>,
+    own: Own,
+    nearness: Nearness,
+    near: &mut [i64],
+    spare: &mut [i64],
+    kept: Kept,
+) -> Kept
+    requires keys { length block.keys.now ≡ length block.row.now }
+    requires owners { length block.owners.now ≡ length block.row.now }
 {
-    let mut count = count;
-    for k in 0..row.len() {
-        let value = row[k].wrapping_sub(keys[k]);
-        let object = from.wrapping_add(k);
-        if value < own.limit && object != own.object {
-            put(near, count, number_of(object));
-            put(worse, count, value.wrapping_sub(own.value));
-            count = count.wrapping_add(1);
+    let mut kept = kept;
+    for k in 0..block.row.len() {
+        let cost = block.row[k];
+        let worse = cost.wrapping_sub(block.keys[k]).wrapping_sub(own.value);
+        let is_other = block.from.wrapping_add(k) != own.object;
+        if worse < nearness.most && cost < nearness.far && is_other {
+            let margin = nearness.margin_of(cost, own.cost);
+            let left = worse.wrapping_sub(margin);
+            if block.owners[k] == NOBODY {
+                kept.cap = kept.cap.min(left);
+            } else {
+                put(near, kept.count, block.owners[k]);
+                put(spare, kept.count, left);
+                kept.count = kept.count.wrapping_add(1);
+            }
         }
     }
-    count
+    kept
 }
 
 fn keep_row(
-    row: &[i64],
-    keys: &[i64],
+    all: Block<'_>,
     own: Own,
+    nearness: Nearness,
     near: &mut [i64],
-    worse: &mut [i64],
+    spare: &mut [i64],
     count: usize,
-) -> usize {
-    let mut count = count;
+) -> Kept {
+    let mut kept = Kept { count, cap: FAR };
     let mut from = 0usize;
-    for (row, keys) in row.chunks(BLOCK).zip(keys.chunks(BLOCK)) {
-        if keys.len() == row.len() && is_any_below(row, keys, own.limit) {
-            count = keep_block(row, keys, own, from, near, worse, count);
+    let limit = own.value.wrapping_add(nearness.most);
+    let parts = all.row.chunks(BLOCK).zip(all.keys.chunks(BLOCK));
+    for ((row, keys), owners) in parts.zip(all.owners.chunks(BLOCK)) {
+        let fits = keys.len() == row.len() && owners.len() == row.len();
+        if fits && is_any_below(row, keys, limit) {
+            let block = Block {
+                row,
+                keys,
+                owners,
+                from,
+            };
+            kept = keep_block(block, own, nearness, near, spare, kept);
         }
         from = from.wrapping_add(BLOCK);
     }
-    count
+    kept
+}
+
+impl Nearness {
+    fn margin_of(self, cost: i64, own: i64) -> i64 {
+        if cost == own {
+            self.of_equal
+        } else {
+            self.margin
+        }
+    }
 }
 
 impl<'a> Lists<'a> {
-    fn own_of(&self, matrix: Matrix<'_>, person: usize, most: i64) -> Own {
+    fn own_of(&self, matrix: Matrix<'_>, person: usize) -> Own {
         let object = place_of(at(self.objects, person));
         let cost = matrix.cost(person, object);
-        let value = cost.wrapping_sub(at(self.keys, object));
         Own {
             object,
-            value,
-            limit: value.wrapping_add(most),
+            cost,
+            value: cost.wrapping_sub(at(self.keys, object)),
         }
     }
 
-    fn gather_of(&mut self, matrix: Matrix<'_>, person: usize, most: i64, count: usize) -> usize {
-        let own = self.own_of(matrix, person, most);
+    fn gather_of(
+        &mut self,
+        matrix: Matrix<'_>,
+        person: usize,
+        nearness: Nearness,
+        count: usize,
+    ) -> usize {
+        let own = self.own_of(matrix, person);
         let row = matrix.row(person);
         let keys = &mut *self.keys;
+        let owners = &mut *self.owners;
         let near = &mut *self.near;
-        let worse = &mut *self.worse;
-        keep_row(row, keys, own, near, worse, count)
+        let spare = &mut *self.spare;
+        let all = Block {
+            row,
+            keys,
+            owners,
+            from: 0,
+        };
+        let kept = keep_row(all, own, nearness, near, spare, count);
+        put(self.caps, person, kept.cap);
+        kept.count
     }
 
-    // Lists the pairs that are worse by less than `most` at the duals in the keys. Returns whether
-    // there is room for them.
-    pub fn gather_near(&mut self, matrix: Matrix<'_>, most: i64) -> bool {
+    // Lists the near pairs at the duals in the keys. Returns whether there is room for them.
+    pub fn gather_near(&mut self, matrix: Matrix<'_>, nearness: Nearness) -> bool {
         let persons = self.objects.len();
         let room = self.near.len();
         let mut count = 0usize;
         for person in 0..persons {
             put(self.starts, person, number_of(count));
-            count = self.gather_of(matrix, person, most, count);
+            count = self.gather_of(matrix, person, nearness, count);
             if count > room {
                 return false;
             }

@@ -1,5 +1,8 @@
 // The range of the costs, as a search minimises them.
 
+// 2^-52: two doubles up to the greatest one are, together, off by less than this part of it.
+const PART: f64 = 0.0000000000000002220446049250313080847263336181640625;
+
 // The finite costs of a row.
 #[derive(Clone, Copy)]
 struct RowRange {
@@ -93,8 +96,20 @@ impl Range {
         greater(self.greatest.abs(), self.least.abs())
     }
 
+    // A margin that no rounding of costs makes up for.
+    pub fn margin(self) -> f64 {
+        self.size() * PART
+    }
+
     // That of the costs up to the greatest of the rows' least ones.
     pub fn near_size(self) -> f64 {
         greater(self.reach.abs(), self.least.abs())
     }
+}
+
+/// The margin at which a search aims: 2^-52 of the greatest absolute value of a finite cost. Where
+/// each other pair of a person is worse by more, the plan is also best for all costs that these are
+/// the nearest doubles of.
+pub fn margin_of(costs: &[f64]) -> f64 {
+    Range::of(costs, costs.len(), 1.0).margin()
 }

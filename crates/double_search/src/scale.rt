@@ -1,5 +1,7 @@
 // The unit of the whole numbers that stand for doubles: a power of 2.
 
+use super::whole::{MAGIC, last_bits};
+
 // Costs are below 2^50 in the coarse unit, of which the fine one is a power of 2.
 const LIMIT: f64 = 1125899906842624.0;
 
@@ -35,7 +37,15 @@ pub struct Scale {
     pub unit: f64,
     // Whether costs above the limit count as the limit.
     pub is_cut: bool,
+    // By how much other pairs are to be worse, in fine units.
+    pub margin: i64,
 }
+
+// The least margin, in coarse units.
+const MARGIN: i64 = 4;
+
+// The greatest margin, in fine units.
+const GREATEST_MARGIN: f64 = 17592186044416.0;
 
 // The power of 2 that takes a size that isn't 0 below the limit and to the half of it or above.
 fn factor_of(size: f64) -> f64 {
@@ -53,8 +63,17 @@ fn factor_of(size: f64) -> f64 {
     factor
 }
 
+// A margin in fine units; none where it is too great.
+fn margin_in(margin: f64) -> i64 {
+    if margin < GREATEST_MARGIN {
+        last_bits(margin + MAGIC).wrapping_add(2)
+    } else {
+        0
+    }
+}
+
 impl Scale {
-    pub fn of(size: f64, sign: f64, has_infinite: bool, is_cut: bool) -> Scale {
+    pub fn of(size: f64, sign: f64, margin: f64, has_infinite: bool, is_cut: bool) -> Scale {
         let factor = factor_of(if size > 0.0 { size } else { 1.0 });
         let bits = if has_infinite { FEWER_BITS } else { BITS };
         let parts = if has_infinite { 16.0 } else { 128.0 };
@@ -64,7 +83,22 @@ impl Scale {
             parts,
             unit: 1.0 / factor / parts,
             is_cut,
+            margin: margin_in(margin * factor * parts),
         }
+    }
+
+    // The cost from which on pairs are far.
+    pub fn far(self) -> i64 {
+        if self.is_cut {
+            (1i64 << 50).wrapping_mul(self.grid())
+        } else {
+            i64::MAX
+        }
+    }
+
+    // The least margin.
+    pub fn least_margin(self) -> i64 {
+        MARGIN.wrapping_mul(self.grid())
     }
 
     // The coarse unit.

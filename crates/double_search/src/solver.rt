@@ -32,8 +32,8 @@ pub struct Problem<'a> {
 /// How a search ends. A checker has to decide about what it found.
 #[derive(Drop)]
 pub enum Ended {
-    /// With a plan and prices.
-    Plan,
+    /// With a plan and prices, and the margin by which other pairs of a person may be worse.
+    Plan(f64),
     /// With persons who list fewer objects than they are.
     Hall(HallSet),
     /// With nothing.
@@ -59,14 +59,26 @@ impl<'a> Problem<'a> {
     }
 
     fn full_scale(self, range: Range) -> Scale {
-        Scale::of(range.size(), self.sign(), range.has_infinite, false)
+        Scale::of(
+            range.size(),
+            self.sign(),
+            range.margin(),
+            range.has_infinite,
+            false,
+        )
     }
 
     // A finer unit, where most costs are far greater than those that a plan will need.
     fn scale(self, range: Range) -> Scale {
         let near = range.near_size();
         if near > 0.0 && range.size() > CUT_FROM * near {
-            return Scale::of(CUT_TO * near, self.sign(), range.has_infinite, true);
+            return Scale::of(
+                CUT_TO * near,
+                self.sign(),
+                range.margin(),
+                range.has_infinite,
+                true,
+            );
         }
         self.full_scale(range)
     }
@@ -205,13 +217,13 @@ fn search_all(
     let range = Range::of(problem.costs, m, problem.sign());
     let scale = problem.scale(range);
     match search_in(alloc, problem, scale, has_start, objects, prices)? {
-        Tried::Plan => Ok(Ended::Plan),
+        Tried::Plan => Ok(Ended::Plan(range.margin())),
         Tried::Hall(set) => Ok(Ended::Hall(set)),
         Tried::Lost => Ok(Ended::Lost),
         Tried::Cut => {
             let scale = problem.full_scale(range);
             match search_in(alloc, problem, scale, has_start, objects, prices)? {
-                Tried::Plan => Ok(Ended::Plan),
+                Tried::Plan => Ok(Ended::Plan(range.margin())),
                 Tried::Hall(set) => Ok(Ended::Hall(set)),
                 Tried::Lost | Tried::Cut => Ok(Ended::Lost),
             }

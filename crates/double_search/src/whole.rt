@@ -14,12 +14,12 @@ pub const FORBIDDEN: i64 = (1 << 60) + (1 << 61);
 const LIMIT: f64 = 1125899906842624.0;
 
 // 1.5 * 2^52: the sum with it rounds to a whole number, which its last bits hold.
-const MAGIC: f64 = 6755399441055744.0;
+pub const MAGIC: f64 = 6755399441055744.0;
 
 const MAGIC_BITS: i64 = 0x4338000000000000;
 
 // The whole number in the last bits of a sum with the number above.
-fn last_bits(sum: f64) -> i64 {
+pub fn last_bits(sum: f64) -> i64 {
     if sum == sum {
         sum.to_bits().cast_signed().wrapping_sub(MAGIC_BITS)
     } else {
