@@ -1,5 +1,5 @@
 -- The meaning of each verdict on a plan, and on a Hall set, over costs in doubles.
-use Rattle.std.specs.Prelude.{◌≡◌, ◌≢◌, ℕ, ℤ, pos, neg_ℤ, ◌*◌, ◌*ℤ◌, ◌^◌, ◌<◌, ◌<ℤ◌, List, [], ◌∷◌, length, map, Bool, true, false, Some, All, Contains, IsTrue, slice_index_or}
+use Rattle.std.specs.Prelude.{◌≡◌, ℕ, ℤ, ◌*◌, ◌<◌, List, [], ◌∷◌, length, map, true, false, All, IsTrue, unsigned_abs}
 use lib.Ieee.{Float, nan}
 use Rattle.assign_core.specs.declared.sense.Sense.{Sense}
 use Rattle.assign_core.specs.Numbered.{numbered}
@@ -10,6 +10,7 @@ use Rattle.dual_checker.specs.Faults.{IsFirst, IsUnlisted, own_object}
 use Rattle.double_costs.specs.Units.{is_number, units_of}
 use Rattle.double_costs.specs.DoubleRows.{IsFirstFault, is_cost, rows_of_doubles}
 use Rattle.double_costs.specs.Prices.{AreChoicesBy, IsPricedBest}
+use Rattle.double_checker.specs.Far.{HasFar}
 use Rattle.double_checker.specs.declared.verdict.Verdict.{Verdict}
 use Rattle.double_checker.specs.declared.verdict.Verdict.TheVariants.{Length, Cost, Unlisted, Twice, Price, Undecided, Best}
 
@@ -46,25 +47,18 @@ pub record IsWithPrices (sense : Sense) (n m : ℕ) (costs : List Float) (xs : L
 abbrev pub price_units : List Float → List ℤ
 price_units prices = map units_of prices
 
--- one of two whole numbers, the second of which isn't 0, is more than 2 ^ 70 times as large
-abbrev pub IsFarFrom : ℤ → ℤ → Type 0
-IsFarFrom a b = (b ≢ pos 0) × ((b *ℤ b *ℤ pos (2 ^ 140)) <ℤ (a *ℤ a))
-
--- the whole numbers of which a person compares two sums: its own object's cost and price, and the
--- cost and price of object k
-abbrev pub compared : List Listing → List ℕ → List ℤ → ℕ → ℕ → List ℤ
+-- the sizes of the numbers that a person compares: its own object's cost and price, and the cost and
+-- the price of object k
+abbrev pub compared : List Listing → List ℕ → List ℤ → ℕ → ℕ → List ℕ
 compared rows xs prices i k =
     let j = own_object xs i in
-    listed_or_zero (row_of rows i) j ∷ price_of prices j ∷ listed_or_zero (row_of rows i) k ∷ price_of prices k ∷ []
+    unsigned_abs (listed_or_zero (row_of rows i) j) ∷ unsigned_abs (price_of prices j)
+    ∷ unsigned_abs (listed_or_zero (row_of rows i) k) ∷ unsigned_abs (price_of prices k) ∷ []
 
--- person i lists object k, and of the four numbers that it compares one is far from another
+-- person i lists object k, and compares numbers that are far apart
 pub record IsFarApart (rows : List Listing) (xs : List ℕ) (prices : List ℤ) (i k : ℕ) : Type 0 where
   pub listed : IsListed rows i k
-  pub large : ℤ
-  pub small : ℤ
-  pub large_in : Contains (compared rows xs prices i k) large
-  pub small_in : Contains (compared rows xs prices i k) small
-  pub far : IsFarFrom large small
+  pub far : HasFar (compared rows xs prices i k)
 
 -- the first fault in the order of the variants, by the lowest place or number that has it; at none
 -- the plan is proved best by its prices, or it isn't decided, which comes only where the prices

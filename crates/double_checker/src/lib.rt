@@ -3,7 +3,14 @@
 #![tactic(auto)]
 
 mod checker;
+mod digits;
+mod exact;
 mod hall;
+mod numbers;
+mod objects;
+mod pairs;
+mod prices;
+mod rows;
 mod verdict;
 
 pub use checker::check;
