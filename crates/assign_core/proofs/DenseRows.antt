@@ -1,12 +1,10 @@
 -- Dense problems: rows cut from a list of costs.
-use Rattle.std.proofs.Common.{◌≡◌, ℕ, ℤ, pos, ◌<◌, ◌≤◌, ◌+◌, ◌-◌, ◌*◌, zero, suc, List, [], ◌∷◌, ◌++◌, length, replicate, drop, take, get_or, map, refl, arith, sym, ◌∙◌, ap, append_assoc, length-take-le, length-drop, subst}
-use Rattle.std.proofs.Math.Seq.{take-append_seam}
-use Rattle.std.proofs.lemmas.List.{map-append, length-append, length-replicate}
+use Rattle.std.proofs.Common.{◌≡◌, ℕ, ℤ, pos, ◌<◌, ◌≤◌, ◌+◌, ◌-◌, ◌*◌, zero, suc, List, [], ◌∷◌, ◌++◌, length, drop, take, get_or, map, refl, arith, sym, ◌∙◌, ap, append_assoc, length-take-le, length-drop, subst}
+use Rattle.std.proofs.lemmas.List.{map-append}
 use Rattle.std.specs.List.{All}
-use Rattle.std.proofs.lemmas.List.Elements.{All-nil, All-cons, All-take, All-drop, All-append, All-replicate, All-weaker}
-use Rattle.assign_core.specs.Rows.{Listing, IsAmong, IsCost, IsRow, IsSize, IsProblem}
-use Rattle.assign_core.specs.Dense.{dense_rows_among, row_from, rows_cut}
-use Rattle.assign_core.specs.Numbered.{IsNumber}
+use Rattle.std.proofs.lemmas.List.Elements.{All-nil, All-cons, All-take, All-drop}
+use Rattle.assign_core.specs.Rows.{Listing, IsCost, IsRow, IsSize, IsProblem}
+use Rattle.assign_core.specs.Dense.{row_from, rows_cut}
 
 pub length-row_from : (j : ℕ) (costs : List ℤ) → length (row_from j costs) ≡ length costs
 length-row_from j [] = refl
@@ -63,47 +61,6 @@ IsProblem-dense n costs size long h =
     record {
       size = rw same size;
       each = let cut = rows_are n n costs (omega arith) h in subst (λ m. All (IsRow m) (rows_cut n n costs)) (sym same) cut;
-    }
-
--- a row among n objects is one among more
-IsRow-wider : (n m : ℕ) (row : Listing) → n ≤ m → IsRow n row → IsRow m row
-IsRow-wider n m row le h = record {
-  rising = h.rising;
-  within = All-weaker (λ e. IsNumber n e.0) (λ e. IsNumber m e.0) (λ e k. record { first = k.first; last = let a = k.last in omega arith }) row h.within;
-  costs = h.costs;
-}
-
-IsRow-empty : (n : ℕ) → IsRow n []
-IsRow-empty n = record { rising = λ i k d lt last. absurd (omega arith); within = All-nil (λ e. IsNumber n e.0); costs = All-nil (λ e. IsCost e.1) }
-
--- n * m costs make a problem of n persons among m objects
-pub IsProblem-dense_among : (n m : ℕ) (costs : List ℤ) → IsSize n → IsSize m → length costs ≡ n * m → All IsCost costs → IsProblem (dense_rows_among n m costs)
-IsProblem-dense_among n m costs persons objects long h =
-    let cut = length-rows_cut m n costs in
-    let empty : length (replicate {A = Listing} (m - n) []) ≡ m - n = length-replicate (m - n) [] in
-    let both : length (dense_rows_among n m costs) ≡ n + (m - n) = length-append (rows_cut m n costs) (replicate (m - n) []) ∙ (omega (arith, cut, empty)) in
-    let enough : m * n ≤ length costs = omega (arith, long) in
-    let wide : m ≤ n + (m - n) = omega arith in
-    let rows = All-weaker (IsRow m) (IsRow (n + (m - n))) (λ r k. IsRow-wider m (n + (m - n)) r wide k) (rows_cut m n costs) (rows_are m n costs enough h) in
-    let others = All-replicate (IsRow (n + (m - n))) (m - n) [] (IsRow-empty (n + (m - n))) in
-    record {
-      size = record {
-        some = let a = persons.some in omega (arith, both);
-        few = let a = persons.few in let b = objects.few in omega (arith, both);
-      };
-      each = subst (λ k. All (IsRow k) (dense_rows_among n m costs)) (sym both) (All-append (IsRow (n + (m - n))) (rows_cut m n costs) (replicate (m - n) []) rows others);
-    }
-
--- and its first n rows are the rows of costs
-pub IsAmong-dense_among : (n m : ℕ) (costs : List ℤ) → IsSize m → length costs ≡ n * m → All IsCost costs → IsAmong n m (dense_rows_among n m costs)
-IsAmong-dense_among n m costs objects long h =
-    let cut = length-rows_cut m n costs in
-    let both = length-append (rows_cut m n costs) (replicate {A = Listing} (m - n) []) in
-    let front : take n (dense_rows_among n m costs) ≡ rows_cut m n costs = ap (λ k. take k (dense_rows_among n m costs)) (sym cut) ∙ take-append_seam (rows_cut m n costs) (replicate (m - n) []) in
-    record {
-      persons = omega (arith, cut, both);
-      objects = objects;
-      each = subst (All (IsRow m)) (sym front) (rows_are m n costs (omega (arith, long)) h);
     }
 
 -- one row is cut off

@@ -1,12 +1,11 @@
 -- Lists of different numbers from 1 to m, and sums over them.
-use Rattle.std.proofs.Common.{◌≡◌, ℕ, ℤ, pos, ◌+ℤ◌, ◌-ℤ◌, ◌≤ℤ◌, ◌<◌, ◌≤◌, ◌+◌, zero, suc, List, [], ◌∷◌, length, nat_eq, cond, true, false, ◌⊎◌, inl, inr, refl, arith, ap, sym, ◌∙◌, subst}
-use Rattle.std.specs.List.{IsDistinct, AllByRecursion, Contains}
+use Rattle.std.proofs.Common.{◌≡◌, ℕ, ℤ, pos, ◌+ℤ◌, ◌≤ℤ◌, ◌≤◌, ◌+◌, zero, suc, List, [], ◌∷◌, length, nat_eq, cond, true, false, ◌⊎◌, inl, inr, refl, arith, ap, sym, ◌∙◌}
+use Rattle.std.specs.List.{IsDistinct, AllByRecursion}
 use Rattle.std.proofs.lemmas.Bool.{eqb-false, cond-true, cond-false}
 use Rattle.std.proofs.lemmas.Bool.Decides.{eqb_tells}
 use Rattle.std.proofs.lemmas.Map.Keys.{IsDistinct-head, IsDistinct-tail, IsDistinct-cons}
-use Rattle.std.proofs.lemmas.Int.{ints, by_lt_z}
+use Rattle.std.proofs.lemmas.Int.{ints}
 use Rattle.assign_core.specs.Numbered.{IsNumber}
-use Rattle.assign_core.proofs.Members.{contains_first, contains_later, first_or_later}
 
 abbrev pub sum_z : (ℕ → ℤ) → List ℕ → ℤ
 sum_z f [] = pos 0
@@ -121,37 +120,6 @@ sums_agree f n xs ys dx dy rx ry lx ly =
     let b : sum_z f ys ≡ up_to f n = (counted f n ys dy ry).whole ly in
     a ∙ sym b
 
--- an element that isn't m stays
-contains_without : (m j : ℕ) (xs : List ℕ) → (j ≡ m → ⊥) → Contains xs j → Contains (without m xs) j
-contains_without m j [] n c = c
-contains_without m j (x ∷ xs) n c = elim (eqb_tells x m) [
-  | inl e ↦ rw (without_same m x xs e.0) (elim (first_or_later x xs j c) [
-    | inl s ↦ absurd (n (sym s ∙ e.1))
-    | inr l ↦ contains_without m j xs n l
-  ])
-  | inr e ↦ rw (without_other m x xs e.0) (elim (first_or_later x xs j c) [
-    | inl s ↦ rw (← s) (contains_first x (without m xs))
-    | inr l ↦ contains_later x (without m xs) j (contains_without m j xs n l)
-  ])
-]
-
-no_longer : (m : ℕ) (xs : List ℕ) → length (without m xs) ≤ length xs
-no_longer m [] = omega arith
-no_longer m (x ∷ xs) = elim (eqb_tells x m) [
-  | inl e ↦ let i = no_longer m xs in rw (without_same m x xs e.0) (omega arith)
-  | inr e ↦ let i = no_longer m xs in rw (without_other m x xs e.0) (omega arith)
-]
-
-contained_shorter : (m : ℕ) (xs : List ℕ) → Contains xs m → length (without m xs) < length xs
-contained_shorter m [] c = absurd (omega (arith, c.1))
-contained_shorter m (x ∷ xs) c = elim (eqb_tells x m) [
-  | inl e ↦ let i = no_longer m xs in rw (without_same m x xs e.0) (omega arith)
-  | inr e ↦ rw (without_other m x xs e.0) (elim (first_or_later x xs m c) [
-    | inl s ↦ absurd (eqb-false x m e.0 s)
-    | inr l ↦ let i = contained_shorter m xs l in omega arith
-  ])
-]
-
 -- if no value is below 0, the sum over some numbers is at most the sum over all
 pub at_most_all : (f : ℕ → ℤ) (m : ℕ) (xs : List ℕ) → IsDistinct nat_eq xs → InRange m xs →
     ((j : ℕ) → IsNumber m j → pos 0 ≤ℤ f j) → sum_z f xs ≤ℤ up_to f m
@@ -165,88 +133,3 @@ at_most_all f (suc m) xs d r h =
       | inl o ↦ let s = o.same in omega (arith, ints)
       | inr o ↦ let s = o.more in omega (arith, ints)
     ]
-
--- if the numbers left out have values of at most 1, the sum over the others lacks at most one for
--- each of them
-pub nearly_all : (f : ℕ → ℤ) (m : ℕ) (xs : List ℕ) → IsDistinct nat_eq xs → InRange m xs →
-    ((j : ℕ) → IsNumber m j → Contains xs j ⊎ (f j ≤ℤ pos 1)) →
-    (up_to f m +ℤ pos (length xs)) ≤ℤ (sum_z f xs +ℤ pos m)
-nearly_all f zero [] d r h = omega (arith, ints)
-nearly_all f zero (x ∷ xs) d r h = let a = r.0.first in let b = r.0.last in absurd (omega arith)
-nearly_all f (suc m) xs d r h =
-    let low : (j : ℕ) → IsNumber m j → Contains (without (suc m) xs) j ⊎ (f j ≤ℤ pos 1) = (λ j n. elim (h j (record { first = n.first; last = let a = n.last in omega arith })) [
-      | inl c ↦ inl (contains_without (suc m) j xs (λ e. let a = n.last in absurd (omega (arith, e))) c)
-      | inr l ↦ inr l
-    ]) in
-    let i = nearly_all f m (without (suc m) xs) (distinct_without (suc m) xs d) (range_without m xs r) low in
-    elim (once f (suc m) xs d) [
-      | inl o ↦ elim (h (suc m) (record { first = omega arith; last = omega arith })) [
-        | inl c ↦ let a = contained_shorter (suc m) xs c in let b = o.long in absurd (omega arith)
-        | inr l ↦ let a = o.long in let s = o.same in omega (arith, ints)
-      ]
-      | inr o ↦ let a = o.longer in let s = o.more in omega (arith, ints)
-    ]
-
--- a sum of differences
-sum_less : (f : ℕ → ℤ) (c : ℤ) (xs : List ℕ) → (sum_z (λ j. f j -ℤ c) xs +ℤ sum_z (λ _. c) xs) ≡ sum_z f xs
-sum_less f c [] = refl
-sum_less f c (x ∷ xs) = let i = sum_less f c xs in omega (arith, ints)
-
-same_sums : (c : ℤ) (xs ys : List ℕ) → length xs ≡ length ys → sum_z (λ _. c) xs ≡ sum_z (λ _. c) ys
-same_sums c [] [] e = refl
-same_sums c [] (y ∷ ys) e = absurd (omega (arith, e))
-same_sums c (x ∷ xs) [] e = absurd (omega (arith, e))
-same_sums c (x ∷ xs) (y ∷ ys) e = let i = same_sums c xs ys (omega (arith, e)) in omega (arith, ints)
-
--- two lists of equally many different numbers from 1 to m: if all numbers outside the first have
--- values at most 1 above the least, the first sum is at least the second, less one for each number
--- left out
-pub sums_low : (f : ℕ → ℤ) (c : ℤ) (m : ℕ) (xs ys : List ℕ) → IsDistinct nat_eq xs → IsDistinct nat_eq ys → InRange m xs → InRange m ys →
-    length xs ≡ length ys → ((j : ℕ) → IsNumber m j → c ≤ℤ f j) →
-    ((j : ℕ) → IsNumber m j → Contains xs j ⊎ (f j ≤ℤ (c +ℤ pos 1))) →
-    (sum_z f ys +ℤ pos (length xs)) ≤ℤ (sum_z f xs +ℤ pos m)
-sums_low f c m xs ys dx dy rx ry l least low =
-    let g : ℕ → ℤ = (λ j. f j -ℤ c) in
-    let a = at_most_all g m ys dy ry (λ j n. let h = least j n in omega (arith, ints)) in
-    let b = nearly_all g m xs dx rx (λ j n. elim (low j n) [ inl k ↦ inl k | inr h ↦ inr (omega (arith, ints)) ]) in
-    let x = sum_less f c xs in
-    let y = sum_less f c ys in
-    let s = same_sums c xs ys l in
-    omega (arith, ints)
-
--- there is no number from 1 to 0
-pub none_below : (j : ℕ) → IsNumber 0 j → ⊥
-none_below j n = let a = n.first in let b = n.last in omega arith
-
--- a number from 1 to m has a value at most that of each
-abbrev pub HasLeast : (ℕ → ℤ) → ℕ → Type 0
-HasLeast f m = (k : ℕ) × IsNumber m k × ((j : ℕ) → IsNumber m j → f k ≤ℤ f j)
-
--- what holds of the numbers from 1 to m, and of m + 1, holds of the numbers from 1 to m + 1
-one_more : (P : ℕ → Type 0) (m : ℕ) → ((j : ℕ) → IsNumber m j → P j) → P (suc m) → (j : ℕ) → IsNumber (suc m) j → P j
-one_more P m h top j n = elim (eqb_tells j (suc m)) [
-  | inl e ↦ subst P (sym e.1) top
-  | inr e ↦ h j (record { first = n.first; last = let a = n.last in let b = e.1 in omega arith })
-]
-
-least_step : (f : ℕ → ℤ) (m : ℕ) → HasLeast f m → HasLeast f (suc m)
-least_step f m (k, n, least) = by_lt_z {P = HasLeast f (suc m)} (f (suc m)) (f k)
-    (λ lt. (
-      suc m,
-      record { first = omega arith; last = omega arith },
-      one_more (λ j. f (suc m) ≤ℤ f j) m (λ j i. let h = least j i in omega (arith, ints)) (omega (arith, ints)),
-    ))
-    (λ le. (
-      k,
-      record { first = n.first; last = let a = n.last in omega arith },
-      one_more (λ j. f k ≤ℤ f j) m least le,
-    ))
-
--- one of the numbers from 1 to m + 1 has the least value
-pub least_among : (f : ℕ → ℤ) (m : ℕ) → HasLeast f (suc m)
-least_among f zero = (
-  1,
-  record { first = omega arith; last = omega arith },
-  one_more (λ j. f 1 ≤ℤ f j) zero (λ j n. absurd (none_below j n)) (omega (arith, ints)),
-)
-least_among f (suc m) = least_step f (suc m) (least_among f m)

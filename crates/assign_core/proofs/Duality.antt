@@ -1,7 +1,6 @@
 -- Weak duality: no assignment is better than one with slackness eps by more than eps for each
 -- person.
-use Rattle.std.proofs.Common.{◌≡◌, ℕ, ℤ, pos, ◌+ℤ◌, ◌*ℤ◌, ◌≤ℤ◌, ◌<ℤ◌, ◌≤◌, ◌+◌, ◌-◌, ◌*◌, zero, suc, List, [], ◌∷◌, unwrap_or, IsSome, length, map, All, nat_eq, refl, arith, rules, ap, sym, ◌∙◌, subst, inl, inr, add-one}
-use Rattle.std.specs.List.{IsDistinct}
+use Rattle.std.proofs.Common.{◌≡◌, ℕ, ℤ, pos, ◌+ℤ◌, ◌*ℤ◌, ◌≤ℤ◌, ◌<ℤ◌, ◌≤◌, ◌+◌, ◌-◌, ◌*◌, suc, List, [], ◌∷◌, unwrap_or, IsSome, length, map, refl, arith, rules, ap, sym, ◌∙◌, subst, inl, inr, add-one}
 use Rattle.std.proofs.lemmas.Int.{ints, by_lt_z}
 use Rattle.std.proofs.lemmas.List.Elements.{All-weaker}
 use Rattle.std.proofs.lemmas.Bool.Decides.{eqb_tells}
@@ -13,10 +12,10 @@ use Rattle.assign_core.specs.declared.sense.Sense.TheVariants.{Min, Max}
 use Rattle.assign_core.specs.Rows.{Listing, listed_in, listed_or_zero, IsProblem, IsRow, IsWithin}
 use Rattle.assign_core.specs.Assignment.{AreListed, IsAssignment, IsBest, IsNoWorse, total}
 use Rattle.assign_core.specs.Benefits.{factor, benefit, benefit_row, benefit_rows}
-use Rattle.assign_core.specs.Slackness.{AllSlack, AreLow, IsCertificateAmong, IsWorth}
+use Rattle.assign_core.specs.Slackness.{AllSlack, IsWorth}
 use Rattle.assign_core.specs.Prices.{price_of}
 use Rattle.assign_core.proofs.Products.{distributes, opposite}
-use Rattle.assign_core.proofs.Distinct.{InRange, sum_z, sums_agree, sums_low, least_among, none_below}
+use Rattle.assign_core.proofs.Distinct.{sum_z, sums_agree}
 use Rattle.assign_core.proofs.Listed.{all_listed, listed_here, listed_later, objects_within}
 
 -- an object is listed with a benefit where it is listed with a cost
@@ -123,38 +122,3 @@ no_better sense rows xs prices p f k ys g =
 pub best_by_slack : (sense : Sense) (rows : List Listing) (xs : List ℕ) (prices : List ℤ) → IsProblem rows → IsAssignment rows xs →
     AllSlack (pos 1) prices (benefit_rows sense rows) xs → IsBest sense rows xs
 best_by_slack sense rows xs prices p f k = record { assigned = f; best = no_better sense rows xs prices p f k }
-
--- two lists of equally many different objects among m: if the prices outside the first are low, the
--- sum of the first's prices is at least that of the second's, less one for each object left out
-low_sums : (m : ℕ) (prices : List ℤ) (xs ys : List ℕ) → IsDistinct nat_eq xs → IsDistinct nat_eq ys → InRange m xs → InRange m ys →
-    length xs ≡ length ys → AreLow m prices xs →
-    (sum_z (price_of prices) ys +ℤ pos (length xs)) ≤ℤ (sum_z (price_of prices) xs +ℤ pos m)
-low_sums zero prices xs ys dx dy rx ry l low =
-    sums_low (price_of prices) (pos 0) zero xs ys dx dy rx ry l (λ j n. absurd (none_below j n)) (λ j n. absurd (none_below j n))
-low_sums (suc m) prices xs ys dx dy rx ry l low =
-    let k = least_among (price_of prices) m in
-    sums_low (price_of prices) (price_of prices k.0) (suc m) xs ys dx dy rx ry l k.2 (λ j n. low j k.0 n k.1)
-
--- n persons among m objects, where the price of an unowned object is at most 1 above any other
-no_better_among : (sense : Sense) (m : ℕ) (rows : List Listing) (xs : List ℕ) (prices : List ℤ) → All (IsWithin m) rows →
-    IsAssignment rows xs → AllSlack (pos 1) prices (map (benefit_row sense m) rows) xs → AreLow m prices xs →
-    (ys : List ℕ) → IsAssignment rows ys → IsNoWorse sense (total rows xs) (total rows ys)
-no_better_among sense m rows xs prices w f k low ys g =
-    let a = objects_within m rows xs w f.listed in
-    let b = objects_within m rows ys w g.listed in
-    let listed = λ (row : Listing) (j : ℕ). IsSome (listed_in row j) in
-    let la : length xs ≡ length rows = AllZip-long listed rows xs f.listed in
-    let lb : length ys ≡ length rows = AllZip-long listed rows ys g.listed in
-    let s = low_sums m prices xs ys f.apart g.apart a b (la ∙ sym lb) low in
-    let d = weak (pos 1) prices (map (benefit_row sense m) rows) xs ys k (all_benefit_listed sense m rows ys g.listed) in
-    let e = sum_eps_one sense m rows in
-    let tx = benefit_total sense m rows xs in
-    let ty = benefit_total sense m rows ys in
-    ordered sense m (total rows xs) (total rows ys) (omega (arith, ints))
-
-pub best_among : (sense : Sense) (m : ℕ) (rows : List Listing) (xs : List ℕ) (prices : List ℤ) → All (IsWithin m) rows →
-    IsCertificateAmong sense m rows xs prices → IsBest sense rows xs
-best_among sense m rows xs prices w c = record {
-  assigned = c.assigned;
-  best = no_better_among sense m rows xs prices w c.assigned c.slack c.low;
-}

@@ -21,4 +21,3 @@ pub mod Members
 pub mod LeastCosts
 pub mod SparseRows
 pub mod Gathering
-pub mod FirstPairs

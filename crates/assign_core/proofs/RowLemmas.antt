@@ -1,8 +1,8 @@
 -- Rows of a list of rows, by number and by what they list.
-use Rattle.std.proofs.Common.{◌≡◌, ℕ, ◌<◌, ◌≤◌, ◌-◌, zero, suc, List, [], ◌∷◌, length, get_or, map, take, refl, arith, sym, ◌∙◌, ap, inl, inr}
+use Rattle.std.proofs.Common.{◌≡◌, ℕ, ◌<◌, ◌≤◌, ◌-◌, zero, suc, List, [], ◌∷◌, length, get_or, map, arith, sym, ◌∙◌, ap, inl, inr}
 use Rattle.std.specs.List.{All}
 use Rattle.std.proofs.lemmas.Int.{ints}
-use Rattle.std.proofs.lemmas.List.{get_or-map, get_or-take, length-map}
+use Rattle.std.proofs.lemmas.List.{get_or-map, length-map}
 use Rattle.std.proofs.lemmas.List.Elements.{All-head, All-tail, All-weaker}
 use Rattle.std.proofs.lemmas.Bool.Decides.{eqb_tells}
 use Rattle.assign_core.proofs.Listed.{listed_here, listed_later}
@@ -24,11 +24,6 @@ row_of-index rows (suc i) h = ap (λ k. get_or rows k []) (omega arith)
 -- a row of the mapped list, as an index and a slice give it
 pub mapped_at : {V : Type 0} (f : V → Listing) (vs : List V) (i : ℕ) (v : V) (row : Listing) → i < length vs → v ≡ get_or vs i v → row ≡ f v → row ≡ get_or (map f vs) i []
 mapped_at f vs i v row lt e r = r ∙ ap f e ∙ sym (get_or-map f vs i v [] lt)
-
--- of the first n rows, row number i
-pub row_of-take : (n : ℕ) (rows : List Listing) (i : ℕ) → i ≤ n → row_of (take n rows) i ≡ row_of rows i
-row_of-take n rows zero last = refl
-row_of-take n rows (suc i) last = get_or-take n rows i [] (omega arith)
 
 -- the same by number, with the rows as a problem shows them
 pub row_of-mapped : {V : Type 0} (f : V → Listing) (vs : List V) (rows : List Listing) (i : ℕ) (v : V) (row : Listing) → map f vs ≡ rows → 0 < i → i ≤ length rows → v ≡ get_or vs (i - 1) v → row ≡ f v → row ≡ row_of rows i

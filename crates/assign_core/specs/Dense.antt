@@ -1,5 +1,5 @@
 -- Problems in which each person lists each object.
-use Rattle.std.specs.Prelude.{ℕ, ℤ, zero, suc, ◌+◌, ◌-◌, List, [], ◌∷◌, ◌++◌, take, drop, replicate}
+use Rattle.std.specs.Prelude.{ℕ, ℤ, zero, suc, ◌+◌, List, [], ◌∷◌, take, drop}
 use Rattle.assign_core.specs.Rows.{Listing}
 
 -- a row with these costs for the objects j, j + 1, ..
@@ -16,8 +16,3 @@ rows_cut n (suc m) costs = row_from 1 (take n costs) ∷ rows_cut n m (drop n co
 -- the problem of n persons and n objects with these n * n costs
 abbrev pub dense_rows : ℕ → List ℤ → List Listing
 dense_rows n costs = rows_cut n n costs
-
--- n persons among m objects with these n * m costs, row by row, followed by persons who list
--- nothing, so that there are at least as many persons as objects
-abbrev pub dense_rows_among : ℕ → ℕ → List ℤ → List Listing
-dense_rows_among n m costs = rows_cut m n costs ++ replicate (m - n) []

@@ -5,7 +5,7 @@ use Rattle.assign_core.specs.declared.outcome.Outcome.{Outcome}
 use Rattle.assign_core.specs.declared.outcome.Outcome.TheVariants.{Best, Hall}
 use Rattle.assign_core.specs.Rows.{Listing}
 use Rattle.assign_core.specs.Assignment.{IsAssignment}
-use Rattle.assign_core.specs.Slackness.{IsCertificate, IsCertificateAmong}
+use Rattle.assign_core.specs.Slackness.{IsCertificate}
 use Rattle.assign_core.specs.Hall.{IsHallSet}
 
 -- a certificate, which proves its assignment optimal under the sense, or a Hall set, which proves
@@ -13,11 +13,6 @@ use Rattle.assign_core.specs.Hall.{IsHallSet}
 abbrev pub IsProof : Sense → List Listing → Outcome → Type 0
 IsProof sense rows (Best c) = IsCertificate sense rows c.assignment c.prices
 IsProof sense rows (Hall h) = IsHallSet rows h.persons h.objects
-
--- the same among m objects
-abbrev pub IsProofAmong : Sense → ℕ → List Listing → Outcome → Type 0
-IsProofAmong sense m rows (Best c) = IsCertificateAmong sense m rows c.assignment c.prices
-IsProofAmong sense m rows (Hall h) = IsHallSet rows h.persons h.objects
 
 -- an assignment only where one exists, and a Hall set only where none exists
 abbrev pub IsDecided : List Listing → Outcome → Type 0

@@ -1,5 +1,5 @@
 -- What the persons list.
-use Rattle.std.specs.Prelude.{ℕ, ℤ, pos, neg_ℤ, ◌≤ℤ◌, ◌<◌, ◌≤◌, List, [], ◌∷◌, Option, None, Some, ◌==◌, if◌then◌else◌, IsSome, unwrap_or, length, take, All, slice_index_or}
+use Rattle.std.specs.Prelude.{ℕ, ℤ, pos, neg_ℤ, ◌≤ℤ◌, ◌<◌, ◌≤◌, List, [], ◌∷◌, Option, None, Some, ◌==◌, if◌then◌else◌, IsSome, unwrap_or, length, All, slice_index_or}
 use Rattle.assign_core.specs.declared.numbers.TheConstants.{MOST_PERSONS, GREATEST_COST}
 use Rattle.assign_core.specs.Numbered.{IsNumber, numbered}
 
@@ -58,9 +58,3 @@ pub record IsSize (n : ℕ) : Type 0 where
 pub record IsProblem (rows : List Listing) : Type 0 where
   pub size : IsSize (length rows)
   pub each : All (IsRow (length rows)) rows
-
--- the first n of these rows are a problem of n persons among m objects: they list no other object
-pub record IsAmong (n m : ℕ) (rows : List Listing) : Type 0 where
-  pub persons : n ≤ length rows
-  pub objects : IsSize m
-  pub each : All (IsRow m) (take n rows)

@@ -1,11 +1,10 @@
 -- Epsilon-complementary slackness, and certificates.
-use Rattle.std.specs.Prelude.{◌≡◌, ℕ, ℤ, pos, ◌+ℤ◌, ◌≤ℤ◌, ◌⊎◌, List, length, map, All, Contains}
-use Rattle.assign_core.specs.Numbered.{IsNumber}
+use Rattle.std.specs.Prelude.{◌≡◌, ℕ, ℤ, pos, ◌+ℤ◌, ◌≤ℤ◌, List, length, All}
 use Rattle.std.specs.List.{AllZip}
 use Rattle.assign_core.specs.declared.sense.Sense.{Sense}
 use Rattle.assign_core.specs.Rows.{Listing, listed_or_zero}
 use Rattle.assign_core.specs.Assignment.{IsAssignment}
-use Rattle.assign_core.specs.Benefits.{benefit_row, benefit_rows}
+use Rattle.assign_core.specs.Benefits.{benefit_rows}
 use Rattle.assign_core.specs.Prices.{price_of, IsPrice}
 
 -- with benefits a and prices p, the value of object j is at least that of entry e, less eps:
@@ -28,17 +27,3 @@ pub record IsCertificate (sense : Sense) (rows : List Listing) (xs : List ℕ) (
   pub priced : length prices ≡ length rows
   pub in_range : All IsPrice prices
   pub slack : AllSlack (pos 1) prices (benefit_rows sense rows) xs
-
--- each of the m objects is owned, or its price is at most 1 above any other
-abbrev pub AreLow : ℕ → List ℤ → List ℕ → Type 0
-AreLow m prices xs =
-    (j k : ℕ) → IsNumber m j → IsNumber m k → Contains xs j ⊎ (price_of prices j ≤ℤ (price_of prices k +ℤ pos 1))
-
--- an assignment among m objects with prices that prove it optimal: the price of no unowned object
--- is too high
-pub record IsCertificateAmong (sense : Sense) (m : ℕ) (rows : List Listing) (xs : List ℕ) (prices : List ℤ) : Type 0 where
-  pub assigned : IsAssignment rows xs
-  pub priced : length prices ≡ m
-  pub in_range : All IsPrice prices
-  pub slack : AllSlack (pos 1) prices (map (benefit_row sense m) rows) xs
-  pub low : AreLow m prices xs

@@ -3,12 +3,12 @@ ghost use Rattle.std.specs.Prelude.{◌≡◌, ℕ, ℤ, pos, ◌+◌, ◌*◌, 
 ghost use Rattle.assign_core.specs.declared.outcome.Outcome.{Outcome};
 ghost use Rattle.assign_core.specs.declared.sense.Sense.{Sense};
 ghost use Rattle.assign_core.specs.Numbered.{numbered};
-ghost use Rattle.assign_core.specs.Rows.{Listing, IsProblem, IsWithin, listed_in, row_of};
+ghost use Rattle.assign_core.specs.Rows.{Listing, IsProblem, listed_in, row_of};
 ghost use Rattle.assign_core.specs.Dense.{dense_rows};
 ghost use Rattle.assign_core.specs.Assignment.{IsAssignment, IsBest};
 ghost use Rattle.assign_core.specs.Benefits.{benefit_rows};
 ghost use Rattle.assign_core.specs.Prices.{IsBelow};
-ghost use Rattle.assign_core.specs.Slackness.{AllSlack, IsCertificateAmong};
+ghost use Rattle.assign_core.specs.Slackness.{AllSlack};
 ghost use Rattle.assign_core.specs.Matching.{IsMatching, owner_of};
 ghost use Rattle.assign_core.specs.Outcomes.{IsDecided, IsProof};
 ghost use Rattle.assign_core.specs.Sparse.{Triple, least_given};
@@ -39,14 +39,6 @@ pub fn slack_means_best()
     ensures { (sense : Sense) (rows : List Listing) (xs : List ℕ) (prices : List ℤ)
         → IsProblem rows → IsAssignment rows xs
         → AllSlack (pos 1) prices (benefit_rows sense rows) xs → IsBest sense rows xs }
-{}
-
-/// Among m objects, an assignment is optimal if it has slackness 1 at some prices, at benefits
-/// scaled by m + 1, and no unowned object has a price over 1 above that of another object.
-pub fn slack_means_best_among()
-    ensures { (sense : Sense) (m : ℕ) (rows : List Listing) (xs : List ℕ) (prices : List ℤ)
-        → All (IsWithin m) rows → IsCertificateAmong sense m rows xs prices
-        → IsBest sense rows xs }
 {}
 
 /// An outcome that is a proof decides the problem: a certificate comes only where an assignment

@@ -18,7 +18,7 @@ pub use certificate::Certificate;
 pub use hall::{HallSet, hall_set_forbids, paths_are_open, reach_is_least};
 pub use law::{
     dense_pairs, least_given_counts, limits, owners_make_an_assignment, price_order, proofs_decide,
-    slack_means_best, slack_means_best_among,
+    slack_means_best,
 };
 pub use numbers::{
     Benefit, Cost, GREATEST_COST, GREATEST_FIRST_PRICE, MOST_PERSONS, NARROW_END, Numbered, Object,

@@ -1,8 +1,8 @@
 // A problem: for each person the listed objects, rising, each with its cost.
 ghost use Rattle.std.specs.Prelude.{◌≡◌, ℕ, ℤ, ◌+◌, ◌-◌, ◌*◌, ◌<◌, ◌≤◌, List, [], ◌++◌, Some, IsSome, length, map, replicate, All, IfOk};
 ghost use Rattle.assign_core.specs.Numbered.{IsNumber, numbered};
-ghost use Rattle.assign_core.specs.Rows.{Listing, IsAmong, IsProblem, IsRising, IsRow, IsCost, IsSize, HasCosts, listed_in, row_of};
-ghost use Rattle.assign_core.specs.Dense.{dense_rows, dense_rows_among, row_from, rows_cut};
+ghost use Rattle.assign_core.specs.Rows.{Listing, IsProblem, IsRising, IsRow, IsCost, IsSize, HasCosts, listed_in, row_of};
+ghost use Rattle.assign_core.specs.Dense.{dense_rows, row_from, rows_cut};
 ghost use Rattle.assign_core.specs.Assignment.{IsAssignment, total};
 
 use super::assignment::Assignment;
@@ -76,28 +76,12 @@ fn cut_rows(
     requires count { length costs.now ≡ n * m }
     ensures { IfOk result (λ rows. map (λ r. r.items) rows.items ≡ rows_cut m n costs.now) }
 {
-    let mut rows = Vec::with_capacity(alloc, n.max(m) as usize)?;
+    let mut rows = Vec::with_capacity(alloc, n as usize)?;
     let mut left = costs;
     for _ in 0..n {
         let (front, rest) = left.split_at(m as usize);
         rows.push(row_of_costs(alloc, front)?)?;
         left = rest;
-    }
-    Ok(rows)
-}
-
-// The rows, followed by empty ones so that there are at least `m`.
-fn filled_up(
-    alloc: Global,
-    mut rows: Vec<Vec<(Object, Cost)>>,
-    n: u16,
-    m: u16,
-) -> Result<Vec<Vec<(Object, Cost)>>, AllocError>
-    ensures { IfOk result (λ all. map (λ r. r.items) all.items
-        ≡ map (λ r. r.items) rows.items ++ replicate (m - n) []) }
-{
-    for _ in 0..m.saturating_sub(n) {
-        rows.push(Vec::new(alloc))?;
     }
     Ok(rows)
 }
@@ -134,29 +118,6 @@ impl Problem {
     {
         Ok(Problem {
             rows: cut_rows(alloc, n, n, costs)?,
-        })
-    }
-
-    /// The problem of `n` persons among `m` objects in which each person lists each object. The
-    /// first `m` costs are those of person 1 to objects 1, 2, .., the next `m` those of person 2,
-    /// and so on. If there are more objects than persons, persons `n + 1` to `m` list nothing: only
-    /// the first `n` persons are to be assigned.
-    ///
-    /// It reads each cost once, and takes 16 bytes for it, and 24 for each person.
-    ///
-    /// # Errors
-    /// `AllocError` if memory is refused.
-    pub fn dense_among(alloc: Global, n: u16, m: u16, costs: &[Cost]) -> Result<Problem, AllocError>
-        requires persons { IsSize n }
-        requires objects { IsSize m }
-        requires count { length costs.now ≡ n * m }
-        requires costs { All IsCost costs.now }
-        ensures rows { IfOk result (λ problem. problem ≡ dense_rows_among n m costs.now) }
-        ensures among { IfOk result (IsAmong n m) }
-    {
-        let rows = cut_rows(alloc, n, m, costs)?;
-        Ok(Problem {
-            rows: filled_up(alloc, rows, n, m)?,
         })
     }
 

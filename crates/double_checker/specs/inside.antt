@@ -1,0 +1,3 @@
+pub mod Sizes
+pub mod Pairs
+pub mod Plans
