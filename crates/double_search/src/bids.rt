@@ -3,8 +3,17 @@
 ghost use Rattle.std.specs.Prelude.{◌≡◌, length};
 
 use super::lists::{Lists, Matrix, NOBODY, at, place_of, put};
-use super::reach::two_best;
+use super::reach::{first_unowned, two_best};
 use super::whole::FAR;
+
+// Gives a person an unowned object of this value, if there is one.
+fn give_unowned(matrix: Matrix<'_>, lists: &mut Lists<'_>, person: usize, value: i64) {
+    let duals = &mut *lists.duals;
+    let owners = &mut *lists.owners;
+    if let Some(object) = first_unowned(matrix.row(person), duals, owners, value) {
+        lists.give(person, object);
+    }
+}
 
 // One bid: the person who lost its object by it, or nobody.
 fn bid(matrix: Matrix<'_>, lists: &mut Lists<'_>, person: usize) -> i64 {
@@ -20,6 +29,7 @@ fn bid(matrix: Matrix<'_>, lists: &mut Lists<'_>, person: usize) -> i64 {
         two.second.wrapping_sub(two.best)
     };
     if owner != NOBODY && gap == 0 {
+        give_unowned(matrix, lists, person, two.best);
         return NOBODY;
     }
     let dual = at(lists.duals, two.object).wrapping_sub(gap);

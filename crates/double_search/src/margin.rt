@@ -127,7 +127,7 @@ impl<'a> Lists<'a> {
             return false;
         }
         let persons = self.objects.len();
-        for _ in 0..persons.saturating_mul(20).saturating_add(100) {
+        for _ in 0..persons.saturating_mul(4).saturating_add(64) {
             if ring.count == 0 {
                 return true;
             }
@@ -186,6 +186,11 @@ impl<'a> Lists<'a> {
             margin,
             of_equal,
             far: scale.far(),
+            room: if of_equal == 0 {
+                usize::MAX
+            } else {
+                self.objects.len().saturating_mul(3).saturating_add(16)
+            },
         };
         self.spread_by(matrix, bounds, nearness)
     }

@@ -15,6 +15,8 @@ pub struct Nearness {
     pub of_equal: i64,
     // Costs from this one on are far.
     pub far: i64,
+    // The most near pairs.
+    pub room: usize,
 }
 
 // A person's own object, with its cost and its value.
@@ -150,7 +152,7 @@ impl<'a> Lists<'a> {
     // Lists the near pairs at the duals in the keys. Returns whether there is room for them.
     pub fn gather_near(&mut self, matrix: Matrix<'_>, nearness: Nearness) -> bool {
         let persons = self.objects.len();
-        let room = self.near.len();
+        let room = self.near.len().min(nearness.room);
         let mut count = 0usize;
         for person in 0..persons {
             put(self.starts, person, number_of(count));

@@ -133,25 +133,28 @@ pub struct Two {
     pub second: i64,
 }
 
+// Without branches, since nobody can foretell them.
 fn two_with_block(two: Two, row: &[i64], keys: &[i64], at: usize) -> Two
     requires { length keys.now ≡ length row.now }
 {
-    let mut two = two;
+    let mut best = two.best;
+    let mut second = two.second;
+    let mut object = two.object;
     for k in 0..row.len() {
         let value = row[k].wrapping_sub(keys[k]);
-        if value < two.second {
-            if value < two.best {
-                two = Two {
-                    object: at.wrapping_add(k),
-                    best: value,
-                    second: two.best,
-                };
-            } else {
-                two.second = value;
-            }
-        }
+        second = second.min(best.max(value));
+        object = if value < best {
+            at.wrapping_add(k)
+        } else {
+            object
+        };
+        best = best.min(value);
     }
-    two
+    Two {
+        object,
+        best,
+        second,
+    }
 }
 
 // The two best values of a row.
@@ -181,4 +184,14 @@ pub fn least_of_row(row: &[i64], keys: &[i64]) -> i64 {
         least = least.min(row[k].wrapping_sub(keys[k]));
     }
     least
+}
+
+// The first unowned object of this value.
+pub fn first_unowned(row: &[i64], keys: &[i64], owners: &[i64], value: i64) -> Option<usize> {
+    for (k, ((cost, key), owner)) in row.iter().zip(keys).zip(owners).enumerate() {
+        if *owner == NOBODY && cost.wrapping_sub(*key) == value {
+            return Some(k);
+        }
+    }
+    None
 }
