@@ -4,7 +4,6 @@
 
 mod bids;
 mod block;
-mod engine;
 mod hall;
 mod lists;
 mod margin;
@@ -19,4 +18,4 @@ mod whole;
 
 pub use hall::HallSet;
 pub use range::margin_of;
-pub use solver::{Ended, Problem, search, search_from};
+pub use solver::{Ended, Problem, search, search_from, search_near};

@@ -63,8 +63,8 @@ fn factor_of(size: f64) -> f64 {
     factor
 }
 
-// A margin in fine units; none where it is too great.
-fn margin_in(margin: f64) -> i64 {
+// A small double in fine units, or a little more; 0 where it is too great.
+fn small_in(margin: f64) -> i64 {
     if margin < GREATEST_MARGIN {
         last_bits(margin + MAGIC).wrapping_add(2)
     } else {
@@ -83,8 +83,13 @@ impl Scale {
             parts,
             unit: 1.0 / factor / parts,
             is_cut,
-            margin: margin_in(margin * factor * parts),
+            margin: small_in(margin * factor * parts),
         }
+    }
+
+    // A small double in fine units.
+    pub fn small(self, double: f64) -> i64 {
+        small_in(double * self.factor.abs() * self.parts)
     }
 
     // The cost from which on pairs are far.

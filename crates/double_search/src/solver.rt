@@ -2,7 +2,6 @@
 ghost use Rattle.std.specs.Prelude.{◌≡◌, length};
 
 use super::block::{lists_in, room_of};
-use super::engine::{search_narrow, shift_of};
 use super::hall::{HallSet, all_persons, as_number, hall_set_of};
 use super::lists::{Lists, Matrix, at, place_of};
 use super::paths::Path;
@@ -11,9 +10,6 @@ use super::scale::Scale;
 use super::whole::{FAR, to_duals, to_prices, to_whole};
 use assign_core::Sense;
 use std::alloc::{AllocError, Global};
-
-// From so many persons on a search over fewer bits comes first.
-const LARGE: usize = 256;
 
 // Costs so many times as great as those that a plan will need are cut, for a finer unit.
 const CUT_FROM: f64 = 64.0;
@@ -111,43 +107,53 @@ fn write(lists: &Lists<'_>, scale: Scale, objects: &mut [u32], prices: &mut [f64
     }
 }
 
-// After a search over fewer bits: duals with a margin, or those that are exact, or those of a search
-// from there.
-fn refine(matrix: Matrix<'_>, lists: &mut Lists<'_>, scale: Scale) -> Path {
-    if lists.spread(matrix, scale, 1i64.wrapping_shl(shift_of(scale))) {
+// Where a search begins.
+#[derive(Clone, Copy)]
+enum Begin {
+    Nothing,
+    // With a plan and prices.
+    Plan,
+    // With a plan that is best, at the prices, within this difference.
+    Near(f64),
+}
+
+// Other duals with a margin, where a plan was found.
+fn with_margin(matrix: Matrix<'_>, lists: &mut Lists<'_>, scale: Scale, path: Path) -> Path {
+    if path == Path::Found {
+        let _ = lists.spread(matrix, scale, 0);
+    }
+    path
+}
+
+fn search_from_nothing(matrix: Matrix<'_>, lists: &mut Lists<'_>, scale: Scale) -> Path {
+    let path = lists.search_cold(matrix);
+    with_margin(matrix, lists, scale, path)
+}
+
+fn search_from_plan(matrix: Matrix<'_>, lists: &mut Lists<'_>, scale: Scale) -> Path {
+    let path = lists.search_warm(matrix);
+    with_margin(matrix, lists, scale, path)
+}
+
+// Duals with a margin, or those that there are if they are exact, or those of a search from there.
+fn search_from_near(matrix: Matrix<'_>, lists: &mut Lists<'_>, scale: Scale, off: f64) -> Path {
+    if !lists.has_all() {
+        return search_from_plan(matrix, lists, scale);
+    }
+    if lists.spread(matrix, scale, scale.small(off)) {
         return Path::Found;
     }
     if lists.settle(matrix) == 0 && lists.are_unowned_on_top() {
         return Path::Found;
     }
-    let path = lists.search_warm(matrix);
-    let _ = path == Path::Found && lists.spread(matrix, scale, 0);
-    path
+    search_from_plan(matrix, lists, scale)
 }
 
-fn search_small(matrix: Matrix<'_>, lists: &mut Lists<'_>, scale: Scale) -> Path {
-    let path = lists.search_cold(matrix);
-    let _ = path == Path::Found && lists.spread(matrix, scale, 0);
-    path
-}
-
-fn search_from_nothing(
-    alloc: Global,
+fn search_begun(
     matrix: Matrix<'_>,
     lists: &mut Lists<'_>,
     scale: Scale,
-) -> Result<Path, AllocError> {
-    if lists.persons() >= LARGE && search_narrow(alloc, matrix, lists, scale)? {
-        return Ok(refine(matrix, lists, scale));
-    }
-    Ok(search_small(matrix, lists, scale))
-}
-
-// A search from objects and prices.
-fn search_from_start(
-    matrix: Matrix<'_>,
-    lists: &mut Lists<'_>,
-    scale: Scale,
+    begin: Begin,
     objects: &[u32],
     prices: &[f64],
 ) -> Path {
@@ -156,9 +162,11 @@ fn search_from_start(
     if prices.len() == lists.duals.len() {
         to_duals(prices, lists.duals, scale);
     }
-    let path = lists.search_warm(matrix);
-    let _ = path == Path::Found && lists.spread(matrix, scale, 0);
-    path
+    match begin {
+        Begin::Nothing => search_from_nothing(matrix, lists, scale),
+        Begin::Plan => search_from_plan(matrix, lists, scale),
+        Begin::Near(off) => search_from_near(matrix, lists, scale, off),
+    }
 }
 
 // A search in this unit.
@@ -166,7 +174,7 @@ fn search_in(
     alloc: Global,
     problem: Problem<'_>,
     scale: Scale,
-    has_start: bool,
+    begin: Begin,
     objects: &mut [u32],
     prices: &mut [f64],
 ) -> Result<Tried, AllocError>
@@ -182,10 +190,9 @@ fn search_in(
         costs: costs.as_slice(),
     };
     let mut lists = lists_in(n, m, block.as_mut_slice());
-    let path = if has_start {
-        search_from_start(matrix, &mut lists, scale, objects, prices)
-    } else {
-        search_from_nothing(alloc, matrix, &mut lists, scale)?
+    let path = match begin {
+        Begin::Nothing => search_from_nothing(matrix, &mut lists, scale),
+        _ => search_begun(matrix, &mut lists, scale, begin, objects, prices),
     };
     match path {
         Path::Lost => Ok(Tried::Lost),
@@ -203,7 +210,7 @@ fn search_in(
 fn search_all(
     alloc: Global,
     problem: Problem<'_>,
-    has_start: bool,
+    begin: Begin,
     objects: &mut [u32],
     prices: &mut [f64],
 ) -> Result<Ended, AllocError>
@@ -216,13 +223,13 @@ fn search_all(
     }
     let range = Range::of(problem.costs, m, problem.sign());
     let scale = problem.scale(range);
-    match search_in(alloc, problem, scale, has_start, objects, prices)? {
+    match search_in(alloc, problem, scale, begin, objects, prices)? {
         Tried::Plan => Ok(Ended::Plan(range.margin())),
         Tried::Hall(set) => Ok(Ended::Hall(set)),
         Tried::Lost => Ok(Ended::Lost),
         Tried::Cut => {
             let scale = problem.full_scale(range);
-            match search_in(alloc, problem, scale, has_start, objects, prices)? {
+            match search_in(alloc, problem, scale, begin, objects, prices)? {
                 Tried::Plan => Ok(Ended::Plan(range.margin())),
                 Tried::Hall(set) => Ok(Ended::Hall(set)),
                 Tried::Lost | Tried::Cut => Ok(Ended::Lost),
@@ -246,7 +253,7 @@ pub fn search(
     ensures objects { length objects.new ≡ length objects.old }
     ensures prices { length prices.new ≡ length prices.old }
 {
-    search_all(alloc, problem, false, objects, prices)
+    search_all(alloc, problem, Begin::Nothing, objects, prices)
 }
 
 /// The same from an earlier plan and its prices. Persons with object 0, and those who have a better
@@ -263,5 +270,23 @@ pub fn search_from(
     ensures objects { length objects.new ≡ length objects.old }
     ensures prices { length prices.new ≡ length prices.old }
 {
-    search_all(alloc, problem, true, objects, prices)
+    search_all(alloc, problem, Begin::Plan, objects, prices)
+}
+
+/// The same from a plan that is best within `off`: at these prices no pair of a person is better than
+/// its own by more.
+///
+/// # Errors
+/// `AllocError` if memory is refused.
+pub fn search_near(
+    alloc: Global,
+    problem: Problem<'_>,
+    off: f64,
+    objects: &mut [u32],
+    prices: &mut [f64],
+) -> Result<Ended, AllocError>
+    ensures objects { length objects.new ≡ length objects.old }
+    ensures prices { length prices.new ≡ length prices.old }
+{
+    search_all(alloc, problem, Begin::Near(off), objects, prices)
 }

@@ -12,6 +12,11 @@ impl<'a> Lists<'a> {
         fill(self.objects, NOBODY);
     }
 
+    // Whether each person has an object.
+    pub fn has_all(&self) -> bool {
+        self.objects.iter().all(|object| *object != NOBODY)
+    }
+
     // A search from nothing.
     pub fn search_cold(&mut self, matrix: Matrix<'_>) -> Path {
         self.release_all();
