@@ -7,7 +7,7 @@ use Rattle.double_checker.specs.Verdicts.{IsVerdict}
 use Rattle.double_checker.specs.declared.verdict.Verdict.{Verdict}
 use Rattle.double_checker.specs.declared.verdict.Verdict.TheVariants.{Length, Cost, Unlisted, Twice, Price, Undecided, Best}
 use Rattle.lent_doubles.specs.declared.fault.Fault.{Fault}
-use Rattle.lent_doubles.specs.declared.info.Info.{Info}
+use Rattle.lent_doubles.specs.declared.info.DoublesInfo.{DoublesInfo}
 use Rattle.lent_doubles.specs.Codes.{fault_code, fault_place}
 use Rattle.lent_doubles.specs.Ends.{flag}
 use Rattle.lent_doubles.specs.Faults.{HasFault, HasShape}
@@ -24,7 +24,7 @@ verdict_code Undecided = pos 23
 verdict_code (Best by_margin) = pos 0
 
 -- the record with what a verdict names
-abbrev pub with_verdict : Verdict → Info → Info
+abbrev pub with_verdict : Verdict → DoublesInfo → DoublesInfo
 with_verdict Length info = info
 with_verdict (Cost k) info = record info { place = k }
 with_verdict (Unlisted i) info = record info { person = i }
@@ -53,14 +53,14 @@ pub record IsOfGiven (g : GivenDoubles) (objects : List ℕ) (prices : List Floa
   pub proved : IsProved g sense objects verdict
 
 -- the verdict on a plan and prices, with its code and what it names
-pub record IsJudged (g : GivenDoubles) (objects : List ℕ) (prices : List Float) (before after : Info) (code : ℤ) : Type 0 where
+pub record IsJudged (g : GivenDoubles) (objects : List ℕ) (prices : List Float) (before after : DoublesInfo) (code : ℤ) : Type 0 where
   pub verdict : Verdict
   pub is : code ≡ verdict_code verdict
   pub names : after ≡ with_verdict verdict before
   pub holds : IsOfGiven g objects prices verdict
 
 -- the first fault, with its code and its place
-pub record IsRefused (g : GivenDoubles) (before after : Info) (code : ℤ) : Type 0 where
+pub record IsRefused (g : GivenDoubles) (before after : DoublesInfo) (code : ℤ) : Type 0 where
   pub fault : Fault
   pub is : code ≡ fault_code fault
   pub first : HasFault g fault

@@ -3,7 +3,7 @@ use Rattle.std.specs.Prelude.{◌≡◌, ℕ, ℤ, pos, List, [], ◌∷◌, Res
 use lib.Ieee.{Float}
 use Rattle.assign_core.specs.declared.sense.Sense.{Sense}
 use Rattle.lent_doubles.specs.declared.fault.Fault.{Fault}
-use Rattle.lent_doubles.specs.declared.info.Info.{Info}
+use Rattle.lent_doubles.specs.declared.info.DoublesInfo.{DoublesInfo}
 use Rattle.lent_doubles.specs.declared.solve.End.{End}
 use Rattle.lent_doubles.specs.declared.solve.End.TheVariants.{Best, Hall, Undecided}
 use Rattle.lent_doubles.specs.Answers.{IsBestBy, IsForbidden}
@@ -23,10 +23,10 @@ pub record Buffers : Type 0 where
   pub objects : List ℕ
   pub persons : List ℕ
   pub prices : List Float
-  pub info : Info
+  pub info : DoublesInfo
 
 -- the caller's buffers with these lists and this record
-abbrev pub buffers : List ℕ → List ℕ → List Float → Info → Buffers
+abbrev pub buffers : List ℕ → List ℕ → List Float → DoublesInfo → Buffers
 buffers objects persons prices info =
     record { objects = objects; persons = persons; prices = prices; info = info }
 

@@ -102,18 +102,27 @@ fn search_from_start(
     problem: Problem<'_>,
     start: Start<'_>,
     plan: &mut Plan,
-) -> Result<Ended, AllocError>
-{
+) -> Result<Ended, AllocError> {
     match start {
         Start::Nothing => {
             plan.objects.resize(problem.persons, 0)?;
             plan.prices.resize(problem.objects, 0.0)?;
-            search(alloc, problem, plan.objects.as_mut_slice(), plan.prices.as_mut_slice())
+            search(
+                alloc,
+                problem,
+                plan.objects.as_mut_slice(),
+                plan.prices.as_mut_slice(),
+            )
         }
         Start::Plan(objects, prices) => {
             plan.objects.extend_from_slice(objects)?;
             plan.prices.extend_from_slice(prices)?;
-            search_from(alloc, problem, plan.objects.as_mut_slice(), plan.prices.as_mut_slice())
+            search_from(
+                alloc,
+                problem,
+                plan.objects.as_mut_slice(),
+                plan.prices.as_mut_slice(),
+            )
         }
     }
 }

@@ -7,7 +7,7 @@ ghost use Rattle.lent_doubles.specs.Faults.{HasFault, IsShape};
 use crate::answer::refused;
 use crate::fault::{Fault, refuse};
 use crate::given::Given;
-use crate::info::Info;
+use crate::info::DoublesInfo;
 use crate::judge::{Shape, judge};
 use crate::marks::marks;
 use crate::solve::number_of;
@@ -58,7 +58,7 @@ fn verdict_on(
 }
 
 // The code of a verdict. Records what the verdict names.
-fn report(verdict: Verdict, info: &mut Info) -> i32
+fn report(verdict: Verdict, info: &mut DoublesInfo) -> i32
     ensures code { result ≡ verdict_code verdict }
     ensures names { info.new ≡ with_verdict verdict info.old }
 {
@@ -94,7 +94,7 @@ pub fn check_given(
     given: &Given<'_>,
     objects: &[Object],
     prices: &[f64],
-    info: &mut Info,
+    info: &mut DoublesInfo,
 ) -> i32
     ensures { IsJudged given.now objects.now prices.now info.old info.new result
         ⊎ IsRefused given.now info.old info.new result }

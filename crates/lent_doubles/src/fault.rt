@@ -2,7 +2,7 @@
 ghost use Rattle.std.specs.Prelude.{◌≡◌};
 ghost use Rattle.lent_doubles.specs.Codes.{fault_code, fault_place};
 
-use crate::info::Info;
+use crate::info::DoublesInfo;
 
 /// Why a call ends without an answer: the first of these that applies.
 #[derive(Clone, Copy, PartialEq, Eq)]
@@ -33,7 +33,7 @@ fn code_of(fault: Fault) -> i32
 }
 
 /// The code of a fault. Records its place, if it has one.
-pub fn refuse(fault: Fault, info: &mut Info) -> i32
+pub fn refuse(fault: Fault, info: &mut DoublesInfo) -> i32
     ensures code { result ≡ fault_code fault }
     ensures place { info.new ≡ record info.old { place = fault_place info.old.place fault } }
 {

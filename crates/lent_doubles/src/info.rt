@@ -4,7 +4,7 @@
 /// its end.
 #[repr(C)]
 #[derive(Clone, Copy)]
-pub struct Info {
+pub struct DoublesInfo {
     /// The place, from 0, of a fault in a list.
     pub place: u64,
     /// The number of persons of a Hall set.

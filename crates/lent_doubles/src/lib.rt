@@ -13,5 +13,5 @@ mod solve;
 
 pub use check::check_given;
 pub use given::Given;
-pub use info::Info;
+pub use info::DoublesInfo;
 pub use solve::{solve_from, solve_given};

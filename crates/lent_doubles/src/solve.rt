@@ -7,7 +7,7 @@ ghost use Rattle.lent_doubles.specs.Given.{HasLengths};
 use crate::answer::{Answer, HallSet, Plan, Start, answer_on};
 use crate::fault::refuse;
 use crate::given::Given;
-use crate::info::Info;
+use crate::info::DoublesInfo;
 use cost_lists::{Object, Person};
 use std::alloc::Global;
 
@@ -49,7 +49,7 @@ fn put_front(buffer: &mut [u32], numbers: &[u32])
 }
 
 // Writes a plan and its prices.
-fn put_plan(objects: &mut [Object], prices: &mut [f64], info: &mut Info, plan: &Plan)
+fn put_plan(objects: &mut [Object], prices: &mut [f64], info: &mut DoublesInfo, plan: &Plan)
     requires objects { length objects.old ≡ length plan.now.objects.items }
     requires prices { length prices.old ≡ length plan.now.prices.items }
     ensures objects { objects.new ≡ plan.now.objects.items }
@@ -62,7 +62,7 @@ fn put_plan(objects: &mut [Object], prices: &mut [f64], info: &mut Info, plan: &
 }
 
 // Writes a Hall set at the beginning of two buffers, and how many numbers stand there.
-fn put_hall(objects: &mut [Object], persons: &mut [Person], info: &mut Info, set: &HallSet)
+fn put_hall(objects: &mut [Object], persons: &mut [Person], info: &mut DoublesInfo, set: &HallSet)
     requires objects { length set.now.objects.items ≤ length objects.old }
     requires persons { length set.now.persons.items ≤ length persons.old }
     ensures objects { objects.new
@@ -87,7 +87,7 @@ fn put_answer(
     objects: &mut [Object],
     persons: &mut [Person],
     prices: &mut [f64],
-    info: &mut Info,
+    info: &mut DoublesInfo,
 ) -> End
     requires answer { IsFound given.now answer.now }
     requires objects { length objects.old ≡ given.now.n }
@@ -118,7 +118,7 @@ pub fn solve_given(
     objects: &mut [Object],
     persons: &mut [Person],
     prices: &mut [f64],
-    info: &mut Info,
+    info: &mut DoublesInfo,
 ) -> i32
     requires objects { HasLengths given.now → length objects.old ≡ given.now.n }
     requires persons { HasLengths given.now → length persons.old ≡ given.now.n }
@@ -142,7 +142,7 @@ pub fn solve_from(
     objects: &mut [Object],
     persons: &mut [Person],
     prices: &mut [f64],
-    info: &mut Info,
+    info: &mut DoublesInfo,
 ) -> i32
     requires objects { HasLengths given.now → length objects.old ≡ given.now.n }
     requires persons { HasLengths given.now → length persons.old ≡ given.now.n }

@@ -4,7 +4,7 @@ ghost use Rattle.lent_doubles.specs.Checks.{IsJudged, IsRefused, with_answer};
 ghost use Rattle.lent_doubles.specs.Ends.{Solves, buffers};
 
 use cost_lists::{Object, Person};
-use lent_doubles::{Given, Info, check_given, solve_from, solve_given};
+use lent_doubles::{Given, DoublesInfo, check_given, solve_from, solve_given};
 use std::alloc::Global;
 
 /// Solves a dense problem over doubles: `n` persons, `m` objects, and the cost of each pair, row by
@@ -19,7 +19,7 @@ pub extern "C" fn nushbaret_doubles(
     objects: &mut [Object],
     persons: &mut [Person],
     prices: &mut [f64],
-    info: &mut Info,
+    info: &mut DoublesInfo,
 ) -> i32
     ensures { Solves sense n m costs.now
         (buffers objects.old persons.old prices.old info.old)
@@ -49,7 +49,7 @@ pub extern "C" fn nushbaret_doubles_from(
     objects: &mut [Object],
     persons: &mut [Person],
     prices: &mut [f64],
-    info: &mut Info,
+    info: &mut DoublesInfo,
 ) -> i32
     ensures { Solves sense n m costs.now
         (buffers objects.old persons.old prices.old info.old)
@@ -78,7 +78,7 @@ pub extern "C" fn nushbaret_check_doubles(
     costs: &[f64],
     objects: &[Object],
     prices: &[f64],
-    info: &mut Info,
+    info: &mut DoublesInfo,
 ) -> i32
     ensures { let given = with_answer sense n m costs.now objects.now prices.now in
         IsJudged given objects.now prices.now info.old info.new result
