@@ -7,6 +7,7 @@ mod block;
 mod hall;
 mod lists;
 mod margin;
+mod narrow;
 mod near;
 mod paths;
 mod range;
@@ -17,5 +18,6 @@ mod start;
 mod whole;
 
 pub use hall::HallSet;
+pub use narrow::to_narrow;
 pub use range::margin_of;
 pub use solver::{Ended, Problem, search, search_from, search_near};

@@ -127,7 +127,7 @@ impl<'a> Lists<'a> {
             return false;
         }
         let persons = self.objects.len();
-        for _ in 0..persons.saturating_mul(4).saturating_add(64) {
+        for _ in 0..persons.saturating_mul(20).saturating_add(100) {
             if ring.count == 0 {
                 return true;
             }

@@ -47,8 +47,8 @@ const MARGIN: i64 = 4;
 // The greatest margin, in fine units.
 const GREATEST_MARGIN: f64 = 17592186044416.0;
 
-// The power of 2 that takes a size that isn't 0 below the limit and to the half of it or above.
-fn factor_of(size: f64) -> f64 {
+// The power of 2 that takes a size above 0 below the limit and to the half of it or above.
+pub fn factor_of(size: f64) -> f64 {
     let mut factor = 1.0;
     let mut reached = size;
     for step in STEPS {

@@ -47,7 +47,7 @@ enum Tried {
 }
 
 impl<'a> Problem<'a> {
-    fn sign(self) -> f64 {
+    pub fn sign(self) -> f64 {
         match self.sense {
             Sense::Min => 1.0,
             Sense::Max => -1.0,
@@ -64,19 +64,31 @@ impl<'a> Problem<'a> {
         )
     }
 
-    // A finer unit, where most costs are far greater than those that a plan will need.
-    fn scale(self, range: Range) -> Scale {
+    // The size of the costs that a plan will need, where most are far greater; else that of all.
+    fn size_in(self, range: Range) -> f64 {
         let near = range.near_size();
         if near > 0.0 && range.size() > CUT_FROM * near {
-            return Scale::of(
-                CUT_TO * near,
-                self.sign(),
-                range.margin(),
-                range.has_infinite,
-                true,
-            );
+            CUT_TO * near
+        } else {
+            range.size()
         }
-        self.full_scale(range)
+    }
+
+    // A size above 0 of the costs that a plan will need.
+    pub fn near_size(self) -> f64 {
+        let size = self.size_in(Range::of(self.costs, self.objects, self.sign()));
+        if size > 0.0 { size } else { 1.0 }
+    }
+
+    fn scale(self, range: Range) -> Scale {
+        let size = self.size_in(range);
+        Scale::of(
+            size,
+            self.sign(),
+            range.margin(),
+            range.has_infinite,
+            size < range.size(),
+        )
     }
 }
 
