@@ -1,4 +1,5 @@
 // The range of the costs, as a search minimises them.
+use assign_core::Sense;
 
 // 2^-52: two doubles up to the greatest one are, together, off by less than this part of it.
 const PART: f64 = 0.0000000000000002220446049250313080847263336181640625;
@@ -107,9 +108,17 @@ impl Range {
     }
 }
 
+// 1, or -1 where the greatest sum is wanted.
+pub fn sign_of(sense: Sense) -> f64 {
+    match sense {
+        Sense::Min => 1.0,
+        Sense::Max => -1.0,
+    }
+}
+
 /// The margin at which a search aims: 2^-52 of the greatest absolute value of a finite cost. Where
 /// each other pair of a person is worse by more, the plan is also best for all costs that these are
 /// the nearest doubles of.
-pub fn margin_of(costs: &[f64]) -> f64 {
-    Range::of(costs, costs.len(), 1.0).margin()
+pub fn margin_of(sense: Sense, costs: &[f64]) -> f64 {
+    Range::of(costs, costs.len(), sign_of(sense)).margin()
 }

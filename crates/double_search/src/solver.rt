@@ -5,7 +5,7 @@ use super::block::{lists_in, room_of};
 use super::hall::{HallSet, all_persons, as_number, hall_set_of};
 use super::lists::{Lists, Matrix, at, place_of};
 use super::paths::Path;
-use super::range::Range;
+use super::range::{Range, sign_of};
 use super::scale::Scale;
 use super::whole::{FAR, to_duals, to_prices, to_whole};
 use assign_core::Sense;
@@ -48,10 +48,7 @@ enum Tried {
 
 impl<'a> Problem<'a> {
     pub fn sign(self) -> f64 {
-        match self.sense {
-            Sense::Min => 1.0,
-            Sense::Max => -1.0,
-        }
+        sign_of(self.sense)
     }
 
     fn full_scale(self, range: Range) -> Scale {

@@ -28,7 +28,7 @@ fn verdict_in(
     ensures { IfOk result (IsOfGiven given.now objects.now prices.now) }
 {
     let mut owned = marks(alloc, shape.m)?;
-    let margin = margin_of(given.costs);
+    let margin = margin_of(shape.sense, given.costs);
     Ok(check(
         shape.sense,
         shape.n,
