@@ -1,8 +1,8 @@
 -- The pairs of rows of doubles.
-use Rattle.std.proofs.Common.{◌≡◌, ℕ, ℤ, ◌<◌, ◌≤◌, ◌+◌, ◌-◌, ◌*◌, zero, suc, List, [], ◌∷◌, Option, None, Some, length, get_or, take, drop, nat_eq, false, arith, refl, ap, sym, ◌∙◌, subst, add-one, inl, inr, eq-eqb}
+use Rattle.std.proofs.Common.{◌≡◌, ℕ, ℤ, ◌<◌, ◌≤◌, ◌+◌, ◌-◌, ◌*◌, zero, suc, List, [], ◌∷◌, Option, None, Some, length, get_or, take, drop, nat_eq, false, arith, refl, ap, ◌∙◌, add-one, inl, inr, eq-eqb}
 use Rattle.std.specs.List.{All}
 use Rattle.std.proofs.lemmas.List.{length-drop, get_or-take, get_or-drop, drop-drop, length-take-le}
-use Rattle.std.proofs.lemmas.List.Elements.{All-nil, All-cons, All-weaker}
+use Rattle.std.proofs.lemmas.List.Elements.{All-nil, All-cons}
 use Rattle.std.proofs.lemmas.Bool.Decides.{eqb_tells}
 use lib.Ieee.{Float, nan}
 use Rattle.assign_core.specs.Numbered.{IsNumber}
