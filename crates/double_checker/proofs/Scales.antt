@@ -1,8 +1,8 @@
 -- Whole numbers times a power of two.
-use Rattle.std.proofs.Common.{◌≡◌, ℕ, ℤ, pos, negsuc, neg_ℤ, ◌+ℤ◌, ◌*ℤ◌, ◌≤ℤ◌, ◌<ℤ◌, ◌<◌, ◌≤◌, ◌+◌, ◌-◌, ◌*◌, ◌^◌, ◌↔◌, zero, suc, true, false, cond, arith, refl, ap, sym, ◌∙◌, subst}
+use Rattle.std.proofs.Common.{◌≡◌, ℕ, ℤ, pos, negsuc, neg_ℤ, ◌+ℤ◌, ◌-ℤ◌, ◌*ℤ◌, ◌≤ℤ◌, ◌<ℤ◌, ◌<◌, ◌≤◌, ◌+◌, ◌-◌, ◌*◌, ◌^◌, ◌↔◌, zero, suc, Bool, true, false, cond, arith, refl, ap, sym, ◌∙◌, subst}
 use Rattle.std.proofs.lemmas.Int.{ints, by_lt_z}
-use native.Mathlib.Nat.{mul_assoc, mul_comm, mul-zero}
-use lib.Pow.{pow-add, pow_pos}
+use native.Mathlib.Nat.{mul_assoc, mul_comm, mul-zero, mul-lt-mul_of_pos_right, lt_of_lt_of_le, le_trans, le_of_eq}
+use lib.Pow.{pow-add, pow_pos, pow_mono}
 use borrow.Author.Differences.{up, down}
 use Rattle.assign_core.proofs.Products.{distributes}
 use Rattle.double_checker.specs.declared.digits.Digits.{Digits}
@@ -48,3 +48,22 @@ sums_scaled n a b c d x y z w p ea eb ec ed =
     let l = distributes (pos n) a b in
     let r = distributes (pos n) c d in
     ((λ h. let g = in_order n (a +ℤ b) (c +ℤ d) h in omega (arith, ints)), (λ h. back n (a +ℤ b) (c +ℤ d) p (omega (arith, ints))))
+
+pub small_shift : (a k : ℕ) → a < 2 ^ 53 → k ≤ 70 → a * 2 ^ k < 2 ^ 123
+small_shift a k h l =
+    let m : a * 2 ^ k < 2 ^ 53 * 2 ^ k = mul-lt-mul_of_pos_right h (pow_pos k) in
+    lt_of_lt_of_le m (le_trans (le_of_eq (sym (pow-add 2 53 k))) (pow_mono (omega arith)))
+
+-- a double's digits, shifted less far
+pub positive_scaled : (d : Digits) (low : ℕ) (z : ℤ) → low ≤ d.shift → z ≡ pos (d.digits * 2 ^ (d.shift - low)) → d.negative ≡ false → pos (2 ^ low) *ℤ z ≡ units_by d
+positive_scaled d low z h e n =
+    ap (λ (i : ℤ). pos (2 ^ low) *ℤ i) e ∙ ap pos (shifted_back d.digits d.shift low h)
+    ∙ ap (λ (b : Bool). cond b (neg_ℤ (pos (size_by d))) (pos (size_by d))) (sym n)
+
+pub negative_scaled : (d : Digits) (low : ℕ) (z : ℤ) → low ≤ d.shift → z ≡ pos (d.digits * 2 ^ (d.shift - low)) → d.negative ≡ true → pos (2 ^ low) *ℤ (pos 0 -ℤ z) ≡ units_by d
+negative_scaled d low z h e n =
+    let t : pos 0 -ℤ z ≡ neg_ℤ (pos (d.digits * 2 ^ (d.shift - low))) = omega (arith, ints) in
+    ap (λ (i : ℤ). pos (2 ^ low) *ℤ i) t
+    ∙ times_negative (2 ^ low) (d.digits * 2 ^ (d.shift - low))
+    ∙ ap (λ (i : ℕ). neg_ℤ (pos i)) (shifted_back d.digits d.shift low h)
+    ∙ ap (λ (b : Bool). cond b (neg_ℤ (pos (size_by d))) (pos (size_by d))) (sym n)

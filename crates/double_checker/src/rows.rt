@@ -52,7 +52,16 @@ fn is_base(own_cost: f64, own_price: f64, base: f64, margin: f64) -> bool
     requires own_price { IsTrue (is_number own_price) }
     ensures { IsTrue result → IsBase own_cost own_price base margin }
 {
-    is_number(base) && is_number(margin) && 0.0 <= margin && own_cost + own_price < base + 0.0
+    if !is_number(base) {
+        return false;
+    }
+    if !is_number(margin) {
+        return false;
+    }
+    if margin < 0.0 {
+        return false;
+    }
+    own_cost + own_price < base + 0.0
 }
 
 // Whether each cost of a row is at least the own one with its price; if so, whether each other one
