@@ -52,7 +52,7 @@ sums_scaled n a b c d x y z w p ea eb ec ed =
 pub small_shift : (a k : ℕ) → a < 2 ^ 53 → k ≤ 70 → a * 2 ^ k < 2 ^ 123
 small_shift a k h l =
     let m : a * 2 ^ k < 2 ^ 53 * 2 ^ k = mul-lt-mul_of_pos_right h (pow_pos k) in
-    lt_of_lt_of_le m (le_trans (le_of_eq (sym (pow-add 2 53 k))) (pow_mono (omega arith)))
+    lt_of_lt_of_le m (le_trans (le_of_eq (sym (pow-add 2 53 k))) (pow_mono {j = 123} (omega arith)))
 
 -- a double's digits, shifted less far
 pub positive_scaled : (d : Digits) (low : ℕ) (z : ℤ) → low ≤ d.shift → z ≡ pos (d.digits * 2 ^ (d.shift - low)) → d.negative ≡ false → pos (2 ^ low) *ℤ z ≡ units_by d

@@ -85,6 +85,13 @@ fn is_row_seen(sense: Sense, row: &[f64], prices: &[f64], own: usize, margin: f6
     }
 }
 
+// Whether both hold.
+fn both(a: bool, b: bool) -> bool
+    ensures { result ≡ true → (a ≡ true) × (b ≡ true) }
+{
+    if a { b } else { false }
+}
+
 // Whether each person's own object is a choice of its row at these prices; if so, whether it is one
 // by the margin.
 pub fn are_rows_seen(
@@ -108,7 +115,7 @@ pub fn are_rows_seen(
         let row = row_part(costs, i, m);
         let own = objects[i] as usize - 1;
         let seen = is_row_seen(sense, row, prices, own, margin)?;
-        by_margin = by_margin && seen;
+        by_margin = both(by_margin, seen);
     }
     Some(by_margin)
 }

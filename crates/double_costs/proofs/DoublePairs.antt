@@ -91,7 +91,7 @@ length-take_most (suc m) [] = omega arith
 length-take_most (suc m) (c ∷ costs) = let i = length-take_most m costs in omega arith
 
 -- a row from object j on lists none beyond the last
-row_within : (j m : ℕ) (costs : List Float) → 0 < j → j + length costs ≤ m + 1 → IsWithin m (row_of_doubles j costs)
+pub row_within : (j m : ℕ) (costs : List Float) → 0 < j → j + length costs ≤ m + 1 → IsWithin m (row_of_doubles j costs)
 row_within j m [] first last = All-nil (λ e. IsNumber m e.0)
 row_within j m (c ∷ costs) first last =
     within_in_front j m (cost_in c) (row_of_doubles (j + 1) costs) (record { first = first; last = omega arith })

@@ -1,4 +1,4 @@
-use Rattle.std.proofs.Common.{◌≡◌, ℕ, ℤ, pos, ◌*◌, ◌^◌, ◌%◌, ◌<◌, ◌<ℤ◌, arith, ap, sym, ◌∙◌, subst, to_z}
+use Rattle.std.proofs.Common.{◌≡◌, ℕ, ℤ, pos, ◌*◌, ◌^◌, ◌%◌, ◌<◌, ◌≤◌, ◌<ℤ◌, arith, ap, sym, ◌∙◌, subst, to_z}
 use Rattle.std.specs.Int.{w128}
 use Rattle.std.proofs.lemmas.Int.{ints, to_z_pos, fits_signed_from_abs}
 use Rattle.std.proofs.lemmas.Nat.{shl_whole}
