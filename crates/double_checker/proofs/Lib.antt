@@ -8,3 +8,4 @@ pub mod RowSteps
 pub mod Given
 pub mod Unmarked
 pub mod PlanRows
+pub mod PlanProofs

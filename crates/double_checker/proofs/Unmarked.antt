@@ -43,3 +43,17 @@ all_least owned prices least j long end p h x y nx ny =
           let e = p.each (y - 1) (omega arith) in
           omega (arith, ints))
     ]
+
+pub least_so_far : (prices : List Float) (least next : Float) (k : ℕ) → ((i : ℕ) → i < k → units_of least ≤ℤ units_of (get_or prices i nan)) →
+    units_of next ≤ℤ units_of (get_or prices k nan) → units_of next ≤ℤ units_of least → (i : ℕ) → i < k + 1 → units_of next ≤ℤ units_of (get_or prices i nan)
+least_so_far prices least next k h first second i lt = elim (low_or_same i k lt) [
+  | inl l ↦ let g = h i l in omega (arith, ints)
+  | inr e ↦ subst (λ (q : ℕ). units_of next ≤ℤ units_of (get_or prices q nan)) (sym e) first
+]
+
+pub one_so_far : (prices : List Float) (least next : Float) (k : ℕ) → k < length prices → (0 < length prices → (q : ℕ) × (q < length prices) × (units_of (get_or prices q nan) ≡ units_of least)) →
+    (next ≡ get_or prices k nan) ⊎ (next ≡ least) → 0 < length prices → (q : ℕ) × (q < length prices) × (units_of (get_or prices q nan) ≡ units_of next)
+one_so_far prices least next k lt h o p = elim o [
+  | inl e ↦ (k, lt, ap units_of (sym e))
+  | inr e ↦ let g = h p in (g.0, g.1, g.2 ∙ ap units_of (sym e))
+]
