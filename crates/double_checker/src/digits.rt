@@ -56,7 +56,7 @@ fn shifted(digits: u64, by: u64) -> i128
 // How many times 2 ^ low units the digits are.
 pub fn scaled(d: Digits, low: u64) -> i128
     requires { AreShiftedBy low d }
-    ensures value { (result *ℤ pos (2 ^ low)) ≡ units_by d }
+    ensures value { (pos (2 ^ low) *ℤ result) ≡ units_by d }
     ensures least { neg_ℤ (pos (2 ^ 123)) <ℤ result }
     ensures greatest { result <ℤ pos (2 ^ 123) }
 {

@@ -1,7 +1,7 @@
 // The objects of a plan.
-ghost use Rattle.std.specs.Prelude.{◌≡◌, ◌↔◌, ◌<◌, ◌*◌, ◌^◌, ℕ, All, IsTrue, MatchOption, false, length, nat_eq, replicate};
+ghost use Rattle.std.specs.Prelude.{◌≡◌, ◌↔◌, ◌<◌, ◌*◌, ◌^◌, ℕ, All, IsTrue, MatchOption, length, nat_eq};
 ghost use Rattle.std.specs.List.{IsDistinct};
-ghost use Rattle.assign_core.specs.Numbered.{IsNumber};
+ghost use Rattle.assign_core.specs.Numbered.{IsMarked, IsNumber};
 ghost use Rattle.dual_checker.specs.Faults.{IsFirst};
 ghost use Rattle.double_checker.specs.Verdicts.{IsGivenBefore};
 ghost use Rattle.double_checker.specs.inside.Plans.{AreOwn, IsFirstNotOwn, IsOwn, MarksJust};
@@ -39,16 +39,16 @@ pub fn first_unlisted(costs: &[f64], objects: &[Object], m: usize) -> Option<Per
 
 // Takes all marks away.
 pub fn clear(marks: &mut [bool])
-    ensures { marks.new ≡ replicate (length marks.old) false }
+    ensures { (j : ℕ) → ¬ IsMarked marks.new j }
 {
-    for mark in marks.iter_mut() {
-        *mark = false;
+    for k in 0..marks.len() {
+        marks[k] = false;
     }
 }
 
 // The first person whose object a person before it has. Marks the objects; none is marked at first.
 pub fn first_given_before(owned: &mut [bool], objects: &[Object]) -> Option<Person>
-    requires clear { owned.old ≡ replicate (length owned.old) false }
+    requires clear { (j : ℕ) → ¬ IsMarked owned.old j }
     requires within { All (IsNumber (length owned.old)) objects.now }
     requires few { length objects.now < 2 ^ 32 }
     ensures { MatchOption result

@@ -52,7 +52,16 @@ fn is_base(own_cost: f64, own_price: f64, base: f64, margin: f64) -> bool
     requires own_price { IsTrue (is_number own_price) }
     ensures { IsTrue result → IsBase own_cost own_price base margin }
 {
-    is_number(base) && is_number(margin) && 0.0 <= margin && own_cost + own_price < base + 0.0
+    if !is_number(base) {
+        return false;
+    }
+    if !is_number(margin) {
+        return false;
+    }
+    if margin < 0.0 {
+        return false;
+    }
+    own_cost + own_price < base + 0.0
 }
 
 // Whether each cost of a row is at least the own one with its price; if so, whether each other one
@@ -74,6 +83,13 @@ fn is_row_seen(sense: Sense, row: &[f64], prices: &[f64], own: usize, margin: f6
         Some(_) => Some(false),
         None => None,
     }
+}
+
+// Whether both hold.
+fn both(a: bool, b: bool) -> bool
+    ensures { result ≡ true → (a ≡ true) × (b ≡ true) }
+{
+    if a { b } else { false }
 }
 
 // Whether each person's own object is a choice of its row at these prices; if so, whether it is one
@@ -99,7 +115,7 @@ pub fn are_rows_seen(
         let row = row_part(costs, i, m);
         let own = objects[i] as usize - 1;
         let seen = is_row_seen(sense, row, prices, own, margin)?;
-        by_margin = by_margin && seen;
+        by_margin = both(by_margin, seen);
     }
     Some(by_margin)
 }

@@ -1,8 +1,8 @@
 -- The pairs of rows of doubles.
-use Rattle.std.proofs.Common.{◌≡◌, ℕ, ℤ, ◌<◌, ◌≤◌, ◌+◌, ◌-◌, ◌*◌, zero, suc, List, [], ◌∷◌, Option, None, Some, length, get_or, take, drop, nat_eq, false, arith, refl, ap, sym, ◌∙◌, subst, add-one, inl, inr, eq-eqb}
+use Rattle.std.proofs.Common.{◌≡◌, ℕ, ℤ, ◌<◌, ◌≤◌, ◌+◌, ◌-◌, ◌*◌, zero, suc, List, [], ◌∷◌, Option, None, Some, length, get_or, take, drop, nat_eq, false, arith, refl, ap, ◌∙◌, add-one, inl, inr, eq-eqb}
 use Rattle.std.specs.List.{All}
 use Rattle.std.proofs.lemmas.List.{length-drop, get_or-take, get_or-drop, drop-drop, length-take-le}
-use Rattle.std.proofs.lemmas.List.Elements.{All-nil, All-cons, All-weaker}
+use Rattle.std.proofs.lemmas.List.Elements.{All-nil, All-cons}
 use Rattle.std.proofs.lemmas.Bool.Decides.{eqb_tells}
 use lib.Ieee.{Float, nan}
 use Rattle.assign_core.specs.Numbered.{IsNumber}
@@ -91,7 +91,7 @@ length-take_most (suc m) [] = omega arith
 length-take_most (suc m) (c ∷ costs) = let i = length-take_most m costs in omega arith
 
 -- a row from object j on lists none beyond the last
-row_within : (j m : ℕ) (costs : List Float) → 0 < j → j + length costs ≤ m + 1 → IsWithin m (row_of_doubles j costs)
+pub row_within : (j m : ℕ) (costs : List Float) → 0 < j → j + length costs ≤ m + 1 → IsWithin m (row_of_doubles j costs)
 row_within j m [] first last = All-nil (λ e. IsNumber m e.0)
 row_within j m (c ∷ costs) first last =
     within_in_front j m (cost_in c) (row_of_doubles (j + 1) costs) (record { first = first; last = omega arith })

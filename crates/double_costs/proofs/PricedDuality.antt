@@ -1,6 +1,6 @@
 -- Weak duality with exact prices of any size: no assignment is better than one whose persons have
 -- choices, if the unowned objects have the least price.
-use Rattle.std.proofs.Common.{◌≡◌, ℕ, ℤ, pos, ◌+ℤ◌, ◌-ℤ◌, ◌*ℤ◌, ◌≤ℤ◌, ◌<ℤ◌, ◌≤◌, ◌+◌, ◌-◌, ◌*◌, ◌<◌, cond, true, false, zero, suc, List, [], ◌∷◌, Option, None, Some, IsSome, unwrap_or, length, nat_eq, ◌⊎◌, inl, inr, refl, arith, rules, ap, sym, ◌∙◌, subst}
+use Rattle.std.proofs.Common.{◌≡◌, ℕ, ℤ, pos, ◌+ℤ◌, ◌-ℤ◌, ◌≤ℤ◌, ◌<◌, cond, true, false, zero, suc, List, [], ◌∷◌, Option, None, Some, IsSome, unwrap_or, length, nat_eq, ◌⊎◌, inl, inr, refl, arith, rules, ap, sym, ◌∙◌, subst}
 use Rattle.std.specs.List.{All, Contains, IsDistinct}
 use Rattle.std.proofs.lemmas.Int.{ints, by_lt_z}
 use Rattle.std.proofs.lemmas.Bool.{cond-true, cond-false}
@@ -10,7 +10,7 @@ use Rattle.assign_core.specs.declared.sense.Sense.{Sense}
 use Rattle.assign_core.specs.declared.sense.Sense.TheVariants.{Min, Max}
 use Rattle.assign_core.specs.Numbered.{IsNumber}
 use Rattle.assign_core.specs.Rows.{Listing, listed_in, listed_or_zero, IsWithin}
-use Rattle.assign_core.specs.Assignment.{AreListed, IsAssignment, IsBest, IsNoWorse, total}
+use Rattle.assign_core.specs.Assignment.{AreListed, IsBest, IsNoWorse, total}
 use Rattle.assign_core.specs.Prices.{price_of}
 use Rattle.assign_core.proofs.Distinct.{InRange, sum_z, at_most_all, up_to}
 use Rattle.assign_core.proofs.Listed.{objects_within}

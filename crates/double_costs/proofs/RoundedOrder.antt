@@ -1,18 +1,14 @@
 -- The order of rounded fractions with signs.
-use Prim.Native.Nat.{ℕ, zero, suc, ◌+◌, ◌-◌, ◌*◌, ◌/◌, ◌^◌, ◌≤◌, ◌<◌}
+use Prim.Native.Nat.{ℕ, zero, suc, ◌+◌, ◌*◌, ◌^◌, ◌<◌}
 use mathlib.Core.Path.{◌≡◌, refl, sym, ap, ◌∙◌, subst}
-use mathlib.Core.Logic.{inl, inr, ◌⊎◌}
 use native.Mathlib.Omega.{arith}
-use native.Mathlib.Nat.{lt_of_not-le, mul-pos, add_comm, zero-mul}
-use mathlib.Core.Bool.{Bool, true, false, not, ◌&&◌, cond, true≢false}
-use lib.IntN.{ℤ, pos, negsuc, neg_ℤ}
-use lib.Dec.{T, ltb, nltb→le, ltb→lt}
-use lib.Ieee.{Float, nan, inf, fin, Format, prec, emax, low, up, down, odd, units, round, neg, add, sum, lt, below}
-use lib.Ieee.Fits.{down_pos, round_is}
-use lib.Ieee.Order.{round_mono}
-use lib.Ieee.Exact.{HasValue, odd_sign, round_exact}
+use native.Mathlib.Nat.{mul-pos, add_comm, zero-mul}
+use mathlib.Core.Bool.{Bool, true, false, cond, true≢false}
+use lib.Dec.{T, ltb, ltb→lt}
+use lib.Ieee.{Float, nan, inf, fin, Format, prec, emax, low, up, down, odd, units, round, neg, lt}
+use lib.Ieee.Fits.{round_is}
+use lib.Ieee.Exact.{HasValue, round_exact}
 use lib.Pow.{pow_pos}
-use Rattle.std.proofs.lemmas.Float.{lt_of_le_of_lt, lt_irrefl}
 
 neg-odd : (d q k l : ℕ) → neg (odd d false q k l) ≡ odd d true q k l
 unfolding neg odd

@@ -1,13 +1,12 @@
 -- What rounded sums of two doubles tell of the sums in units.
-use Prim.Native.Nat.{ℕ, zero, suc, ◌+◌, ◌-◌, ◌*◌, ◌/◌, ◌%◌, ◌^◌, ◌≤◌, ◌<◌}
-use mathlib.Core.Path.{◌≡◌, refl, sym, ap, ◌∙◌, subst}
+use Prim.Native.Nat.{ℕ, ◌+◌, ◌-◌, ◌*◌, ◌^◌, ◌≤◌, ◌<◌}
+use mathlib.Core.Path.{◌≡◌, refl, sym, ap, ◌∙◌}
 use native.Mathlib.Omega.{arith}
 use native.Mathlib.Nat.{mul-pos, mul_assoc, mul_comm, mul_right_comm, add-mul, mul-sub, mul-le-mul_right, le_of_mul-le-mul_right, le_of_lt, le_of_eq, le_trans}
 use mathlib.Core.Bool.{Bool, true, false, not, ◌&&◌, cond, true≢false}
-use lib.IntN.{ℤ, pos, negsuc, neg_ℤ}
+use lib.IntN.{pos, neg_ℤ}
 use lib.Dec.{T, ltb, nltb→le, ltb→lt}
-use lib.Pow.{pow_pos}
-use lib.Ieee.{Float, nan, inf, fin, Format, binary64, low, up, down, round, add, sum, lt, fits}
+use lib.Ieee.{Float, nan, inf, fin, Format, binary64, up, down, round, add, sum, lt, fits}
 use lib.Ieee.Fits.{down_pos}
 use Rattle.std.proofs.Common.{◌+ℤ◌, ◌<ℤ◌, IsTrue}
 use Rattle.std.proofs.lemmas.Int.{ints}
@@ -23,7 +22,7 @@ added a b u v l c p q = add-mul a b l ∙ ap (λ (x : ℕ). x + b * l) p ∙ ap 
 less : (a b u v l c : ℕ) → a * l ≡ u * c → b * l ≡ v * c → (a - b) * l ≡ (u - v) * c
 less a b u v l c p q = sub_mul a b l ∙ ap (λ (x : ℕ). x - b * l) p ∙ ap (λ (x : ℕ). u * c - x) q ∙ sym (sub_mul u v c)
 
-in_units : (a b u v l c : ℕ) → 0 < c → a * l ≡ u * c → b * l ≡ v * c → a ≤ b → u ≤ v
+pub in_units : (a b u v l c : ℕ) → 0 < c → a * l ≡ u * c → b * l ≡ v * c → a ≤ b → u ≤ v
 in_units a b u v l c h p q le = le_of_mul-le-mul_right (le_trans (le_of_eq (sym p)) (le_trans (mul-le-mul_right l le) (le_of_eq q))) h
 
 sum_rounded : (f : Format) (l : ℕ) (s : Bool) (a : ℕ) (t : Bool) (b c u v : ℕ) → 0 < c → a * 2 ^ l ≡ u * c → b * 2 ^ l ≡ v * c
@@ -59,10 +58,10 @@ sum_rounded f l true a false b c u v h p q = go (ltb a b) (ltb→lt a b) (nltb�
         record { s = false; n = b - a; c = c; u = v - u; c_pos = h; scaled = less b a v u (2 ^ l) c q p; rounded = refl; is = omega (arith, ints) }
     go false below above = equal (ltb b a) (above tt) (ltb→lt b a) (nltb→le b a)
 
-first : (a l u e d : ℕ) → u * e ≡ a * l → a * d * l ≡ u * (e * d)
+pub first : (a l u e d : ℕ) → u * e ≡ a * l → a * d * l ≡ u * (e * d)
 first a l u e d h = mul_right_comm a d l ∙ ap (λ (x : ℕ). x * d) (sym h) ∙ mul_assoc u e d
 
-second : (b l v d e : ℕ) → v * d ≡ b * l → b * e * l ≡ v * (e * d)
+pub second : (b l v d e : ℕ) → v * d ≡ b * l → b * e * l ≡ v * (e * d)
 second b l v d e h = mul_right_comm b e l ∙ ap (λ (x : ℕ). x * e) (sym h) ∙ mul_assoc v d e ∙ ap (λ (x : ℕ). v * x) (mul_comm d e)
 
 -- the sum of two finite doubles is rounded from the sum of their units
@@ -79,6 +78,7 @@ add_rounded (fin s m e) (fin t n d) fa fb na nb = go s t
     rest x y = sum_rounded binary64 1074 x (m * up e * down d) y (n * up d * down e) (down e * down d) (size_in 1074 m e) (size_in 1074 n d) (mul-pos (down_pos e) (down_pos d))
         (first (m * up e) (2 ^ 1074) (size_in 1074 m e) (down e) (down d) (whole 1074 m e (fine binary64 s m e fa)))
         (second (n * up d) (2 ^ 1074) (size_in 1074 n d) (down d) (down e) (whole 1074 n d (fine binary64 t n d fb)))
+
     go : (x y : Bool) → IsRounded binary64 1074 (sum binary64 x (m * up e * down d) y (n * up d * down e) (down e * down d)) (units_of (fin x m e) +ℤ units_of (fin y n d))
     go false false = rest false false
     go false true = rest false true

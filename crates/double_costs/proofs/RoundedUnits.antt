@@ -1,23 +1,20 @@
 -- Rounded fractions in order are of whole numbers of units in order.
-use Prim.Native.Nat.{ℕ, zero, suc, ◌+◌, ◌-◌, ◌*◌, ◌/◌, ◌%◌, ◌^◌, ◌≤◌, ◌<◌}
+use Prim.Native.Nat.{ℕ, zero, suc, ◌-◌, ◌*◌, ◌/◌, ◌%◌, ◌^◌, ◌≤◌, ◌<◌}
 use mathlib.Core.Path.{◌≡◌, refl, sym, ap, ◌∙◌, subst}
-use mathlib.Core.Logic.{inl, inr, ◌⊎◌}
 use native.Mathlib.Omega.{arith}
-use native.Mathlib.Nat.{lt_of_not-le, mul-pos, le_of_suc-le-suc, lt_irrefl, lt_of_lt_of_le, div-one, mul-one, one-mul, mul_assoc, mul_comm, mul_right_comm, mul-div_cancel, add-mul, mul-sub, zero-mul, lt_of_mul-lt-mul_right, mul-lt-mul_of_pos_right}
-use mathlib.Core.Bool.{Bool, true, false, not, ◌&&◌, cond}
+use native.Mathlib.Nat.{lt_of_not-le, mul-pos, le_of_suc-le-suc, lt_irrefl, lt_of_lt_of_le, div-one, mul-one, one-mul, mul_assoc, mul_comm, mul_right_comm, mul-div_cancel, zero-mul, lt_of_mul-lt-mul_right, mul-lt-mul_of_pos_right}
+use mathlib.Core.Bool.{Bool, true, false, ◌&&◌}
 use lib.IntN.{ℤ, pos, negsuc, neg_ℤ}
 use lib.Dec.{T, eqb, ltb, leb, leb→le, eqb→eq}
 use lib.Pow.{pow-lt, pow-add, pow_pos}
-use lib.Ieee.{Float, nan, inf, fin, Format, prec, emax, low, up, down, fits}
+use lib.Ieee.{Float, fin, Format, prec, emax, low, up, down, fits}
 use lib.Ieee.Digits.{back}
 use lib.Ieee.Fits.{and_l, and_r}
-use lib.Ieee.{round, add, sum, lt, neg}
+use lib.Ieee.{round, lt, neg}
 use lib.Ieee.Order.{round_mono}
-use lib.Ieee.Fits.{down_pos}
-use Rattle.std.proofs.Common.{◌+ℤ◌, ◌<ℤ◌, ◌*ℤ◌}
+use Rattle.std.proofs.Common.{◌<ℤ◌}
 use Rattle.std.proofs.lemmas.Int.{ints}
 use Rattle.std.proofs.lemmas.Float.{lt_of_le_of_lt, lt_irrefl as float_lt_irrefl}
-use Rattle.double_costs.specs.Units.{is_number, size_in_units, units_of}
 use Rattle.double_costs.proofs.RoundedOrder.{neg-round, turned, round_has_sign, not_below, rounded_zero, zeros_not_below}
 
 -- 2 ^ -l times a unit is at least as fine as the exponent of what fits
@@ -81,7 +78,7 @@ sizes_in_order f l n c u k d v hc hd p q h =
     cross n k c d u v (2 ^ l) (pow_pos l) p q
     (lt_of_not-le (λ g. float_lt_irrefl (round f false k d) (lt_of_le_of_lt (round f false k d) (round f false n c) (round f false k d) (round_mono f k d n c hd hc g) h)))
 
-no_product : (n l : ℕ) → 0 < l → n * l ≡ 0 → n ≡ 0
+pub no_product : (n l : ℕ) → 0 < l → n * l ≡ 0 → n ≡ 0
 no_product zero l h p = refl
 no_product (suc n) l h p = absurd (omega (arith, mul-pos {m = suc n} {n = l} (omega arith) h))
 

@@ -1,5 +1,5 @@
 -- The sizes of doubles, and their digits.
-use Rattle.std.specs.Prelude.{◌≡◌, ℕ, ℤ, pos, neg_ℤ, ◌*◌, ◌^◌, ◌<◌, ◌≤◌, ◌==◌, if◌then◌else◌}
+use Rattle.std.specs.Prelude.{◌≡◌, ℕ, ℤ, pos, neg_ℤ, ◌+◌, ◌*◌, ◌^◌, ◌<◌, ◌≤◌, ◌==◌, if◌then◌else◌}
 use lib.Ieee.{Float, nan, inf, fin}
 use Rattle.double_costs.specs.Units.{size_in_units, units_of}
 use Rattle.double_checker.specs.declared.digits.Digits.{Digits}

@@ -1,7 +1,6 @@
-use mathlib.Core.Bool.{Bool, true, false}
+use mathlib.Core.Bool.{true, false}
 use mathlib.Core.Path.{◌≡◌, refl}
 use lib.Ieee.{Float, nan, inf, fin, lt, of_bits, binary64}
-use Rattle.assign_core.specs.declared.sense.Sense.{Sense}
 use Rattle.assign_core.specs.declared.sense.Sense.TheVariants.{Min, Max}
 use Rattle.double_costs.specs.DoubleRows.{is_cost}
 use Rattle.double_costs.proofs.faults.is_cost.Goals as goal
