@@ -4,13 +4,13 @@ use Rattle.std.specs.Prelude.{unsigned_abs, nat_eq}
 use Rattle.std.specs.List.{All, AllZip, Contains, IsDistinct}
 use Rattle.std.proofs.lemmas.Int.{ints}
 use Rattle.std.proofs.lemmas.List.{length-map, get_or_default}
-use Rattle.std.proofs.Math.Nat.{div-lt_iff_lt-mul}
+use Rattle.std.proofs.Math.Nat.{div-lt_iff_lt-mul, mul-le-mul_right}
 use mathlib.Core.Bool.{true≢false}
 use lib.Ieee.{Float, nan}
 use Rattle.assign_core.specs.declared.sense.Sense.{Sense}
 use Rattle.assign_core.specs.Numbered.{IsMarked, IsNumber, numbered}
 use Rattle.assign_core.specs.Rows.{Listing, IsListed, listed_in, listed_or_zero, row_of}
-use Rattle.assign_core.specs.Assignment.{AreListed, IsAssignment}
+use Rattle.assign_core.specs.Assignment.{AreListed, IsAssignment, IsBest}
 use Rattle.assign_core.specs.Prices.{price_of}
 use Rattle.assign_core.proofs.Listed.{object_within}
 use Rattle.assign_core.proofs.NumberedLemmas.{numbered-index, numbered-next}
@@ -20,9 +20,13 @@ use Rattle.dual_checker.specs.Faults.{IsFirst, IsUnlisted, own_object}
 use Rattle.double_costs.specs.Units.{is_number, units_of}
 use Rattle.double_costs.specs.DoubleRows.{is_cost, row_of_doubles, rows_of_doubles}
 use Rattle.double_costs.specs.Prices.{AreChoicesBy, AreLeastUnowned, IsChoiceBy, IsPricedBest}
-use Rattle.double_costs.proofs.DoublePairs.{length-rows_of_doubles, part_length, row_within}
+use Rattle.double_costs.proofs.DoublePairs.{doubles_within, length-rows_of_doubles, part_length, row_within}
+use Rattle.double_costs.proofs.PricedDuality.{best_priced}
+use Rattle.double_checker.specs.inside.Outcome.{IsVerdictOrFault}
 use Rattle.double_checker.specs.Far.{HasFar}
-use Rattle.double_checker.specs.Verdicts.{AreCosts, AreLong, IsFarApart, compared, price_units}
+use Rattle.double_checker.specs.Verdicts.{AreCosts, AreDoubles, AreLong, IsFarApart, IsVerdict, IsWithPrices, compared, price_units}
+use Rattle.double_checker.specs.declared.verdict.Verdict.{Verdict}
+use Rattle.double_checker.specs.declared.verdict.Verdict.TheVariants.{Length, Cost, Unlisted, Twice, Price, Undecided, Best}
 use Rattle.double_checker.specs.inside.Sizes.{size_of}
 use Rattle.double_checker.specs.inside.Pairs.{HasOpen, at, paid, row_part}
 use Rattle.double_checker.specs.inside.Plans.{AreLeastUnmarked, AreOwn, AreRowsSeen, HasOpenRow, IsFirstNotOwn, IsOwn, IsRowSeen, MarksJust, own_place}
@@ -186,11 +190,13 @@ open_far sense m costs xs prices long priced own each (i, lt, (j, within, reason
                 absurd (omega (arith, ints))
             | inr g ↦ (
                 i + 1,
-                j + 1,
-                record {
-                  listed = rw p.row (rw ly (search rules));
-                  far = subst HasFar (sym (sizes_compared m costs xs prices i j p ex ep ey eq)) g;
-                },
+                (
+                  j + 1,
+                  record {
+                    listed = rw p.row (rw ly (search rules));
+                    far = subst HasFar (sym (sizes_compared m costs xs prices i j p ex ep ey eq)) g;
+                  },
+                ),
               )
           ]
     ]
@@ -201,7 +207,7 @@ open_far sense m costs xs prices long priced own each (i, lt, (j, within, reason
         subst (λ (z : Float). IsTrue (is_cost sense z)) (sym (part_at m i j costs within)) (each (i * m + j) nan (place_below i (length xs) m j lt within long))
       where
         place_below : (i n m j : ℕ) → i < n → j < m → length costs ≡ n * m → i * m + j < length costs
-        place_below i n m j a b e = omega (arith, e)
+        place_below i n m j a b e = let most : suc i * m ≤ n * m = mul-le-mul_right m a in omega (arith, e)
 
     sizes_compared : (m : ℕ) (costs : List Float) (xs : List ℕ) (prices : List Float) (i j : ℕ) → (p : IsPerson m costs xs i) →
         listed_or_zero (row_of_doubles 1 (row_part m i costs)) (own_place xs i + 1) ≡ units_of (at (row_part m i costs) (own_place xs i)) →
@@ -221,3 +227,53 @@ open_far sense m costs xs prices long priced own each (i, lt, (j, within, reason
         four : {a b x y a' b' x' y' : ℕ} → a ≡ a' → b ≡ b' → x ≡ x' → y ≡ y' → (a ∷ b ∷ x ∷ y ∷ []) ≡ (a' ∷ b' ∷ x' ∷ y' ∷ [])
         four {a = a} {b = b} {x = x} {y = y} {a' = a'} {b' = b'} {x' = x'} e f g h =
             ap (λ z. z ∷ b ∷ x ∷ y ∷ []) e ∙ ap (λ z. a' ∷ z ∷ x ∷ y ∷ []) f ∙ ap (λ z. a' ∷ b' ∷ z ∷ y ∷ []) g ∙ ap (λ z. a' ∷ b' ∷ x' ∷ z ∷ []) h
+
+-- the verdicts on a plan with finite prices
+pub with_prices : (sense : Sense) (costs : List Float) (xs : List ℕ) (prices : List Float) → AreLong (length xs) (length prices) costs xs prices → IsAssignment (rows_of_doubles (length prices) (length xs) costs) xs →
+    All (λ p. IsTrue (is_number p)) prices → AreCosts sense costs → IsWithPrices sense (length xs) (length prices) costs xs prices
+with_prices sense costs xs prices long a finite each = record { doubles = record { long = long; costs_are = each }; assigned = a; finite = finite }
+
+pub best_is : (sense : Sense) (costs : List Float) (xs : List ℕ) (prices : List Float) (margin : Float) (owned : List Bool) (b : Bool) → AreLong (length xs) (length prices) costs xs prices →
+    AreOwn (length prices) costs xs → IsAssignment (rows_of_doubles (length prices) (length xs) costs) xs → All (λ p. IsTrue (is_number p)) prices → MarksJust owned xs → AreLeastUnmarked owned prices →
+    AreRowsSeen sense (units_of margin) (length prices) costs xs prices b (length xs) → AreCosts sense costs → IsVerdict sense (length xs) (length prices) costs xs prices margin (Best b)
+best_is sense costs xs prices margin owned b long own a finite marks low seen each = (
+  with_prices sense costs xs prices long a finite each,
+  record {
+    assigned = a;
+    choices = plan_choices sense (units_of margin) (length prices) costs xs prices b long.costs_long refl own seen;
+    unowned = unowned_least (length prices) xs prices owned refl marks low;
+  },
+  plan_choices_by sense (units_of margin) (length prices) costs xs prices b long.costs_long refl own seen,
+)
+
+pub dear_is : (sense : Sense) (costs : List Float) (xs : List ℕ) (prices : List Float) (margin : Float) (owned : List Bool) → AreLong (length xs) (length prices) costs xs prices →
+    IsAssignment (rows_of_doubles (length prices) (length xs) costs) xs → All (λ p. IsTrue (is_number p)) prices → MarksJust owned xs → (AreLeastUnmarked owned prices → ⊥) →
+    AreCosts sense costs → IsVerdict sense (length xs) (length prices) costs xs prices margin Undecided
+dear_is sense costs xs prices margin owned long a finite marks dear each = (
+  with_prices sense costs xs prices long a finite each,
+  λ best. absurd (dear (least_unowned (length prices) xs prices owned refl marks best.unowned)),
+)
+
+pub open_is : (sense : Sense) (costs : List Float) (xs : List ℕ) (prices : List Float) (margin : Float) → AreLong (length xs) (length prices) costs xs prices →
+    AreOwn (length prices) costs xs → IsAssignment (rows_of_doubles (length prices) (length xs) costs) xs → All (λ p. IsTrue (is_number p)) prices → HasOpenRow sense (length prices) costs xs prices →
+    AreCosts sense costs → IsVerdict sense (length xs) (length prices) costs xs prices margin Undecided
+open_is sense costs xs prices margin long own a finite row each =
+    (with_prices sense costs xs prices long a finite each, λ best. open_far sense (length prices) costs xs prices long.costs_long refl own each row best)
+
+pub all_numbers : (m : ℕ) (costs : List Float) (xs : List ℕ) → AreOwn m costs xs → All (IsNumber m) xs
+all_numbers m costs xs own k d lt = subst (IsNumber m) (get_or_default xs k 0 d lt) (own k lt).number
+
+no_cost : (k : ℕ) (b : Bool) → Cost k ≡ Best b → ⊥
+no_cost k b e = cc
+
+pub best_of : (sense : Sense) (n m : ℕ) (costs : List Float) (xs : List ℕ) (prices : List Float) (margin : Float) (v r : Verdict) (b : Bool) → length xs ≡ n → length prices ≡ m →
+    IsVerdictOrFault sense costs v r → (AreCosts sense costs → IsVerdict sense (length xs) (length prices) costs xs prices margin v) → ((a : Bool) → v ≡ Best a → AreCosts sense costs) →
+    r ≡ Best b → IsBest sense (rows_of_doubles m n costs) xs
+best_of sense n m costs xs prices margin v r b persons objects o verdict best e = elim o [
+  | inl h ↦
+      let g : v ≡ Best b = sym h.0 ∙ e in
+      let p = subst (IsVerdict sense (length xs) (length prices) costs xs prices margin) g (verdict (best b g)) in
+      subst (λ (q : ℕ). IsBest sense (rows_of_doubles m q costs) xs) persons (subst (λ (q : ℕ). IsBest sense (rows_of_doubles q (length xs) costs) xs) objects
+      (best_priced sense (length prices) (rows_of_doubles (length prices) (length xs) costs) xs (price_units prices) (doubles_within (length prices) (length xs) costs) p.1))
+  | inr h ↦ absurd (no_cost h.0 b (sym h.1 ∙ e))
+]

@@ -1,10 +1,11 @@
 // The checker of plans.
-ghost use Rattle.std.specs.Prelude.{◌≡◌, ◌<◌, ◌^◌, Bool, All, IsTrue, IfSome, MatchOption, length};
+ghost use Rattle.std.specs.Prelude.{◌≡◌, ◌<◌, ◌^◌, Bool, false, All, IsTrue, length};
 ghost use Rattle.assign_core.specs.Assignment.{IsAssignment, IsBest};
 ghost use Rattle.double_costs.specs.DoubleRows.{rows_of_doubles};
 ghost use Rattle.double_costs.specs.Units.{is_number};
 ghost use Rattle.double_checker.specs.Verdicts.{AreCosts, AreLong, IsVerdict};
 ghost use Rattle.double_checker.specs.inside.Plans.{AreOwn, MarksJust};
+ghost use Rattle.double_checker.specs.inside.Outcome.{IsVerdictOrFault};
 
 use super::objects::{clear, first_given_before, first_unlisted};
 use super::prices::{are_least_unmarked, first_no_price};
@@ -34,11 +35,12 @@ fn verdict_on_prices(
         (length prices.now) costs.now objects.now prices.now margin result }
     ensures best { (by_margin : Bool) → result ≡ Verdict.Best by_margin → AreCosts sense costs.now }
 {
-    let seen = are_rows_seen(sense, costs, objects, prices, margin);
-    let is_least = are_least_unmarked(owned, prices);
-    match seen {
-        Some(by_margin) if is_least => Verdict::Best { by_margin },
-        _ => Verdict::Undecided,
+    if !are_least_unmarked(owned, prices) {
+        return Verdict::Undecided;
+    }
+    match are_rows_seen(sense, costs, objects, prices, margin) {
+        Some(by_margin) => Verdict::Best { by_margin },
+        None => Verdict::Undecided,
     }
 }
 
@@ -72,9 +74,22 @@ fn verdict_on_plan(
     verdict_on_prices(sense, costs, objects, prices, margin, owned)
 }
 
-// The verdict, or the first fault of the costs, if they have one.
-fn verdict_or_fault(sense: Sense, costs: &[f64], verdict: Verdict) -> Verdict {
-    if let Verdict::Best { by_margin: _ } = verdict {
+// Whether the plan is best.
+fn is_best(verdict: Verdict) -> bool
+    ensures yes { IsTrue result → (b : Bool) × (verdict ≡ Verdict.Best b) }
+    ensures no { result ≡ false → (b : Bool) → ¬ (verdict ≡ Verdict.Best b) }
+{
+    match verdict {
+        Verdict::Best { by_margin: _ } => true,
+        _ => false,
+    }
+}
+
+// The verdict, or the first fault of the costs if the plan isn't best and they have one.
+fn verdict_or_fault(sense: Sense, costs: &[f64], verdict: Verdict) -> Verdict
+    ensures { IsVerdictOrFault sense costs.now verdict result }
+{
+    if is_best(verdict) {
         return verdict;
     }
     match first_fault(sense, costs) {
