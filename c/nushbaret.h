@@ -269,7 +269,7 @@ struct nushbaret_doubles_info {
     uint64_t objects;   /* how many objects it has */
     uint64_t person;    /* the person that a verdict names */
     uint64_t object;    /* the object that a verdict names */
-    uint32_t by_margin; /* 1: each other object of a person is worse by a margin, so that no other plan is as good; 0: not shown */
+    uint32_t by_margin; /* 1: each other object of a person is worse by a margin, so that no plan is as good; 0: not shown */
 };
 
 /* Solves a dense problem over doubles: costs[(i - 1) * m + (j - 1)] is that of person i and object j. There are n * m costs,
