@@ -101,7 +101,7 @@ hall_from n m costs persons objects named long wide pw ow pr or fewer marks rows
 
 pub objects_in : (n m : ℕ) (costs : List Float) (persons objects : List ℕ) → length costs ≡ n * m → IsHallSet (rows_of_doubles m n costs) persons objects → All (IsNumber m) objects
 objects_in n m costs persons objects long h k d lt =
-    let a = (h.neighbours (get_or objects k d)).0 (k, lt, refl) in
+    let a = (h.neighbours (get_or objects k d)).0 (k, lt, get_or_default objects k (get_or objects k d) d lt) in
     (listed_to n m costs a.0 (get_or objects k d) long a.2).object
 
 pub persons_in : (n m : ℕ) (costs : List Float) (persons objects : List ℕ) → IsHallSet (rows_of_doubles m n costs) persons objects → All (IsNumber n) persons
