@@ -9,3 +9,5 @@ pub mod Given
 pub mod Unmarked
 pub mod PlanRows
 pub mod PlanProofs
+pub mod Rising
+pub mod HallProofs

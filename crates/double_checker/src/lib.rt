@@ -6,6 +6,8 @@ mod checker;
 mod digits;
 mod exact;
 mod hall;
+mod hall_lists;
+mod hall_rows;
 mod numbers;
 mod objects;
 mod pairs;
