@@ -43,10 +43,10 @@ unfolding of_fields
 fields x s k t n e = elim (eqb_tells (suc k) 2047) [
   | inl g ↦ absurd (go (eqb t 0) (e ∙ ap (λ (b : Bool). cond b (cond (eqb t 0) (inf s) nan) (odd 53 s (2 ^ 52 + t) k 1074)) g.0))
   | inr g ↦ (
-      subst (λ (y : Float). IsUnits y ((2 ^ 52 + t) * 2 ^ k)) (sym (e ∙ ap (λ (b : Bool). cond b (cond (eqb t 0) (inf s) nan) (odd 53 s (2 ^ 52 + t) k 1074)) g.0))
-      (value_units (odd 53 s (2 ^ 52 + t) k 1074) s ((2 ^ 52 + t) * 2 ^ k) (odd_sign 53 s (2 ^ 52 + t) k 1074)),
-      g.1,
-    )
+    subst (λ (y : Float). IsUnits y ((2 ^ 52 + t) * 2 ^ k)) (sym (e ∙ ap (λ (b : Bool). cond b (cond (eqb t 0) (inf s) nan) (odd 53 s (2 ^ 52 + t) k 1074)) g.0))
+        (value_units (odd 53 s (2 ^ 52 + t) k 1074) s ((2 ^ 52 + t) * 2 ^ k) (odd_sign 53 s (2 ^ 52 + t) k 1074)),
+    g.1,
+  )
 ]
   where
     go : (b : Bool) → x ≡ cond b (inf s) nan → ⊥
@@ -82,7 +82,7 @@ pub digits_small : (x : Float) → T (fits binary64 x) → IsTrue (is_number x) 
 digits_small x f n z =
     let t : ℕ = to_bits binary64 x % 9223372036854775808 % 4503599627370496 in
     let b = by_fields x f ∙ ap (λ (k : ℕ). of_fields binary64 (leb (top binary64) (to_bits binary64 x)) k (to_bits binary64 x % 4503599627370496)) z
-        ∙ ap (λ (k : ℕ). of_fields binary64 (leb (top binary64) (to_bits binary64 x)) 0 k) (sym (low_part (to_bits binary64 x))) in
+    ∙ ap (λ (k : ℕ). of_fields binary64 (leb (top binary64) (to_bits binary64 x)) 0 k) (sym (low_part (to_bits binary64 x))) in
     let u = small_fields x (leb (top binary64) (to_bits binary64 x)) t b in
     record {
       size = u.size;
@@ -107,7 +107,7 @@ digits_large x f n z =
     let k : ℕ = b % 9223372036854775808 / 4503599627370496 - 1 in
     let e : b % 9223372036854775808 / 4503599627370496 ≡ suc k = omega arith in
     let g = by_fields x f ∙ ap (λ (i : ℕ). of_fields binary64 (leb (top binary64) b) i (b % 4503599627370496)) e
-        ∙ ap (λ (i : ℕ). of_fields binary64 (leb (top binary64) b) (suc k) i) (sym (low_part b)) in
+    ∙ ap (λ (i : ℕ). of_fields binary64 (leb (top binary64) b) (suc k) i) (sym (low_part b)) in
     let u = fields x (leb (top binary64) b) k t n g in
     let same : (2 ^ 52 + t) * 2 ^ k ≡ (t + 4503599627370496) * 2 ^ k = ap (λ (i : ℕ). i * 2 ^ k) (omega arith) in
     let v : IsUnits x ((t + 4503599627370496) * 2 ^ k) = subst (IsUnits x) same u.0 in

@@ -79,8 +79,7 @@ hall_from n m costs persons objects named long wide pw ow pr or fewer marks rows
       let e : get_or objects c.0 0 ≡ j = get_or_default objects c.0 0 j c.1 ∙ c.2 in
       let a = allowed c.0 c.1 in
       let p : ℕ = get_or persons a.0 0 in
-      let nj : IsNumber m j = subst (IsNumber m) e (ow c.0 0 c.1) in
-      (
+      let nj : IsNumber m j = subst (IsNumber m) e (ow c.0 0 c.1) in (
         p,
         (a.0, a.1, get_or_default persons a.0 p 0 a.1),
         listed_from n m costs p j long (pw a.0 0 a.1) nj (subst (λ (q : ℕ). IsTrue (is_number (at costs ((p - 1) * m + (q - 1))))) e a.2),

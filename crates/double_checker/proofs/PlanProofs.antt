@@ -189,15 +189,15 @@ open_far sense m costs xs prices long priced own each (i, lt, (j, within, reason
                 let h = paid_in_order sense (price_units prices) (own_place xs i + 1) (j + 1) (listed_or_zero (row_of_doubles 1 row) (own_place xs i + 1)) (units_of y) x (at prices (own_place xs i)) y (at prices j) ex ep refl eq (c (j + 1) (units_of y) ly) in
                 absurd (omega (arith, ints))
             | inr g ↦ (
-                i + 1,
-                (
-                  j + 1,
-                  record {
-                    listed = rw p.row (rw ly (search rules));
-                    far = subst HasFar (sym (sizes_compared m costs xs prices i j p ex ep ey eq)) g;
-                  },
-                ),
-              )
+              i + 1,
+              (
+                j + 1,
+                record {
+                  listed = rw p.row (rw ly (search rules));
+                  far = subst HasFar (sym (sizes_compared m costs xs prices i j p ex ep ey eq)) g;
+                },
+              ),
+            )
           ]
     ]
   where
@@ -222,7 +222,7 @@ open_far sense m costs xs prices long priced own each (i, lt, (j, within, reason
         ∙ ap (λ (r : Listing). unsigned_abs (listed_or_zero r (own_place xs i + 1)) ∷ unsigned_abs (price_of (price_units prices) (own_place xs i + 1))
         ∷ unsigned_abs (listed_or_zero r (j + 1)) ∷ unsigned_abs (price_of (price_units prices) (j + 1)) ∷ []) p.row
         ∙ four (ap unsigned_abs ex ∙ size_abs (at (row_part m i costs) (own_place xs i))) (ap unsigned_abs ep ∙ size_abs (at prices (own_place xs i)))
-          (ap unsigned_abs ey ∙ size_abs (at (row_part m i costs) j)) (ap unsigned_abs eq ∙ size_abs (at prices j))
+        (ap unsigned_abs ey ∙ size_abs (at (row_part m i costs) j)) (ap unsigned_abs eq ∙ size_abs (at prices j))
       where
         four : {a b x y a' b' x' y' : ℕ} → a ≡ a' → b ≡ b' → x ≡ x' → y ≡ y' → (a ∷ b ∷ x ∷ y ∷ []) ≡ (a' ∷ b' ∷ x' ∷ y' ∷ [])
         four {a = a} {b = b} {x = x} {y = y} {a' = a'} {b' = b'} {x' = x'} e f g h =

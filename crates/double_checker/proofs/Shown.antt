@@ -96,8 +96,11 @@ pub open_turned : (sense : Sense) (own_cost own_price cost price : Float) → Is
 open_turned sense own_cost own_price cost price n h =
     let x = units_turned sense own_cost in
     let y = units_turned sense cost in
-    inr (record { finite = n; reason = elim h [
-      | inl l ↦ inl (omega (arith, ints))
-      | inr f ↦ inr (subst (λ (z : ℕ). HasFar (z ∷ size_of own_price ∷ size_of cost ∷ size_of price ∷ [])) (size_turned sense own_cost)
-          (subst (λ (z : ℕ). HasFar (size_of (turned sense own_cost) ∷ size_of own_price ∷ z ∷ size_of price ∷ [])) (size_turned sense cost) f))
-    ] })
+    inr (record {
+      finite = n;
+      reason = elim h [
+        | inl l ↦ inl (omega (arith, ints))
+        | inr f ↦ inr (subst (λ (z : ℕ). HasFar (z ∷ size_of own_price ∷ size_of cost ∷ size_of price ∷ [])) (size_turned sense own_cost)
+            (subst (λ (z : ℕ). HasFar (size_of (turned sense own_cost) ∷ size_of own_price ∷ z ∷ size_of price ∷ [])) (size_turned sense cost) f))
+      ];
+    })

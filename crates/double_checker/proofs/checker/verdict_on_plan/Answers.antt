@@ -21,8 +21,7 @@ returns-in-Some-first_given_before-clause-verdict c = λ each.
 
 pub returns-in-Some-first_no_price-clause-verdict : goal.returns-in-Some-first_no_price-clause-verdict
 returns-in-Some-first_no_price-clause-verdict c = λ each.
-    let a = c.args in
-    (
+    let a = c.args in (
       record { long = c.requires.long; costs_are = each },
       record { listed = plan_listed (length a.prices.now) a.costs.now a.objects.now c.requires.long.costs_long c.in_default.ensures; apart = c.in_default-first_given_before.ensures.0 },
       c.in-Some-first_no_price.ensures,
