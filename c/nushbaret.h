@@ -143,7 +143,9 @@ enum nushbaret_code {
 
     NUSHBARET_OVERPRICED = 20,   /* nobody has info->object, the lowest, and its price isn't 0 */
 
-    NUSHBARET_STOPPED = 21       /* the budget is spent: the same call goes on */
+    NUSHBARET_STOPPED = 21,      /* the budget is spent: the same call goes on */
+
+    NUSHBARET_UNDECIDED = 23     /* over doubles: nothing is proved, as where plans differ by less than rounding */
 };
 
 /* Where a search stands that a budget stopped. All 0: it begins. What the fields mean is the library's own affair, and may
@@ -239,6 +241,63 @@ int32_t nushbaret_check_hall(size_t n, size_t m,
     const uint32_t *persons, size_t persons_count,
     const uint32_t *objects, size_t objects_count,
     struct nushbaret_info *info);
+
+/* DOUBLES. Dense problems whose costs are doubles, each of which is taken for exactly the number that it is. An infinity
+   forbids its pair: the positive one under NUSHBARET_MIN, the negative one under NUSHBARET_MAX. What is no number and the
+   other infinity are faults: NUSHBARET_COST, with the first one's place. What a caller owes and what a call keeps is as
+   above; `info` is a struct of its own.
+
+   code                  written
+   NUSHBARET_BEST        solving: objects and prices; and info->by_margin in each call
+   NUSHBARET_HALL        info->persons and info->objects say how many numbers stand at the beginning of persons and of
+                         objects, rising
+   NUSHBARET_COST        info->place
+   NUSHBARET_UNLISTED, NUSHBARET_TWICE                                                  info->person
+   NUSHBARET_PRICE_RANGE                                                                info->object
+   any other             nothing
+
+   NUSHBARET_BEST: no plan has a lesser sum (under NUSHBARET_MAX a greater one) in exact arithmetic, without any rounding.
+   At the prices, which are doubles, each person's own object is a best one, and no price is below that of an object that
+   nobody has. NUSHBARET_HALL: there is no plan. NUSHBARET_UNDECIDED says neither: plans that differ by less than the
+   rounding of their costs are mostly why, or costs of very different sizes. */
+
+/* What a call over doubles reports in addition to its lists. */
+struct nushbaret_doubles_info {
+    uint64_t place;     /* the place of a fault in the costs */
+    uint64_t persons;   /* how many persons a Hall set has */
+    uint64_t objects;   /* how many objects it has */
+    uint64_t person;    /* the person that a verdict names */
+    uint64_t object;    /* the object that a verdict names */
+    uint32_t by_margin; /* 1: each other object of a person is worse by a margin, so that no plan is as good; 0: not shown */
+};
+
+/* Solves a dense problem over doubles: costs[(i - 1) * m + (j - 1)] is that of person i and object j. There are n * m costs,
+   n values in objects, n in persons and m in prices. */
+int32_t nushbaret_doubles(uint32_t sense, size_t n, size_t m,
+    const double *costs, size_t costs_count,
+    uint32_t *objects, size_t objects_count,
+    uint32_t *persons, size_t persons_count,
+    double *prices, size_t prices_count,
+    struct nushbaret_doubles_info *info);
+
+/* The same from an earlier plan and its prices, which are read from objects (0: the person has none) and prices. Where a few
+   rows changed since, set their objects to 0: each takes one search for a shortest path. Whatever the lists hold, the answer
+   is as good. */
+int32_t nushbaret_doubles_from(uint32_t sense, size_t n, size_t m,
+    const double *costs, size_t costs_count,
+    uint32_t *objects, size_t objects_count,
+    uint32_t *persons, size_t persons_count,
+    double *prices, size_t prices_count,
+    struct nushbaret_doubles_info *info);
+
+/* Checks a plan and prices of any origin: NUSHBARET_BEST says that these prices prove these objects best. A person whose object
+   isn't there or is forbidden is NUSHBARET_UNLISTED, one whose object a person before it has NUSHBARET_TWICE, an object
+   whose price isn't finite NUSHBARET_PRICE_RANGE; the lowest is named. Else it is NUSHBARET_UNDECIDED. */
+int32_t nushbaret_check_doubles(uint32_t sense, size_t n, size_t m,
+    const double *costs, size_t costs_count,
+    const uint32_t *objects, size_t objects_count,
+    const double *prices, size_t prices_count,
+    struct nushbaret_doubles_info *info);
 
 /* Writes the version of the library and a 0 into the room if they fit, leaves a smaller room as it is, and
    returns the length of the version without the 0. */

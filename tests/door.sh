@@ -81,6 +81,11 @@ if [ "$("$work/example_rows" 2> /dev/null)" != $'cost -1, and no plan costs less
 fi
 run 'rows: calls' python3 "$top/tests/door/rows.py" "$top/c/out/libnushbaret.so"
 
+# Costs in doubles: each code, drawn problems, and each growth refused.
+run 'doubles: calls' python3 "$top/tests/door/doubles.py" "$top/c/out/libnushbaret.so"
+run 'doubles: build' cc "${c99[@]}" "${flags[@]}" "$top/tests/door/doubles.c" "$archive" "${wrapped[@]}" -o "$work/doubles"
+run 'doubles: memory' "$work/doubles"
+
 if ! type -P aarch64-linux-gnu-gcc > /dev/null; then
     run 'no compiler for ARM' asks_for_its_compiler
     ran="$ran; not on ARM: no aarch64-linux-gnu-gcc"

@@ -12,11 +12,12 @@ CALLS = TOP / "crates/nushbaret/src"
 LISTS = TOP / "crates/lent_lists/src"
 SOLVER = TOP / "crates/list_solver/src"
 ROWS = TOP / "crates/lent_rows/src/info.rt"
+DOUBLES = TOP / "crates/lent_doubles/src"
 HEADER = re.sub(r"/\*.*?\*/", "", (TOP / "c/nushbaret.h").read_text(), flags=re.S)
-NUMBERS = {"u8": "uint8_t", "u32": "uint32_t", "u64": "uint64_t", "usize": "size_t", "i32": "int32_t", "i64": "int64_t",
+NUMBERS = {"u8": "uint8_t", "u32": "uint32_t", "u64": "uint64_t", "usize": "size_t", "i32": "int32_t", "i64": "int64_t", "f64": "double",
            "Person": "uint32_t", "Object": "uint32_t", "Cost": "int64_t", "Price": "int64_t",
            "Record": "struct nushbaret_record", "Info": "struct nushbaret_info",
-           "RowsInfo": "struct nushbaret_rows_info"}
+           "RowsInfo": "struct nushbaret_rows_info", "DoublesInfo": "struct nushbaret_doubles_info"}
 # What a code's variant is called in the header, where that isn't its own name.
 CALLED = {"Verdict::Length": "ANSWER_LENGTH", "Verdict::PriceRange": "PRICE_RANGE", "HallVerdict::Range": "HALL_RANGE",
           "HallVerdict::Order": "HALL_ORDER", "HallVerdict::Missing": "HALL_MISSING",
@@ -74,6 +75,15 @@ def row_codes():
         yield "SHOWN" if variant == "Costs" else called.get(variant, variant.upper()), int(number)
 
 
+def double_codes():
+    """The codes of calls over doubles: most of them are those of other calls."""
+    called = {"Verdict::Price": "PRICE_RANGE"}
+    for file in ["fault.rt", "solve.rt", "check.rt"]:
+        text = (DOUBLES / file).read_text()
+        for kind, variant, number in re.findall(r"(Fault|End|Verdict)::(\w+)(?:\([^)]*\))? => (?:\{[^}]*?\n\s*)?(\d+)[,\n]", text):
+            yield called.get(f"{kind}::{variant}", variant.upper()), int(number)
+
+
 def fields(struct):
     body = re.search(rf"struct {struct} \{{(.*?)\}}", HEADER, flags=re.S)[1]
     return [tuple(line.split()) for line in body.split(";") if line.strip()]
@@ -90,11 +100,15 @@ compare("calls", sorted(declared), sorted(calls))
 for name in sorted(calls.keys() & declared.keys()):
     compare(name, declared[name], calls[name])
 compare("codes", dict(sorted((name, int(code)) for name, code in re.findall(r"NUSHBARET_(?!ROWS_)(\w+) = (\d+)",
-                                                                            HEADER))), dict(sorted(crate_codes())))
+                                                                            HEADER))),
+        dict(sorted({**dict(crate_codes()), **dict(double_codes())}.items())))
+compare("codes over doubles", {name: code for name, code in crate_codes() if name in dict(double_codes())},
+        {name: code for name, code in double_codes() if name in dict(crate_codes())})
 compare("codes of rows", dict(sorted((name, int(code))
                                      for name, code in re.findall(r"NUSHBARET_ROWS_(\w+) = (\d+)", HEADER))),
         dict(sorted(row_codes())))
 compare("nushbaret_rows_info", fields("nushbaret_rows_info"), crate_fields(ROWS, "RowsInfo"))
+compare("nushbaret_doubles_info", fields("nushbaret_doubles_info"), crate_fields(DOUBLES / "info.rt", "DoublesInfo"))
 compare("nushbaret_record", fields("nushbaret_record"), crate_fields(SOLVER / "record.rt", "Record"))
 compare("nushbaret_info", fields("nushbaret_info"), crate_fields(LISTS / "info.rt", "Info"))
 for crate, name, named in [("cost_lists", "MOST_PERSONS", "GREATEST_NUMBER"),

@@ -4,12 +4,14 @@
 
 mod check;
 mod dense;
+mod doubles;
 mod rows;
 mod sparse;
 mod version;
 
 pub use check::{nushbaret_check, nushbaret_check_hall};
 pub use dense::{nushbaret_dense, nushbaret_dense_from};
+pub use doubles::{nushbaret_check_doubles, nushbaret_doubles, nushbaret_doubles_from};
 pub use rows::nushbaret_rows;
 pub use sparse::{nushbaret_sparse, nushbaret_sparse_from};
 pub use version::nushbaret_version;

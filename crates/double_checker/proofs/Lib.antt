@@ -1,0 +1,13 @@
+pub mod Finite
+pub mod FloatOrder
+pub mod DigitsOf
+pub mod Scales
+pub mod Spread
+pub mod Shown
+pub mod RowSteps
+pub mod Given
+pub mod Unmarked
+pub mod PlanRows
+pub mod PlanProofs
+pub mod Rising
+pub mod HallProofs

@@ -1,0 +1,4 @@
+pub mod Far
+pub mod Verdicts
+pub mod HallVerdicts
+pub mod inside

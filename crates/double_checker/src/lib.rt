@@ -1,0 +1,20 @@
+//! Checks plans with dual prices over costs in doubles, and Hall sets, wherever they come from. What
+//! it accepts is exactly best.
+#![tactic(auto)]
+
+mod checker;
+mod digits;
+mod exact;
+mod hall;
+mod hall_lists;
+mod hall_rows;
+mod numbers;
+mod objects;
+mod pairs;
+mod prices;
+mod rows;
+mod verdict;
+
+pub use checker::check;
+pub use hall::{HallVerdict, check_hall};
+pub use verdict::Verdict;

@@ -1,0 +1,5 @@
+pub mod RoundedOrder
+pub mod RoundedUnits
+pub mod RoundedSums
+pub mod PricedDuality
+pub mod DoublePairs

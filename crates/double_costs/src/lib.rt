@@ -1,0 +1,9 @@
+//! Costs in doubles: the whole numbers that they are, the rows of persons that they make, and what
+//! proves a plan for them best.
+#![tactic(auto)]
+
+mod faults;
+mod law;
+
+pub use faults::{first_fault, is_cost};
+pub use law::{double_pairs, exact_prices_mean_best, rounded_sums_tell};

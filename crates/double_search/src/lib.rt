@@ -1,0 +1,23 @@
+//! Plans and prices for costs that are doubles: an untrusted search over whole numbers of 64 bits,
+//! made of the doubles. Sums wrap, and a checker decides about what it finds.
+#![tactic(auto)]
+
+mod bids;
+mod block;
+mod hall;
+mod lists;
+mod margin;
+mod narrow;
+mod near;
+mod paths;
+mod range;
+mod reach;
+mod scale;
+mod solver;
+mod start;
+mod whole;
+
+pub use hall::HallSet;
+pub use narrow::to_narrow;
+pub use range::margin_of;
+pub use solver::{Ended, Problem, search, search_from, search_near};

@@ -1,0 +1,206 @@
+// Prices at which each other pair is worse by a margin: small steps on the prices of owned objects,
+// by longest paths among the near pairs.
+use super::lists::{Lists, Matrix, NOBODY, at, copy, number_of, place_of, put};
+use super::near::Nearness;
+use super::scale::Scale;
+
+// How far steps may go, and how far pairs count as near, in units.
+#[derive(Clone, Copy)]
+struct Bounds {
+    grid: i64,
+    margin: i64,
+    most: i64,
+}
+
+// Persons whose near pairs are to be looked at again, in a ring.
+#[derive(Clone, Copy)]
+struct Ring {
+    begin: usize,
+    count: usize,
+}
+
+// The nearest number of the grid, whose unit is a power of 2.
+fn on_grid(number: i64, grid: i64) -> i64 {
+    number.wrapping_add(grid >> 1) & grid.wrapping_neg()
+}
+
+fn up_to_grid(number: i64, grid: i64) -> i64 {
+    number.wrapping_add(grid.wrapping_sub(1)) & grid.wrapping_neg()
+}
+
+fn place_after(begin: usize, count: usize, size: usize) -> usize {
+    let place = begin.wrapping_add(count);
+    if place >= size {
+        place.wrapping_sub(size)
+    } else {
+        place
+    }
+}
+
+// The steps are in the levels, the ring in the passed, and who waits in it in the scanned.
+impl<'a> Lists<'a> {
+    fn begin_keys(&mut self, grid: i64) {
+        for k in 0..self.keys.len() {
+            let dual = at(self.duals, k);
+            self.keys[k] = on_grid(dual, grid);
+        }
+    }
+
+    // The greatest dual.
+    fn top(&self) -> i64 {
+        self.keys.iter().copied().max().unwrap_or(0)
+    }
+
+    fn has_near(&self, person: usize) -> bool {
+        at(self.starts, person) < at(self.starts, person.wrapping_add(1))
+    }
+
+    fn add(&mut self, ring: Ring, person: usize) -> Ring {
+        if at(self.scanned, person) != 0 || !self.has_near(person) {
+            return ring;
+        }
+        put(self.scanned, person, 1);
+        let place = place_after(ring.begin, ring.count, self.passed.len());
+        put(self.passed, place, number_of(person));
+        Ring {
+            count: ring.count.wrapping_add(1),
+            ..ring
+        }
+    }
+
+    // Duals of owned objects may rise as far as the greatest one, if an object is unowned.
+    fn begin_steps(&mut self, bounds: Bounds) -> Ring {
+        let top = self.top();
+        let has_unowned = self.has_unowned();
+        let least = (self.objects.len() as u64).cast_signed().wrapping_add(2);
+        let least = bounds.margin.wrapping_mul(least).wrapping_neg();
+        let mut ring = Ring { begin: 0, count: 0 };
+        for person in 0..self.objects.len() {
+            let object = place_of(at(self.objects, person));
+            let free = at(self.keys, object).wrapping_sub(top).max(least);
+            put(self.levels, person, if has_unowned { free } else { 0 });
+            put(self.scanned, person, 0);
+            ring = self.add(ring, person);
+        }
+        ring
+    }
+
+    // Puts the keys in place of the duals.
+    fn enter_keys(&mut self) {
+        let keys = &mut *self.keys;
+        let duals = &mut *self.duals;
+        copy(keys, duals);
+    }
+
+    // The steps that a person's near pairs need; none if they can't be taken.
+    fn step(&mut self, ring: Ring, person: usize, bounds: Bounds) -> Option<Ring> {
+        let mut ring = ring;
+        let own = at(self.levels, person);
+        let from = at(self.starts, person);
+        let to = at(self.starts, person.wrapping_add(1));
+        for k in place_of(from)..place_of(to) {
+            let owner = place_of(at(self.near, k));
+            let need = own.wrapping_sub(at(self.spare, k));
+            if need > at(self.levels, owner) {
+                let step = up_to_grid(need, bounds.grid);
+                if step > bounds.most.min(at(self.caps, owner)) {
+                    return None;
+                }
+                put(self.levels, owner, step);
+                ring = self.add(ring, owner);
+            }
+        }
+        Some(ring)
+    }
+
+    // Whether the first steps leave the unowned objects worse.
+    fn are_capped(&self) -> bool {
+        self.levels
+            .iter()
+            .zip(self.caps.iter())
+            .all(|(level, cap)| *level <= *cap)
+    }
+
+    fn take_steps(&mut self, bounds: Bounds) -> bool {
+        let mut ring = self.begin_steps(bounds);
+        if !self.are_capped() {
+            return false;
+        }
+        let persons = self.objects.len();
+        for _ in 0..persons.saturating_mul(20).saturating_add(100) {
+            if ring.count == 0 {
+                return true;
+            }
+            let person = place_of(at(self.passed, ring.begin));
+            put(self.scanned, person, 0);
+            let left = Ring {
+                begin: place_after(ring.begin, 1, persons),
+                count: ring.count.wrapping_sub(1),
+            };
+            match self.step(left, person, bounds) {
+                Some(next) => ring = next,
+                None => return false,
+            }
+        }
+        false
+    }
+
+    fn enter_steps(&mut self) {
+        for person in 0..self.objects.len() {
+            let object = place_of(at(self.objects, person));
+            let dual = at(self.keys, object).wrapping_sub(at(self.levels, person));
+            put(self.keys, object, dual);
+        }
+    }
+
+    // Duals at which each near pair is worse by its margin, in place of these, which may be off by
+    // so many units. Returns whether there are any.
+    fn spread_by(&mut self, matrix: Matrix<'_>, bounds: Bounds, nearness: Nearness) -> bool {
+        self.begin_keys(bounds.grid);
+        if !self.gather_near(matrix, nearness) || !self.take_steps(bounds) {
+            return false;
+        }
+        self.enter_steps();
+        self.enter_keys();
+        true
+    }
+
+    // The same for a margin.
+    fn spread_of(
+        &mut self,
+        matrix: Matrix<'_>,
+        scale: Scale,
+        margin: i64,
+        of_equal: i64,
+        off: i64,
+    ) -> bool {
+        let persons = (self.objects.len() as u64).cast_signed();
+        let unit = scale.grid().max(off).max(margin >> 2);
+        let bounds = Bounds {
+            grid: scale.grid(),
+            margin,
+            most: unit.wrapping_mul(persons.wrapping_mul(8).wrapping_add(16)),
+        };
+        let nearness = Nearness {
+            most: unit.wrapping_mul(persons.wrapping_mul(16).wrapping_add(64)),
+            margin,
+            of_equal,
+            far: scale.far(),
+            room: if of_equal == 0 {
+                usize::MAX
+            } else {
+                self.objects.len().saturating_mul(3).saturating_add(16)
+            },
+        };
+        self.spread_by(matrix, bounds, nearness)
+    }
+
+    // Duals at which each other pair is worse by the margin that is wanted, or else each one whose
+    // cost isn't the same by the least margin.
+    pub fn spread(&mut self, matrix: Matrix<'_>, scale: Scale, off: i64) -> bool {
+        let least = scale.least_margin();
+        let wanted = scale.margin.max(least);
+        self.spread_of(matrix, scale, wanted, wanted, off)
+            || self.spread_of(matrix, scale, least, 0, off)
+    }
+}

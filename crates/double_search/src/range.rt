@@ -1,0 +1,124 @@
+// The range of the costs, as a search minimises them.
+use assign_core::Sense;
+
+// 2^-52: two doubles up to the greatest one are, together, off by less than this part of it.
+const PART: f64 = 0.0000000000000002220446049250313080847263336181640625;
+
+// The finite costs of a row.
+#[derive(Clone, Copy)]
+struct RowRange {
+    least: f64,
+    greatest: f64,
+    has_infinite: bool,
+}
+
+// The finite costs of all rows.
+#[derive(Clone, Copy)]
+pub struct Range {
+    pub least: f64,
+    pub greatest: f64,
+    // The greatest of the rows' least costs.
+    pub reach: f64,
+    pub has_infinite: bool,
+}
+
+fn range_of_row(row: &[f64], sign: f64) -> RowRange {
+    let mut least = f64::INFINITY;
+    let mut greatest = f64::NEG_INFINITY;
+    for cost in row {
+        let turned = *cost * sign;
+        least = if turned < least { turned } else { least };
+        greatest = if turned > greatest { turned } else { greatest };
+    }
+    RowRange {
+        least,
+        greatest,
+        has_infinite: greatest == f64::INFINITY,
+    }
+}
+
+fn greatest_finite(row: &[f64], sign: f64) -> f64 {
+    let mut greatest = f64::NEG_INFINITY;
+    for cost in row {
+        let turned = *cost * sign;
+        if turned > greatest && turned < f64::INFINITY {
+            greatest = turned;
+        }
+    }
+    greatest
+}
+
+fn greater(one: f64, other: f64) -> f64 {
+    if one > other { one } else { other }
+}
+
+fn lesser(one: f64, other: f64) -> f64 {
+    if one < other { one } else { other }
+}
+
+impl Range {
+    fn with(self, row: &[f64], sign: f64) -> Range {
+        let of_row = range_of_row(row, sign);
+        if of_row.least == f64::INFINITY {
+            return Range {
+                has_infinite: true,
+                ..self
+            };
+        }
+        let greatest = if of_row.has_infinite {
+            greatest_finite(row, sign)
+        } else {
+            of_row.greatest
+        };
+        Range {
+            least: lesser(self.least, of_row.least),
+            greatest: greater(self.greatest, greatest),
+            reach: greater(self.reach, of_row.least),
+            has_infinite: self.has_infinite || of_row.has_infinite,
+        }
+    }
+
+    // The range of rows of m costs each; `sign` is -1 where the greatest sum is wanted.
+    pub fn of(costs: &[f64], m: usize, sign: f64) -> Range {
+        let mut range = Range {
+            least: f64::INFINITY,
+            greatest: f64::NEG_INFINITY,
+            reach: f64::NEG_INFINITY,
+            has_infinite: false,
+        };
+        for row in costs.chunks(m.max(1)) {
+            range = range.with(row, sign);
+        }
+        range
+    }
+
+    // The greatest absolute value of a cost.
+    pub fn size(self) -> f64 {
+        greater(self.greatest.abs(), self.least.abs())
+    }
+
+    // A margin that no rounding of costs makes up for.
+    pub fn margin(self) -> f64 {
+        self.size() * PART
+    }
+
+    // That of the costs up to the greatest of the rows' least ones.
+    pub fn near_size(self) -> f64 {
+        greater(self.reach.abs(), self.least.abs())
+    }
+}
+
+// 1, or -1 where the greatest sum is wanted.
+pub fn sign_of(sense: Sense) -> f64 {
+    match sense {
+        Sense::Min => 1.0,
+        Sense::Max => -1.0,
+    }
+}
+
+/// The margin at which a search aims: 2^-52 of the greatest absolute value of a finite cost. Where
+/// each other pair of a person is worse by more, the plan is also best for all costs that these are
+/// the nearest doubles of.
+pub fn margin_of(sense: Sense, costs: &[f64]) -> f64 {
+    Range::of(costs, costs.len(), sign_of(sense)).margin()
+}

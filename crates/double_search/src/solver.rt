@@ -1,0 +1,301 @@
+// The search.
+ghost use Rattle.std.specs.Prelude.{◌≡◌, length};
+
+use super::block::{lists_in, room_of};
+use super::hall::{HallSet, all_persons, as_number, hall_set_of};
+use super::lists::{Lists, Matrix, at, place_of};
+use super::paths::Path;
+use super::range::{Range, sign_of};
+use super::scale::Scale;
+use super::whole::{FAR, to_duals, to_prices, to_whole};
+use assign_core::Sense;
+use std::alloc::{AllocError, Global};
+
+// Costs so many times as great as those that a plan will need are cut, for a finer unit.
+const CUT_FROM: f64 = 64.0;
+
+const CUT_TO: f64 = 32.0;
+
+/// Dense costs, row by row: an infinite one forbids its pair.
+#[derive(Clone, Copy)]
+pub struct Problem<'a> {
+    pub sense: Sense,
+    pub persons: usize,
+    pub objects: usize,
+    pub costs: &'a [f64],
+}
+
+/// How a search ends. A checker has to decide about what it found.
+#[derive(Drop)]
+pub enum Ended {
+    /// With a plan and prices, and the margin by which other pairs of a person may be worse.
+    Plan(f64),
+    /// With persons who list fewer objects than they are.
+    Hall(HallSet),
+    /// With nothing.
+    Lost,
+}
+
+// How a search in one unit ends.
+#[derive(Drop)]
+enum Tried {
+    Plan,
+    Hall(HallSet),
+    Lost,
+    // The plan has a cost that was cut.
+    Cut,
+}
+
+impl<'a> Problem<'a> {
+    pub fn sign(self) -> f64 {
+        sign_of(self.sense)
+    }
+
+    fn full_scale(self, range: Range) -> Scale {
+        Scale::of(
+            range.size(),
+            self.sign(),
+            range.margin(),
+            range.has_infinite,
+            false,
+        )
+    }
+
+    // The size of the costs that a plan will need, where most are far greater; else that of all.
+    fn size_in(self, range: Range) -> f64 {
+        let near = range.near_size();
+        if near > 0.0 && range.size() > CUT_FROM * near {
+            CUT_TO * near
+        } else {
+            range.size()
+        }
+    }
+
+    // A size above 0 of the costs that a plan will need.
+    pub fn near_size(self) -> f64 {
+        let size = self.size_in(Range::of(self.costs, self.objects, self.sign()));
+        if size > 0.0 { size } else { 1.0 }
+    }
+
+    fn scale(self, range: Range) -> Scale {
+        let size = self.size_in(range);
+        Scale::of(
+            size,
+            self.sign(),
+            range.margin(),
+            range.has_infinite,
+            size < range.size(),
+        )
+    }
+}
+
+// Whether a person has an object whose cost was cut.
+fn has_cut(matrix: Matrix<'_>, lists: &Lists<'_>, scale: Scale) -> bool {
+    let limit = (1i64 << 50).wrapping_mul(scale.grid());
+    for person in 0..lists.persons() {
+        if matrix.cost(person, place_of(at(lists.objects, person))) >= limit {
+            return true;
+        }
+    }
+    false
+}
+
+fn write_objects(lists: &Lists<'_>, objects: &mut [u32]) {
+    for (object, place) in objects.iter_mut().zip(lists.objects.iter()) {
+        *object = as_number(place_of(*place));
+    }
+}
+
+fn write(lists: &Lists<'_>, scale: Scale, objects: &mut [u32], prices: &mut [f64])
+    ensures objects { length objects.new ≡ length objects.old }
+    ensures prices { length prices.new ≡ length prices.old }
+{
+    write_objects(lists, objects);
+    if prices.len() == lists.duals.len() {
+        to_prices(lists.duals, prices, scale.unit);
+    }
+}
+
+// Where a search begins.
+#[derive(Clone, Copy)]
+enum Begin {
+    Nothing,
+    // With a plan and prices.
+    Plan,
+    // With a plan that is best, at the prices, within this difference.
+    Near(f64),
+}
+
+// Other duals with a margin, where a plan was found.
+fn with_margin(matrix: Matrix<'_>, lists: &mut Lists<'_>, scale: Scale, path: Path) -> Path {
+    if path == Path::Found {
+        let _ = lists.spread(matrix, scale, 0);
+    }
+    path
+}
+
+fn search_from_nothing(matrix: Matrix<'_>, lists: &mut Lists<'_>, scale: Scale) -> Path {
+    let path = lists.search_cold(matrix);
+    with_margin(matrix, lists, scale, path)
+}
+
+fn search_from_plan(matrix: Matrix<'_>, lists: &mut Lists<'_>, scale: Scale) -> Path {
+    let path = lists.search_warm(matrix);
+    with_margin(matrix, lists, scale, path)
+}
+
+// Duals with a margin, or those that there are if they are exact, or those of a search from there.
+fn search_from_near(matrix: Matrix<'_>, lists: &mut Lists<'_>, scale: Scale, off: f64) -> Path {
+    if !lists.has_all() {
+        return search_from_plan(matrix, lists, scale);
+    }
+    if lists.spread(matrix, scale, scale.small(off)) {
+        return Path::Found;
+    }
+    if lists.settle(matrix) == 0 && lists.are_unowned_on_top() {
+        return Path::Found;
+    }
+    search_from_plan(matrix, lists, scale)
+}
+
+fn search_begun(
+    matrix: Matrix<'_>,
+    lists: &mut Lists<'_>,
+    scale: Scale,
+    begin: Begin,
+    objects: &[u32],
+    prices: &[f64],
+) -> Path {
+    lists.release_all();
+    lists.enter(objects);
+    if prices.len() == lists.duals.len() {
+        to_duals(prices, lists.duals, scale);
+    }
+    match begin {
+        Begin::Nothing => search_from_nothing(matrix, lists, scale),
+        Begin::Plan => search_from_plan(matrix, lists, scale),
+        Begin::Near(off) => search_from_near(matrix, lists, scale, off),
+    }
+}
+
+// A search in this unit.
+fn search_in(
+    alloc: Global,
+    problem: Problem<'_>,
+    scale: Scale,
+    begin: Begin,
+    objects: &mut [u32],
+    prices: &mut [f64],
+) -> Result<Tried, AllocError>
+    ensures objects { length objects.new ≡ length objects.old }
+    ensures prices { length prices.new ≡ length prices.old }
+{
+    let (n, m) = (problem.persons, problem.objects);
+    let mut costs = vec![in alloc; 0i64; problem.costs.len()]?;
+    to_whole(problem.costs, costs.as_mut_slice(), scale);
+    let mut block = vec![in alloc; 0i64; room_of(n, m)]?;
+    let matrix = Matrix {
+        m,
+        costs: costs.as_slice(),
+    };
+    let mut lists = lists_in(n, m, block.as_mut_slice());
+    let path = match begin {
+        Begin::Nothing => search_from_nothing(matrix, &mut lists, scale),
+        _ => search_begun(matrix, &mut lists, scale, begin, objects, prices),
+    };
+    match path {
+        Path::Lost => Ok(Tried::Lost),
+        Path::None(turns) => Ok(Tried::Hall(hall_set_of(alloc, &lists, turns)?)),
+        Path::Found => {
+            if scale.is_cut && has_cut(matrix, &lists, scale) {
+                return Ok(Tried::Cut);
+            }
+            write(&lists, scale, objects, prices);
+            Ok(Tried::Plan)
+        }
+    }
+}
+
+fn search_all(
+    alloc: Global,
+    problem: Problem<'_>,
+    begin: Begin,
+    objects: &mut [u32],
+    prices: &mut [f64],
+) -> Result<Ended, AllocError>
+    ensures objects { length objects.new ≡ length objects.old }
+    ensures prices { length prices.new ≡ length prices.old }
+{
+    let (n, m) = (problem.persons, problem.objects);
+    if n > m {
+        return Ok(Ended::Hall(all_persons(alloc, n, m, problem.costs)?));
+    }
+    let range = Range::of(problem.costs, m, problem.sign());
+    let scale = problem.scale(range);
+    match search_in(alloc, problem, scale, begin, objects, prices)? {
+        Tried::Plan => Ok(Ended::Plan(range.margin())),
+        Tried::Hall(set) => Ok(Ended::Hall(set)),
+        Tried::Lost => Ok(Ended::Lost),
+        Tried::Cut => {
+            let scale = problem.full_scale(range);
+            match search_in(alloc, problem, scale, begin, objects, prices)? {
+                Tried::Plan => Ok(Ended::Plan(range.margin())),
+                Tried::Hall(set) => Ok(Ended::Hall(set)),
+                Tried::Lost | Tried::Cut => Ok(Ended::Lost),
+            }
+        }
+    }
+}
+
+/// Searches for a best plan and prices, or for a Hall set. Prices are those at which each person's
+/// own object is a best one: the least sum of cost and price, under `Sense::Max` the greatest
+/// difference. What they are where the search ends otherwise is left open.
+///
+/// # Errors
+/// `AllocError` if memory is refused.
+pub fn search(
+    alloc: Global,
+    problem: Problem<'_>,
+    objects: &mut [u32],
+    prices: &mut [f64],
+) -> Result<Ended, AllocError>
+    ensures objects { length objects.new ≡ length objects.old }
+    ensures prices { length prices.new ≡ length prices.old }
+{
+    search_all(alloc, problem, Begin::Nothing, objects, prices)
+}
+
+/// The same from an earlier plan and its prices. Persons with object 0, and those who have a better
+/// object at these prices, get one by a shortest path each.
+///
+/// # Errors
+/// `AllocError` if memory is refused.
+pub fn search_from(
+    alloc: Global,
+    problem: Problem<'_>,
+    objects: &mut [u32],
+    prices: &mut [f64],
+) -> Result<Ended, AllocError>
+    ensures objects { length objects.new ≡ length objects.old }
+    ensures prices { length prices.new ≡ length prices.old }
+{
+    search_all(alloc, problem, Begin::Plan, objects, prices)
+}
+
+/// The same from a plan that is best within `off`: at these prices no pair of a person is better than
+/// its own by more.
+///
+/// # Errors
+/// `AllocError` if memory is refused.
+pub fn search_near(
+    alloc: Global,
+    problem: Problem<'_>,
+    off: f64,
+    objects: &mut [u32],
+    prices: &mut [f64],
+) -> Result<Ended, AllocError>
+    ensures objects { length objects.new ≡ length objects.old }
+    ensures prices { length prices.new ≡ length prices.old }
+{
+    search_all(alloc, problem, Begin::Near(off), objects, prices)
+}

@@ -1,0 +1,17 @@
+//! Costs in doubles and buffers that a caller in C lends: the costs are checked, and a proved answer
+//! is written into the buffers. A code says which answer.
+#![tactic(auto)]
+
+mod answer;
+mod check;
+mod fault;
+mod given;
+mod info;
+mod judge;
+mod marks;
+mod solve;
+
+pub use check::check_given;
+pub use given::Given;
+pub use info::DoublesInfo;
+pub use solve::{solve_from, solve_given};

@@ -1,0 +1,98 @@
+// The calls on costs in doubles, as `c/nushbaret.h` declares them.
+ghost use Rattle.std.specs.Prelude.{◌⊎◌};
+ghost use Rattle.lent_doubles.specs.Checks.{IsJudged, IsRefused, with_answer};
+ghost use Rattle.lent_doubles.specs.Ends.{Solves, buffers};
+
+use cost_lists::{Object, Person};
+use lent_doubles::{Given, DoublesInfo, check_given, solve_from, solve_given};
+use std::alloc::Global;
+
+/// Solves a dense problem over doubles: `n` persons, `m` objects, and the cost of each pair, row by
+/// row. An infinite cost forbids its pair.
+#[unsafe(no_mangle)]
+pub extern "C" fn nushbaret_doubles(
+    alloc: Global,
+    sense: u32,
+    n: usize,
+    m: usize,
+    costs: &[f64],
+    objects: &mut [Object],
+    persons: &mut [Person],
+    prices: &mut [f64],
+    info: &mut DoublesInfo,
+) -> i32
+    ensures { Solves sense n m costs.now
+        (buffers objects.old persons.old prices.old info.old)
+        (buffers objects.new persons.new prices.new info.new) result }
+{
+    let by_person = [objects.len(), persons.len()];
+    let by_object = [prices.len()];
+    let given = Given {
+        sense,
+        n,
+        m,
+        by_person: &by_person,
+        by_object: &by_object,
+        costs,
+    };
+    solve_given(alloc, &given, objects, persons, prices, info)
+}
+
+/// The same from the objects and prices that are given.
+#[unsafe(no_mangle)]
+pub extern "C" fn nushbaret_doubles_from(
+    alloc: Global,
+    sense: u32,
+    n: usize,
+    m: usize,
+    costs: &[f64],
+    objects: &mut [Object],
+    persons: &mut [Person],
+    prices: &mut [f64],
+    info: &mut DoublesInfo,
+) -> i32
+    ensures { Solves sense n m costs.now
+        (buffers objects.old persons.old prices.old info.old)
+        (buffers objects.new persons.new prices.new info.new) result }
+{
+    let by_person = [objects.len(), persons.len()];
+    let by_object = [prices.len()];
+    let given = Given {
+        sense,
+        n,
+        m,
+        by_person: &by_person,
+        by_object: &by_object,
+        costs,
+    };
+    solve_from(alloc, &given, objects, persons, prices, info)
+}
+
+/// Checks a plan with its prices against a dense problem over doubles.
+#[unsafe(no_mangle)]
+pub extern "C" fn nushbaret_check_doubles(
+    alloc: Global,
+    sense: u32,
+    n: usize,
+    m: usize,
+    costs: &[f64],
+    objects: &[Object],
+    prices: &[f64],
+    info: &mut DoublesInfo,
+) -> i32
+    ensures { let given = with_answer sense n m costs.now objects.now prices.now in
+        IsJudged given objects.now prices.now info.old info.new result
+        ⊎ IsRefused given info.old info.new result }
+{
+    let by_person = [objects.len()];
+    let by_object = [prices.len()];
+    let given = Given {
+        sense,
+        n,
+        m,
+        by_person: &by_person,
+        by_object: &by_object,
+        costs,
+    };
+    check_given(alloc, &given, objects, prices, info)
+}
