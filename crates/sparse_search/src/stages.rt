@@ -340,18 +340,19 @@ impl<'a> Run<'a> {
 
     // The end, after one more pass over all pairs where the search went on from a record.
     fn finish(&mut self) -> Option<RunEnd> {
-        if self.is_resumed {
-            if self.looks.is_spent() {
-                return None;
-            }
-            self.is_resumed = false;
-            if !self.is_settled() {
-                self.record = self.record.with_stage(Stage::LastTight);
-                self.record.place = 1;
-                return None;
-            }
+        if self.is_resumed && self.looks.is_spent() {
+            return None;
         }
-        self.market.bring_to_costs(self.scaled().shift);
+        let was_resumed = self.is_resumed;
+        self.is_resumed = false;
+        let is_settled = !was_resumed || self.is_settled();
+        if !is_settled {
+            self.record = self.record.with_stage(Stage::LastTight);
+            self.record.place = 1;
+            return None;
+        }
+        let shift = self.scaled().shift;
+        self.market.bring_to_costs(shift);
         Some(RunEnd::Best)
     }
 
