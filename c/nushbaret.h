@@ -76,11 +76,11 @@
            100000000, &record, &info);
        while (code == NUSHBARET_STOPPED && go_on());
 
-   WHAT ANSWERS
+   NOTHING FOUND
 
-   Each answer of a search is checked before a call returns it. Where a search finds nothing that passes, which nobody has
-   seen, a slow one answers that is proved. So a solving call without a budget returns NUSHBARET_BEST, NUSHBARET_HALL or a
-   fault, whatever its lists contain.
+   Each answer of a search is checked before a call returns it. A search that found nothing that passes returns
+   NUSHBARET_UNFOUND. Nobody has seen it: not once in 200,000 drawn problems of up to five persons. The problem may have
+   an assignment or none.
 
    A WORKED EXAMPLE
 
@@ -144,6 +144,8 @@ enum nushbaret_code {
     NUSHBARET_OVERPRICED = 20,   /* nobody has info->object, the lowest, and its price isn't 0 */
 
     NUSHBARET_STOPPED = 21,      /* the budget is spent: the same call goes on */
+    NUSHBARET_STOPPED = 21,      /* the budget is spent: the same call goes on */
+    NUSHBARET_UNFOUND = 22,      /* the search found nothing that the checker accepts */
 
     NUSHBARET_UNDECIDED = 23     /* over doubles: nothing is proved, as where plans differ by less than rounding */
 };

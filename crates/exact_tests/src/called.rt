@@ -12,7 +12,7 @@ pub enum Finding {
     /// A Hall set that is confirmed.
     Hall,
     Stopped,
-    /// What the solver found isn't confirmed.
+    /// The solver says so, or what it found isn't confirmed.
     Nothing,
 }
 
@@ -63,6 +63,7 @@ pub fn call(
             })
         }
         Found::Stopped => Ok(Finding::Stopped),
+        Found::Unfound => Ok(Finding::Nothing),
     }
 }
 

@@ -84,6 +84,7 @@ fn put_answer(
             put_standing(objects, prices, standing);
             End::Stopped
         }
+        Answer::Unfound => End::Unfound,
     }
 }
 
