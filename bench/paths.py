@@ -139,8 +139,8 @@ def printed(seconds):
     return f"over {LIMIT}" if seconds is None else f"{seconds:.4f}"
 
 
-def ratio(seconds, beside):
-    return f"{seconds / beside:.2f}" if beside else ""
+def ratio(seconds, others):
+    return f"{seconds / others:.2f}" if others else ""
 
 
 def kind(name, n, runs=TIMES, words_of_door=()):

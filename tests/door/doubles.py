@@ -46,7 +46,7 @@ class Answer:
         return {name: getattr(self.info, name) for name, _ in Info._fields_}
 
     def has_only(self, **written):
-        """Whether the lists are as they were, and the record too but for these fields."""
+        """Whether the lists are as they were, and the record too, except these fields."""
         return self.fields() == {**{name: KEPT for name, _ in Info._fields_}, **written}
 
 

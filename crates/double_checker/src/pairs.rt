@@ -39,8 +39,11 @@ fn is_finite_at_least(own_cost: f64, own_price: f64, cost: f64, price: f64) -> b
     requires own_price { IsTrue (is_number own_price) }
     requires cost { IsTrue (is_number cost) }
     requires price { IsTrue (is_number price) }
-    ensures seen { IsTrue result → (units_of own_cost +ℤ units_of own_price) ≤ℤ (units_of cost +ℤ units_of price) }
-    ensures open { result ≡ false → ((units_of cost +ℤ units_of price) <ℤ (units_of own_cost +ℤ units_of own_price)) ⊎ HasFar (size_of own_cost ∷ size_of own_price ∷ size_of cost ∷ size_of price ∷ []) }
+    ensures seen { IsTrue result
+        → (units_of own_cost +ℤ units_of own_price) ≤ℤ (units_of cost +ℤ units_of price) }
+    ensures open { result ≡ false
+        → ((units_of cost +ℤ units_of price) <ℤ (units_of own_cost +ℤ units_of own_price))
+        ⊎ HasFar (size_of own_cost ∷ size_of own_price ∷ size_of cost ∷ size_of price ∷ []) }
 {
     match is_at_most(own_cost, own_price, cost, price) {
         Some(holds) => holds,

@@ -12,7 +12,7 @@ units_of nan = pos 0
 units_of (inf s) = pos 0
 units_of (fin s m e) = if s then neg_ℤ (pos (size_in_units m e)) else pos (size_in_units m e)
 
--- neither an infinity nor what is no number
+-- a finite number
 abbrev pub is_number : Float → Bool
 is_number nan = false
 is_number (inf s) = false
