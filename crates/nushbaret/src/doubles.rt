@@ -4,7 +4,7 @@ ghost use Rattle.lent_doubles.specs.Checks.{IsJudged, IsRefused, with_answer};
 ghost use Rattle.lent_doubles.specs.Ends.{Solves, buffers};
 
 use cost_lists::{Object, Person};
-use lent_doubles::{Given, DoublesInfo, check_given, solve_from, solve_given};
+use lent_doubles::{DoublesInfo, Given, check_given, solve_from, solve_given};
 use std::alloc::Global;
 
 /// Solves a dense problem over doubles: `n` persons, `m` objects, and the cost of each pair, row by
