@@ -15,6 +15,7 @@ import importlib
 from typing import TYPE_CHECKING, Any, List
 
 if TYPE_CHECKING:
+    from ._batch import linear_sum_assignment_batch
     from ._bottleneck import bottleneck
     from ._checking import Comparison, Verdict, check, compare
     from ._counts import CountsInfeasible, CountsResult, assign_counts
@@ -28,11 +29,12 @@ if TYPE_CHECKING:
 __all__ = [
     "GREATEST_COST", "MOST_PERSONS", "Comparison", "CountsInfeasible", "CountsResult", "Infeasible", "LibraryNotFound", "Plan", "Result",
     "RosterPlan", "Shortage", "Verdict", "__version__", "assign_counts", "bottleneck", "check", "compare", "k_best",
-    "linear_sum_assignment", "plan_roster", "solve", "solve_sparse",
+    "linear_sum_assignment", "linear_sum_assignment_batch", "plan_roster", "solve", "solve_sparse",
 ]
 
 # The module of each name. It is loaded when the name is first used, so that the command can set what Ctrl-C does before that.
 _MODULES = {
+    "_batch": ("linear_sum_assignment", "linear_sum_assignment_batch"),
     "_bottleneck": ("bottleneck",),
     "_checking": ("Comparison", "Verdict", "check", "compare"),
     "_counts": ("CountsInfeasible", "CountsResult", "assign_counts"),
@@ -41,7 +43,7 @@ _MODULES = {
     "_plan_roster": ("RosterPlan", "plan_roster"),
     "_plans": ("k_best",),
     "_result": ("Plan", "Result"),
-    "_solving": ("linear_sum_assignment", "solve", "solve_sparse"),
+    "_solving": ("solve", "solve_sparse"),
 }
 
 

@@ -1,11 +1,10 @@
 """The solving calls."""
 from typing import Any, Callable, List, Optional, Sequence, Tuple, Union, overload
 
-from . import _exact as exact, _levels as levels, _library as library, _problem as reading, _proved as proved, _source as sources
+from . import _direct as direct, _exact as exact, _levels as levels, _library as library, _problem as reading, _proved as proved, _source as sources
 from ._infeasible import infeasible, most_served
 from ._problem import Problem
 from ._result import Result, numbered, rows_and_columns
-from ._small import small_arrays
 from ._source import Held, Source
 
 Start = Union[Result, Sequence[Any], None]
@@ -145,8 +144,7 @@ def solve(costs: Any, maximize: bool = False, decimals: Optional[int] = None, st
     Decimal('5.5')
     """
     if decimals is None and start is None and timeout is None and progress is None and missing == "refuse":
-        arrays = small_arrays()
-        found = arrays and arrays.found(costs, bool(maximize))
+        found = direct.found(costs, bool(maximize))
         if found:
             return Result._of(Source(costs, None, None, None, exact.Manner(found.shape.maximize)), found)
     source = Source(sources.lasting(costs), None, None, None, exact.manner(maximize, decimals, missing))
@@ -234,10 +232,6 @@ def linear_sum_assignment(cost_matrix: Any, maximize: bool = False, *, missing: 
     >>> nushbaret.linear_sum_assignment([[0.3, 0.1, 1e15], [0.1, 0.3, 1e15], [1e15, 1e15, 0.5]])
     ([0, 1, 2], [1, 0, 2])
     """
-    arrays = small_arrays() if timeout is None and progress is None and missing == "refuse" else None
-    found = arrays and (arrays.assignment(cost_matrix, maximize) or arrays.of_rows(cost_matrix, maximize))
-    if found:
-        return found
     with library.limited(timeout, progress):
         problem = reading.of_matrix(cost_matrix, exact.manner(maximize, None, missing, True))
         return rows_and_columns(problem, _answer(problem, None, False))
