@@ -105,15 +105,18 @@ enum { PIECE = 20000000, PASSES = 10 };
 /* Rounded costs have so many bits, and doubles hold all whole numbers up to this. */
 enum { BITS = 39 };
 #define WHOLE ((int64_t)1 << 53)
+#define MOST_DOUBLE 1.7976931348623157e308
+/* What is added to a double of less than 2^51 rounds it to a whole number, and is taken off again. */
+#define TO_WHOLE 0x1.8p52
 /* The most decimal places of a cost that is a whole number of some unit. */
 enum { MOST_PLACES = 15 };
 
 /* ---- Reading ---- */
 
-/* Lets the fewer be the persons. A square of columns that stand one after the other is turned too, so that it needs no copy. */
-static void turn(Matrix *matrix) {
+/* Lets the fewer be the persons. Where a square `may_turn`, it is turned if its columns stand one after the other, and needs no copy then. */
+static void turn(Matrix *matrix, int may_turn) {
     const int by_columns = matrix->n == matrix->m && matrix->person_step == 8 && matrix->object_step != 8;
-    matrix->turned = matrix->n > matrix->m || (by_columns && !matrix->rows);
+    matrix->turned = matrix->n > matrix->m || (may_turn && by_columns);
     if (matrix->turned) {
         Py_ssize_t held = matrix->n;
         matrix->n = matrix->m;
@@ -129,13 +132,16 @@ static int is_known(const struct kind *kind) {
     return kind->number >= BOOLS && kind->number < KINDS && kind->number != ULONGS && kind->number != ULONG_LONGS && kind->byte_order != '>';
 }
 
+/* Asks for what is missing. Without the library, which the longer way names then, or without NumPy there is nothing to be had. */
+static void ask(const State *state) {
+    PyObject *done = state->connect ? PyObject_CallObject(state->connect, NULL) : NULL;
+    if (!done) PyErr_Clear();
+    Py_XDECREF(done);
+}
+
 /* Whether this is an array of so many dimensions that this reads. Where NumPy was loaded only now, it is looked for. */
 static int is_array(State *state, PyObject *costs, int dimensions) {
-    if (!state->array && state->connect) {
-        PyObject *done = PyObject_CallObject(state->connect, NULL);
-        if (!done) PyErr_Clear();
-        Py_XDECREF(done);
-    }
+    if (!state->array) ask(state);
     const struct array *array = (const struct array *)costs;
     return state->array && Py_TYPE(costs) == state->array && array->dimensions == dimensions && is_known(array->kind);
 }
@@ -165,14 +171,14 @@ static int of_list(PyObject *rows, Matrix *matrix) {
 }
 
 /* Whether costs are a matrix that this reads. */
-static int look_at(State *state, PyObject *costs, Matrix *matrix) {
+static int look_at(State *state, PyObject *costs, Matrix *matrix, int may_turn) {
     if (PyList_CheckExact(costs)) {
         if (!of_list(costs, matrix)) return 0;
     } else {
         if (!is_array(state, costs, 2)) return 0;
         of_array((const struct array *)costs, 0, matrix);
     }
-    turn(matrix);
+    turn(matrix, may_turn);
     return matrix->n > 0 && matrix->m <= MOST_SIDE;
 }
 
@@ -298,7 +304,7 @@ static int top_of(const double *costs, size_t count) {
     int top;
     for (size_t k = 0; k < count; k++) {
         const double size = fabs(costs[k]);
-        if (size > most && size <= 1.7976931348623157e308) most = size;
+        if (size > most && size <= MOST_DOUBLE) most = size;
     }
     frexp(most, &top);
     return top;
@@ -363,10 +369,18 @@ static int is_long(const Matrix *matrix) {
     return (double)matrix->n * (double)matrix->n * (double)matrix->m >= LONG;
 }
 
-/* Whichever search fits. */
+/* Whether a pair is forbidden, of costs that aren't NaN. */
+static int forbids(const double *costs, size_t count) {
+    int found = 0;
+    for (size_t k = 0; k < count; k++) found |= fabs(costs[k]) > MOST_DOUBLE;
+    return found;
+}
+
+/* Whichever search fits. Of the long ones the longer way is the faster one where all pairs are allowed. */
 static int32_t solve(const State *state, const Matrix *matrix, int maximize, const double *costs, const Room *room, uint32_t *by_margin) {
-    if (is_long(matrix)) return search_long(state, matrix, maximize, costs, room, by_margin);
-    if (matrix->n * matrix->m < FEW) return search(state, matrix, maximize, costs, room, by_margin);
+    const size_t count = (size_t)matrix->n * (size_t)matrix->m;
+    if (is_long(matrix)) return forbids(costs, count) ? search_long(state, matrix, maximize, costs, room, by_margin) : UNDECIDED;
+    if (count < FEW) return search(state, matrix, maximize, costs, room, by_margin);
     PyThreadState *thread = PyEval_SaveThread();
     const int32_t code = search(state, matrix, maximize, costs, room, by_margin);
     PyEval_RestoreThread(thread);
@@ -446,11 +460,7 @@ static PyObject *rows_and_columns(const State *state, const Matrix *matrix, cons
 
 /* Whether the library's addresses are here; where they aren't yet, they are asked for. */
 static int is_ready(const State *state) {
-    if (!state->doubles && state->connect) {
-        PyObject *done = PyObject_CallObject(state->connect, NULL);
-        if (!done) PyErr_Clear();
-        Py_XDECREF(done);
-    }
+    if (!state->doubles) ask(state);
     return state->doubles != NULL;
 }
 
@@ -460,7 +470,8 @@ static PyObject *assigned(State *state, PyObject *costs, int maximize) {
     Matrix matrix;
     Room room;
     uint32_t by_margin;
-    if (!look_at(state, costs, &matrix) || !take(&room, &matrix, !is_plain(&matrix), spare)) return NULL;
+    if (!look_at(state, costs, &matrix, 1) || (is_long(&matrix) && !is_plain(&matrix))) return NULL;
+    if (!take(&room, &matrix, !is_plain(&matrix), spare)) return NULL;
     const double *numbers = costs_of(&matrix, &room);
     const int32_t code = numbers ? solve(state, &matrix, maximize, numbers, &room, &by_margin) : UNDECIDED;
     PyObject *answer = code == BEST ? rows_and_columns(state, &matrix, &room) : NULL;
@@ -525,9 +536,9 @@ static PyObject *linear_sum_assignment(PyObject *module, PyObject *const *argume
    their unit, which whole numbers of that unit then show; -1 where there is none. */
 static int has_places(const double *costs, size_t count, double power, int64_t *whole) {
     for (size_t k = 0; k < count; k++) {
-        const double scaled = rint(costs[k] * power);
-        if (!(fabs(scaled) <= GREATEST_COST) || scaled / power != costs[k]) return 0;
-        whole[k] = (int64_t)scaled;
+        const double scaled = costs[k] * power, nearest = scaled + TO_WHOLE - TO_WHOLE;
+        if (!(fabs(scaled) <= GREATEST_COST) || nearest / power != costs[k]) return 0;
+        whole[k] = (int64_t)nearest;
     }
     return 1;
 }
@@ -593,7 +604,7 @@ static PyObject *found(PyObject *module, PyObject *arguments) {
     Matrix matrix;
     Room room;
     if (!PyArg_ParseTuple(arguments, "Op", &costs, &maximize)) return NULL;
-    if (!is_ready(state) || !look_at(state, costs, &matrix) || is_long(&matrix)) Py_RETURN_NONE;
+    if (!is_ready(state) || !look_at(state, costs, &matrix, 0) || is_long(&matrix)) Py_RETURN_NONE;
     int64_t *whole = PyMem_Malloc((size_t)matrix.n * (size_t)matrix.m * sizeof *whole);
     if (!whole) Py_RETURN_NONE;
     if (take(&room, &matrix, !is_plain(&matrix), spare)) {
@@ -664,7 +675,7 @@ static PyObject *batch(PyObject *module, PyObject *arguments) {
     const struct array *array = (const struct array *)costs;
     const Py_ssize_t count = array->shape[0];
     of_array(array, 1, &matrix);
-    turn(&matrix);
+    turn(&matrix, 1);
     if (count < 1 || matrix.n < 1 || matrix.m > MOST_SIDE || is_long(&matrix)) Py_RETURN_NONE;
     if (!is_own(state, rows, count, matrix.n) || !is_own(state, columns, count, matrix.n)) Py_RETURN_NONE;
     const int copies = !is_plain(&matrix) || array->steps[0] % (Py_ssize_t)sizeof(double) != 0;
@@ -696,9 +707,11 @@ static PyObject *attach_numpy(PyObject *module, PyObject *capsule) {
     if (!table) return NULL;
     const unsigned version = ((unsigned (*)(void))table[0])();
     if (version != 0x1000009 && version != 0x2000000) Py_RETURN_FALSE;
+    PyTypeObject *before = state->array;
     state->make = (new_array *)table[93];
     state->array = (PyTypeObject *)table[2];
     Py_INCREF(state->array);
+    Py_XDECREF(before);
     Py_RETURN_TRUE;
 }
 
@@ -709,23 +722,28 @@ static char *copy_of(const char *text, Py_ssize_t length) {
     return copy;
 }
 
-/* function(longer, connect, text, module): linear_sum_assignment with this docstring, as a function of a module of this name. */
+/* asks(connect): what is called where the library or NumPy is missing. */
+static PyObject *asks(PyObject *module, PyObject *connect) {
+    State *state = PyModule_GetState(module);
+    PyObject *before = state->connect;
+    Py_INCREF(connect);
+    state->connect = connect;
+    Py_XDECREF(before);
+    Py_RETURN_NONE;
+}
+
+/* function(longer, text, module): linear_sum_assignment with this docstring, as a function of a module of this name; made once. */
 static PyObject *function(PyObject *module, PyObject *arguments) {
     State *state = PyModule_GetState(module);
-    PyObject *call, *connect, *name;
+    PyObject *call, *name;
     const char *text;
     Py_ssize_t length;
-    if (!PyArg_ParseTuple(arguments, "OOs#U", &call, &connect, &text, &length, &name)) return NULL;
-    if (state->longer) {
-        PyErr_SetString(PyExc_RuntimeError, "the function is made once");
-        return NULL;
-    }
+    if (!PyArg_ParseTuple(arguments, "Os#U", &call, &text, &length, &name)) return NULL;
+    if (state->longer) return PyErr_Format(PyExc_RuntimeError, "the function was made before");
     state->text = copy_of(text, length);
     if (!state->text) return PyErr_NoMemory();
     Py_INCREF(call);
-    Py_INCREF(connect);
     state->longer = call;
-    state->connect = connect;
     state->method.ml_name = "linear_sum_assignment";
     state->method.ml_meth = (PyCFunction)(void (*)(void))linear_sum_assignment;
     state->method.ml_flags = METH_FASTCALL | METH_KEYWORDS;
@@ -760,6 +778,7 @@ static void free_all(void *module) {
 static PyMethodDef methods[] = {
     {"attach", attach, METH_VARARGS, NULL},
     {"attach_numpy", attach_numpy, METH_O, NULL},
+    {"asks", asks, METH_O, NULL},
     {"function", function, METH_VARARGS, NULL},
     {"found", found, METH_VARARGS, NULL},
     {"batch", batch, METH_VARARGS, NULL},

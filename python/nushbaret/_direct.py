@@ -41,6 +41,7 @@ def _opened() -> Any:
     try:
         module = importlib.util.module_from_spec(spec)  # type: ignore[arg-type]
         loader.exec_module(module)
+        module.asks(connect)
     except ImportError:
         return None
     return module
@@ -72,7 +73,7 @@ def over(longer: Any) -> Any:
     if held is None:
         return longer
     signature = f"{longer.__name__}(cost_matrix, maximize=False, *, missing='refuse', timeout=None, progress=None)\n--\n\n"
-    return held.function(longer, connect, signature + (longer.__doc__ or ""), "nushbaret")
+    return held.function(longer, signature + (longer.__doc__ or ""), "nushbaret")
 
 
 def found(costs: Any, maximize: bool) -> Optional[Found]:
