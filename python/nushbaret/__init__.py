@@ -15,6 +15,7 @@ import importlib
 from typing import TYPE_CHECKING, Any, List
 
 if TYPE_CHECKING:
+    from ._assigner import Assigner
     from ._batch import linear_sum_assignment_batch
     from ._bottleneck import bottleneck
     from ._checking import Comparison, Verdict, check, compare
@@ -27,13 +28,14 @@ if TYPE_CHECKING:
     from ._solving import linear_sum_assignment, solve, solve_sparse
 
 __all__ = [
-    "GREATEST_COST", "MOST_PERSONS", "Comparison", "CountsInfeasible", "CountsResult", "Infeasible", "LibraryNotFound", "Plan", "Result",
-    "RosterPlan", "Shortage", "Verdict", "__version__", "assign_counts", "bottleneck", "check", "compare", "k_best",
+    "GREATEST_COST", "MOST_PERSONS", "Assigner", "Comparison", "CountsInfeasible", "CountsResult", "Infeasible", "LibraryNotFound", "Plan",
+    "Result", "RosterPlan", "Shortage", "Verdict", "__version__", "assign_counts", "bottleneck", "check", "compare", "k_best",
     "linear_sum_assignment", "linear_sum_assignment_batch", "plan_roster", "solve", "solve_sparse",
 ]
 
 # The module of each name. It is loaded when the name is first used, so that the command can set what Ctrl-C does before that.
 _MODULES = {
+    "_assigner": ("Assigner",),
     "_batch": ("linear_sum_assignment", "linear_sum_assignment_batch"),
     "_bottleneck": ("bottleneck",),
     "_checking": ("Comparison", "Verdict", "check", "compare"),

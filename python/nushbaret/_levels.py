@@ -19,7 +19,7 @@ from fractions import Fraction
 from itertools import repeat
 from typing import Any, Dict, List, NamedTuple, Optional, Sequence, Tuple, Union
 
-from . import _array_levels as arrays, _library as library, _pricing as pricing, _problem as reading, _proved as proved, _ties as ties
+from . import _array_levels as arrays, _doubles as doubles, _library as library, _pricing as pricing, _problem as reading, _proved as proved, _ties as ties
 from ._exact import loaded_numpy
 from ._numbers import ONE, Ratio, Unit, bits_above, in_unit, rounded, unit_of
 from ._problem import Problem
@@ -71,7 +71,9 @@ def _solved(problem: Problem, served: Optional[int], start: Optional[proved.Star
     found = priced.level if priced else first_level(problem, served, start)
     if isinstance(found, proved.Short):
         return found
-    objects = None if tied is None else ties.after_level(tied, found)
+    objects = doubles.best_from(problem, found) if served is None else None
+    if objects is None and tied is not None:
+        objects = ties.after_level(tied, found)
     if objects is None:
         pairs = priced.pairs if priced else kept(found, found.asked.n + ties.more(found.asked.n))
         objects = found.objects if is_only_plan(found, pairs) else finer(problem, found, pairs)
