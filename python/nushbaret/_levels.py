@@ -80,18 +80,6 @@ def _solved(problem: Problem, served: Optional[int], start: Optional[proved.Star
     return proved.Answer(found.asked.n, found.asked.m, None, objects, None)
 
 
-def after_first(problem: Problem, level: Level) -> Any:
-    """The objects of a best plan of a matrix, or of listed pairs, from its first level."""
-    tied = ties.of_problem(problem)
-    objects = None if tied is None else ties.best(tied)
-    if objects is None and tied is not None:
-        objects = ties.after_level(tied, level)
-    if objects is not None:
-        return objects
-    pairs = kept(level, level.asked.n + ties.more(level.asked.n))
-    return level.objects if is_only_plan(level, pairs) else finer(problem, level, pairs)
-
-
 def _most_left(problem: Problem) -> int:
     """Up to how many units of reduced cost pairs are left."""
     n = min(problem.n_rows, problem.n_columns)

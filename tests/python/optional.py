@@ -13,3 +13,14 @@ np = _module("numpy")
 pd = _module("pandas")
 optimize = _module("scipy.optimize")
 sparse = _module("scipy.sparse")
+
+
+def extension():
+    """The extension module, if it is here for this Python and the library has what it calls; else None."""
+    from nushbaret import _direct, _library
+    try:
+        for export in _direct.EXPORTS:
+            _library.address(export)
+    except AttributeError:
+        return None
+    return _direct.extension()

@@ -8,7 +8,7 @@ from fractions import Fraction
 from unittest import mock
 
 import nushbaret
-from nushbaret import _duals, _levels, _pricing, _small, _ties
+from nushbaret import _direct, _doubles, _duals, _levels, _pricing, _solving, _ties
 from drawn import KINDS, best, doubles, drawing, exactly, hungarian, proves
 from optional import np
 
@@ -284,14 +284,14 @@ class Priced(unittest.TestCase):
     def test_beside_hungarian(self):
         draw, rounds, whole = drawing(69), 0, 0
         with mock.patch.object(_pricing, "LARGE", 1), mock.patch.object(_pricing, "CHEAPEST", 1), mock.patch.object(_pricing, "MOST_SHARE", 1), \
-                mock.patch.multiple(_small, SMALL=0, MOST_STEPS=0), \
+                mock.patch.object(_direct, "extension", return_value=None), mock.patch.object(_doubles, "best_from", return_value=None), \
                 mock.patch.object(_ties, "of_problem", return_value=None):
             for turn in range(240):
                 kind = list(KINDS)[turn % len(KINDS)]
                 n_rows, maximize = draw.randint(2, 20), draw.random() < 0.5
                 costs = doubles(draw, n_rows, draw.choice([n_rows, n_rows + 4, max(n_rows // 2, 1)]), kind)
                 with mock.patch.object(_pricing._Matrix, "answer", autospec=True, side_effect=_pricing._Matrix.answer) as asked:
-                    rows, columns = nushbaret.linear_sum_assignment(np.array(costs), maximize)
+                    rows, columns = _solving.linear_sum_assignment(np.array(costs), maximize)
                     result = nushbaret.solve(np.array(costs), maximize)
                 rounds += asked.call_count > 2
                 whole += not asked.call_count
