@@ -108,8 +108,8 @@ enum { BITS = 39 };
 #define MOST_DOUBLE 1.7976931348623157e308
 /* What is added to a double of less than 2^51 rounds it to a whole number, and is taken off again. */
 #define TO_WHOLE 0x1.8p52
-/* The most decimal places of a cost that is a whole number of some unit. */
-enum { MOST_PLACES = 15 };
+/* Floats of at most so many decimal places are whole numbers of a unit, as in _exact.py. */
+enum { MOST_PLACES = 6 };
 
 /* ---- Reading ---- */
 
@@ -532,19 +532,20 @@ static PyObject *linear_sum_assignment(PyObject *module, PyObject *const *argume
 
 /* ---- solve ---- */
 
-/* How many decimal places some doubles have at most: the least number from 0 on for which all are such decimals and at most 10^12 of
-   their unit, which whole numbers of that unit then show; -1 where there is none. */
+/* Whether doubles have decimals that are whole numbers, at most 10^12, of the unit 1 / power; these are written. An infinite one stands as 0. */
 static int has_places(const double *costs, size_t count, double power, int64_t *whole) {
     for (size_t k = 0; k < count; k++) {
         const double scaled = costs[k] * power, nearest = scaled + TO_WHOLE - TO_WHOLE;
-        if (!(fabs(scaled) <= GREATEST_COST) || nearest / power != costs[k]) return 0;
-        whole[k] = (int64_t)nearest;
+        const int is_infinite = fabs(costs[k]) > MOST_DOUBLE;
+        if (!is_infinite && (!(fabs(scaled) <= GREATEST_COST) || nearest / power != costs[k])) return 0;
+        whole[k] = is_infinite ? 0 : (int64_t)nearest;
     }
     return 1;
 }
 
+/* How many decimal places finite doubles have at most, from 0 on; -1 where these are too many. */
 static int places_of(const double *costs, size_t count, int64_t *whole) {
-    static const double powers[] = {1, 1e1, 1e2, 1e3, 1e4, 1e5, 1e6, 1e7, 1e8, 1e9, 1e10, 1e11, 1e12, 1e13, 1e14, 1e15};
+    static const double powers[MOST_PLACES + 1] = {1, 1e1, 1e2, 1e3, 1e4, 1e5, 1e6};
     for (int places = 0; places <= MOST_PLACES; places++)
         if (has_places(costs, count, powers[places], whole)) return places;
     return -1;
@@ -565,34 +566,35 @@ static PyObject *paid(const Matrix *matrix, const double *costs, const int64_t *
     return list;
 }
 
-/* Rows and columns; the costs paid, the objects and, of whole numbers, the prices, the total and the places. */
-static PyObject *found_of(const State *state, const Matrix *matrix, const Room *room, const double *costs, const int64_t *whole, int64_t total,
-    int places) {
+/* Rows and columns; the costs paid, the objects, prices and total if there are any, and the places of whole numbers, else -1. */
+static PyObject *found_of(const State *state, const Matrix *matrix, const Room *room, const double *costs, const int64_t *whole, int places,
+    const struct info *info) {
     PyObject *pairs = rows_and_columns(state, matrix, room);
     if (!pairs) return NULL;
-    PyObject *own = paid(matrix, costs, whole, room);
+    PyObject *own = paid(matrix, costs, places < 0 ? NULL : whole, room);
     const char *objects = (const char *)room->objects, *prices = (const char *)room->prices;
     const Py_ssize_t n = 4 * matrix->n, m = 8 * matrix->m;
-    PyObject *rest = !own ? NULL : whole ? Py_BuildValue("(Oy#y#Li)", own, objects, n, prices, m, (long long)total, places)
-        : Py_BuildValue("(Oy#OOi)", own, objects, n, Py_None, Py_None, 0);
+    PyObject *rest = !own ? NULL : info ? Py_BuildValue("(Oy#y#Li)", own, objects, n, prices, m, (long long)info->total, places)
+        : Py_BuildValue("(Oy#OOi)", own, objects, n, Py_None, Py_None, places);
     Py_XDECREF(own);
     return pair_of(pairs, rest);
 }
 
-/* As `assigned`, for floats that are the decimals that they print as. */
+/* As `assigned`, for floats that are the decimals that they print as. Whole numbers are these decimals; a plan for others has to be best by
+   a margin. */
 static PyObject *found_in(State *state, const Matrix *matrix, int maximize, const double *costs, const Room *room, int64_t *whole) {
     const size_t n = (size_t)matrix->n, m = (size_t)matrix->m;
     const int places = places_of(costs, n * m, whole);
     uint32_t by_margin = 0;
     struct info info;
-    if (places < 0) {
-        if (solve(state, matrix, maximize, costs, room, &by_margin) != BEST || !by_margin) return NULL;
-        return found_of(state, matrix, room, costs, NULL, 0, 0);
+    if (places < 0 || forbids(costs, n * m)) {
+        if (solve(state, matrix, maximize, costs, room, &by_margin) != BEST || !(by_margin || places == 0)) return NULL;
+        return found_of(state, matrix, room, costs, whole, places, NULL);
     }
     PyThreadState *thread = PyEval_SaveThread();
     const int32_t code = state->dense(maximize ? 1 : 0, n, m, whole, n * m, room->objects, n, room->persons, n, (int64_t *)room->prices, m, &info);
     PyEval_RestoreThread(thread);
-    return code == BEST ? found_of(state, matrix, room, costs, whole, info.total, places) : NULL;
+    return code == BEST ? found_of(state, matrix, room, costs, whole, places, &info) : NULL;
 }
 
 /* found(costs, maximize): what a result is made of; None where the longer way is to be taken. */

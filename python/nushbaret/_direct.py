@@ -87,12 +87,21 @@ def found(costs: Any, maximize: bool) -> Optional[Found]:
     if answer is None:
         return None
     (rows, columns), (own, objects, prices, total, places) = answer
-    n_rows, n_columns = (len(costs), len(costs[0])) if matrix is costs and type(costs) is list else matrix.shape
+    is_list = type(costs) is list
+    if is_list and places < 0 and not _is_long(costs[0][0]):
+        return None
+    n_rows, n_columns = (len(costs), len(costs[0])) if is_list else matrix.shape
     labels = (list(costs.index), list(costs.columns)) if is_frame(costs) else None
-    shape = Problem(n_rows, n_columns, maximize, None, unit=of_places(places), raw=prices is None, labels=labels)
+    shape = Problem(n_rows, n_columns, maximize, None, unit=of_places(max(places, 0)), raw=places < 0, labels=labels)
     n, m = sorted((n_rows, n_columns))
     best = proved.Answer(n, m, total, array("I", objects), None if prices is None else array("q", prices))
-    return Found(shape, best, rows, columns, own, type(costs) is not list)
+    return Found(shape, best, rows, columns, own, not is_list)
+
+
+def _is_long(cost: float) -> bool:
+    """Whether a cost has more than 12 digits, so that no decimal unit makes it whole within the library's range. For others of a list the
+    longer way may find one, in which the sum is shown."""
+    return float("%.12g" % cost) != cost
 
 
 def _matrix(costs: Any) -> Any:
