@@ -67,11 +67,22 @@ class Assigner:
             raise IndexError(f"row {row}: there are {len(self._costs)} rows")
         if len(costs) != len(self._costs[row]):
             raise ValueError(f"row {row} has {len(self._costs[row])} costs, and {len(costs)} were given")
-        self._costs[row] = costs if hasattr(self._costs, "dtype") else list(costs)
+        self._write(row, costs)
         self._changed.add(row)
         self._result = None
         if self._numbers is not None and not self._numbers.write(row, self._costs[row]):
             self._numbers = self._state = None
+
+    def _write(self, row: int, costs: Any) -> None:
+        """Gives the copy this row. An array of numbers that can't hold others becomes one of objects."""
+        if not hasattr(self._costs, "dtype"):
+            self._costs[row] = list(costs)
+            return
+        numpy = exact.numpy_of(self._costs)
+        own = costs if hasattr(costs, "dtype") else numpy.array(costs, None if len(set(map(type, costs))) == 1 else object)
+        if not numpy.can_cast(own.dtype, self._costs.dtype, "safe"):
+            self._costs = self._costs.astype(object)
+        self._costs[row] = own
 
     @property
     def result(self) -> Result:
@@ -172,7 +183,7 @@ def numbers_of(costs: Any) -> Optional[Numbers]:
 def doubles_of(row: Any) -> Optional[Any]:
     """Floats and whole numbers as doubles that are exactly these; None where one isn't such a number. NaN isn't."""
     if hasattr(row, "dtype"):
-        if row.ndim != 1 or row.dtype.kind not in "iu" and row.dtype.str[1:] != "f8":
+        if row.ndim != 1 or row.dtype.kind not in "iuO" and row.dtype.str[1:] != "f8":
             return None
         row = row.tolist()
     if not all(type(cost) is float and cost == cost or type(cost) is int and abs(cost) <= _MOST_WHOLE for cost in row):

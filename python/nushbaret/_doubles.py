@@ -5,9 +5,11 @@ from array import array
 from typing import Any, Dict, NamedTuple, Optional, Tuple
 
 from . import _array_levels as arrays, _library as library
-from ._exact import size_of
+from ._exact import loaded_numpy, size_of
 from ._problem import Problem
 
+# Rounded costs have so many bits.
+BITS = 39
 _calls: Dict[str, Any] = {}
 
 
@@ -53,22 +55,16 @@ def start(sense: bool, n: int, m: int, costs: Any) -> Tuple[Any, Any]:
     """Objects and prices to begin from: those of the rounded costs where the search may take long, since it is done in pieces, and else
     nobody's."""
     objects, prices = array("I", bytes(4 * n)), array("d", bytes(8 * m))
-    most = size_of(costs) if hasattr(costs, "dtype") and n * n * m >= library.LONG else math.inf
-    if not 0 < most < math.inf or not -arrays.MOST_SHIFT < math.frexp(most)[1] < arrays.MOST_SHIFT:
+    numpy = loaded_numpy()
+    if numpy is None or n * n * m < library.LONG:
         return objects, prices
-    shift = BITS - math.frexp(most)[1]
+    held = numpy.frombuffer(costs)
+    shift = BITS - math.frexp(size_of(held))[1]
+    if not numpy.isfinite(held).all() or not -arrays.MOST_SHIFT < shift < arrays.MOST_SHIFT:
+        return objects, prices
     whole = array("q", bytes(8 * m))
-    code, _ = library.searched(sense, n, m, [arrays.whole_of(_numpy(), costs, shift)], None, [objects, array("I", bytes(4 * n)), whole])
+    code, _ = library.searched(sense, n, m, [arrays.whole_of(numpy, held, shift)], None, [objects, array("I", bytes(4 * n)), whole])
     return objects, array("d", [math.ldexp(price, -shift) for price in whole]) if code == "BEST" else prices
-
-
-# Rounded costs have so many bits.
-BITS = 39
-
-
-def _numpy() -> Any:
-    import sys
-    return sys.modules["numpy"]
 
 
 def best_from(problem: Problem, level: Any) -> Any:
