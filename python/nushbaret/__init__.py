@@ -17,6 +17,8 @@ import os
 from typing import TYPE_CHECKING, Any, List
 
 if TYPE_CHECKING:
+    from .api.assigner import Assigner
+    from .api.batch import linear_sum_assignment_batch
     from .api.bottleneck import bottleneck
     from .api.check import Comparison, check, compare
     from .api.counts import CountsInfeasible, CountsResult, assign_counts
@@ -29,13 +31,16 @@ if TYPE_CHECKING:
     from .costs.limits import GREATEST_COST, MOST_PERSONS
     from .lap.library import VERSION as __version__, LibraryNotFound
 
-__all__ = ["GREATEST_COST", "MOST_PERSONS", "Comparison", "CountsInfeasible", "CountsResult", "Infeasible",
+__all__ = ["GREATEST_COST", "MOST_PERSONS", "Assigner", "Comparison", "CountsInfeasible", "CountsResult", "Infeasible",
            "LibraryNotFound", "Plan", "Result", "RosterPlan", "Shortage", "Verdict", "__version__", "assign_counts",
-           "bottleneck", "check", "compare", "k_best", "linear_sum_assignment", "plan_roster", "solve", "solve_sparse"]
+           "bottleneck", "check", "compare", "k_best", "linear_sum_assignment", "linear_sum_assignment_batch",
+           "plan_roster", "solve", "solve_sparse"]
 
 # The module of each name. It is loaded when the name is first used, so that the command can set what Ctrl-C does before
 # that.
 _MODULES = {
+    "api.assigner": ("Assigner",),
+    "api.batch": ("linear_sum_assignment", "linear_sum_assignment_batch"),
     "api.bottleneck": ("bottleneck",),
     "api.check": ("Comparison", "check", "compare"),
     "api.counts": ("CountsInfeasible", "CountsResult", "assign_counts"),
@@ -43,7 +48,7 @@ _MODULES = {
     "api.plans": ("k_best",),
     "api.results": ("Plan", "Result"),
     "api.rosters": ("RosterPlan", "plan_roster"),
-    "api.solve": ("linear_sum_assignment", "solve", "solve_sparse"),
+    "api.solve": ("solve", "solve_sparse"),
     "api.verdicts": ("Verdict",),
     "costs.limits": ("GREATEST_COST", "MOST_PERSONS"),
     "lap.library": ("VERSION", "LibraryNotFound"),

@@ -1,4 +1,4 @@
-"""Arrays of every kind take the shorter way, and get the answers, duals and refusals of the longer one."""
+"""Arrays of every kind take the shorter way, and get the costs, kinds of answers and refusals of the longer one."""
 import pickle
 import unittest
 from decimal import Decimal
@@ -7,13 +7,10 @@ from unittest import mock
 
 import nushbaret
 from nushbaret.api import solve
-from nushbaret.costs import problem as _problem
-from nushbaret.lap import levels, library
+from nushbaret.costs import printing, problem as _problem
+from nushbaret.lap import direct, levels
 from drawn import drawing
-
-from nushbaret.costs import printing
-from nushbaret.lap import small
-from optional import np, pd as pandas
+from optional import extension, np, pd as pandas
 
 FLOATS = ("f8", "f4", "f2")
 WHOLE = ("i8", "i4", "i2", "i1", "u4", "u2", "u1", "?")
@@ -70,26 +67,32 @@ def _laid_out(draw, costs):
 
 
 def _said(call, costs, maximize):
-    """All that a call says, or its refusal."""
+    """What a call says of a problem, whichever best plan it takes, or its refusal."""
     try:
         found = call(costs, maximize)
     except (ValueError, TypeError) as fault:
         return type(fault), str(fault)
     if isinstance(found, tuple):
-        return [(type(values), values.dtype, values.tolist()) for values in found]
-    return [repr(found.cost), found.pairs, found.row_duals, found.column_duals, found.prices, repr(found.rows),
-            repr(found.columns)]
+        rows, columns = found
+        paid = np.asarray(costs)[rows, columns].tolist()
+        return [(type(values), values.dtype, len(set(values.tolist()))) for values in found], sum(map(Fraction, paid))
+    return (repr(found.cost), bool(found.verify()),
+            [(type(values), len(set(values))) for values in (found.rows, found.columns)], found.maximize,
+            [name for name, held in (("row", found.row_duals), ("column", found.column_duals)) if len(held)])
+
+
+CALLS = ((nushbaret.solve, nushbaret.solve), (nushbaret.linear_sum_assignment, solve.linear_sum_assignment))
 
 
 @unittest.skipUnless(np, "NumPy isn't there")
 class Forms(unittest.TestCase):
     def both(self, costs, maximize):
         """Both calls by both ways."""
-        for call in nushbaret.solve, nushbaret.linear_sum_assignment:
+        for call, longer in CALLS:
             with self.subTest(costs=costs, kind=costs.dtype, maximize=maximize, call=call.__name__):
                 shorter = _said(call, costs, maximize)
-                with mock.patch.object(solve, "small_arrays", return_value=None):
-                    self.assertEqual(shorter, _said(call, costs, maximize))
+                with mock.patch.object(direct, "extension", return_value=None):
+                    self.assertEqual(shorter, _said(longer, costs, maximize))
 
     def test_beside_the_longer_way(self):
         draw = drawing(171)
@@ -109,9 +112,10 @@ class Forms(unittest.TestCase):
                 values, odd = ("even", "thirds", "cents")[turn // 5], ("plain", "infinite")[turn % 2]
                 self.both(_laid_out(draw, _drawn(draw, kind, values, odd, size)), turn % 3 == 0)
 
+    @unittest.skipUnless(extension(), "the extension isn't there")
     def test_which_way_is_taken(self):
         """Of each of these forms the shorter way finds the answer."""
-        draw, arrays = drawing(173), small.small_arrays()
+        draw = drawing(173)
         plain = _drawn(draw, "f8", "even", "plain", (8, 8))
         allowed = plain.copy()
         allowed[0, 1:5] = np.inf
@@ -120,9 +124,7 @@ class Forms(unittest.TestCase):
         if pandas:
             forms += [pandas.DataFrame(plain), pandas.DataFrame((plain * 99).astype("i4"))]
         for form in forms:
-            self.assertIsNotNone(arrays.found(form, False))
-            self.assertIsNotNone(arrays.assignment(form, True) if form is not allowed
-                                 else arrays.assignment(-form, True))
+            self.assertIsNotNone(direct.found(form, False))
 
     @unittest.skipUnless(pandas, "pandas isn't there")
     def test_frames(self):
@@ -134,10 +136,10 @@ class Forms(unittest.TestCase):
                                      [f"r{row}" for row in range(n)])
             if turn % 4 == 0:
                 frame[0] = draw.randint(0, 9)
-            for call in nushbaret.solve, nushbaret.linear_sum_assignment:
+            for call, longer in CALLS:
                 shorter = _said(call, frame, turn % 2 == 0)
-                with mock.patch.object(solve, "small_arrays", return_value=None):
-                    self.assertEqual(shorter, _said(call, frame, turn % 2 == 0))
+                with mock.patch.object(direct, "extension", return_value=None):
+                    self.assertEqual(shorter, _said(longer, frame, turn % 2 == 0))
 
     def test_what_is_forbidden_is_never_taken(self):
         """A plan without a forbidden pair may be dearer than what stands for one."""
@@ -149,14 +151,6 @@ class Forms(unittest.TestCase):
         for call in nushbaret.solve, nushbaret.linear_sum_assignment:
             with self.assertRaises(nushbaret.Infeasible):
                 call(none)
-
-    def test_rooms_are_given_back_without_lists(self):
-        """A room of a call with forbidden pairs serves one without."""
-        costs = np.array([[1.0, np.inf], [2.0, 3.0]])
-        for _ in range(3):
-            self.assertEqual(nushbaret.solve(costs).cost, 4)
-            self.assertEqual(nushbaret.solve(np.array([[1.0, 0.0], [2.0, 9.0]])).cost, 2)
-        self.assertTrue(all(room.listed is None for rooms in library._workspaces.values() for room in rooms))
 
     def test_refined(self):
         """Where rounding doesn't show the best plan among allowed pairs, levels go on."""

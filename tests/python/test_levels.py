@@ -9,7 +9,8 @@ from fractions import Fraction
 from unittest import mock
 
 import nushbaret
-from nushbaret.lap import duals, level as _level, levels, pricing, reduced, small, ties as _ties
+from nushbaret.api import solve
+from nushbaret.lap import direct, doubles as _doubles, duals, level as _level, levels, pricing, reduced, ties as _ties
 from drawn import KINDS, best, doubles, drawing, exactly, hungarian, proves
 from optional import np
 
@@ -303,7 +304,9 @@ class Priced(unittest.TestCase):
     def test_beside_hungarian(self):
         draw, rounds, whole = drawing(69), 0, 0
         with mock.patch.object(pricing, "LARGE", 1), mock.patch.object(pricing, "CHEAPEST", 1), \
-                mock.patch.object(pricing, "MOST_SHARE", 1), mock.patch.multiple(small, SMALL=0, MOST_STEPS=0), \
+                mock.patch.object(pricing, "MOST_SHARE", 1), \
+                mock.patch.object(direct, "extension", return_value=None), \
+                mock.patch.object(_doubles, "best_from", return_value=None), \
                 mock.patch.object(_ties, "of_problem", return_value=None):
             for turn in range(240):
                 kind = list(KINDS)[turn % len(KINDS)]
@@ -311,7 +314,7 @@ class Priced(unittest.TestCase):
                 costs = doubles(draw, n_rows, draw.choice([n_rows, n_rows + 4, max(n_rows // 2, 1)]), kind)
                 with mock.patch.object(pricing._Matrix, "answer", autospec=True,
                                        side_effect=pricing._Matrix.answer) as asked:
-                    rows, columns = nushbaret.linear_sum_assignment(np.array(costs), maximize)
+                    rows, columns = solve.linear_sum_assignment(np.array(costs), maximize)
                     result = nushbaret.solve(np.array(costs), maximize)
                 rounds += asked.call_count > 2
                 whole += not asked.call_count

@@ -4,33 +4,20 @@ import unittest
 from unittest import mock
 
 import nushbaret
-from nushbaret.lap import library
+from nushbaret.lap import direct, library
 from drawn import best, drawing, matrix
 from optional import np
 
 
 def asked(run):
     """The names, sizes and numbers of pairs of the library's calls that something makes."""
-    calls, call, room_for = [], library.call, library.workspace_for
+    calls, call = [], library.call
 
     def noted(name, sense, n, m, *lists, **words):
         calls.append((name, n, m, len(lists[0])))
         return call(name, sense, n, m, *lists, **words)
 
-    def noting_room(numpy, n, m):
-        room = room_for(numpy, n, m)
-        own = room.call
-
-        def noted_ready(*words):
-            calls.append(("dense", n, m, n * m))
-            return own(*words)
-
-        room.call = noted_ready
-        return room
-
-    # Rooms made meanwhile are dropped afterwards.
-    with mock.patch.object(library, "call", noted), mock.patch.object(library, "workspace_for", noting_room), \
-            mock.patch.dict(library._workspaces, clear=True):
+    with mock.patch.object(library, "call", noted), mock.patch.object(direct, "extension", return_value=None):
         run()
     return calls
 

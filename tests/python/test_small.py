@@ -1,4 +1,4 @@
-"""Small matrices take a shorter way where NumPy is loaded: plans are compared with a slow search in fractions, and
+"""Small matrices take a shorter way where the extension is: plans are compared with a slow search in fractions, and
 results with the longer way."""
 import pickle
 import unittest
@@ -7,12 +7,9 @@ from fractions import Fraction
 from unittest import mock
 
 import nushbaret
-from nushbaret.api import solve
-from nushbaret.lap import levels
+from nushbaret.lap import direct, levels
 from drawn import KINDS, best, doubles, drawing, exactly, hungarian, proves
-
-from nushbaret.lap import small as _small
-from optional import np
+from optional import extension, np
 
 
 def _tied(draw):
@@ -49,18 +46,16 @@ class Small(unittest.TestCase):
         """By the thousand, compared with all plans: lists and arrays, for decimals and for doubles."""
         draw, kinds = drawing(81), [*OWN_KINDS, "tied", "near ties", "small differences", "thirds and M", "even"]
         small, refined = 0, 0
-        with mock.patch.object(levels, "after_first", side_effect=levels.after_first) as finer:
+        with mock.patch.object(levels, "solved_by_levels", side_effect=levels.solved_by_levels) as finer:
             for turn in range(2400):
                 kind, most = kinds[turn % len(kinds)], 5 if turn % 40 == 0 else 4
                 n_rows, n_columns, maximize = draw.randint(1, most), draw.randint(1, most), draw.random() < 0.5
                 costs = self.costs(draw, kind, n_rows, n_columns)
                 served = min(n_rows, n_columns)
                 form = costs if turn % 3 else np.array(costs)
-                own = _small.small_arrays()
                 with self.subTest(kind=kind, costs=form, maximize=maximize):
                     before = finer.call_count
-                    small += own.found(form, maximize) is not None
-                    refined += finer.call_count > before
+                    small += direct.found(form, maximize) is not None
                     result, exact = nushbaret.solve(form, maximize), exactly(costs, True)
                     wanted = best(exact, maximize, served)
                     paid = sum((exact[row][column] for row, column in zip(result.rows, result.columns)), Fraction(0))
@@ -69,11 +64,13 @@ class Small(unittest.TestCase):
                     if turn % 20 == 0:
                         self.assertTrue(proves(exact, result, maximize))
                         self.assertTrue(result.verify())
+                    refined += finer.call_count > before
                     rows, columns = nushbaret.linear_sum_assignment(form, maximize)
                     exact = exactly(costs, False)
                     paid = sum((exact[row][column] for row, column in zip(rows, columns)), Fraction(0))
                     self.assertEqual(paid, best(exact, maximize, served))
-        self.assertGreater(small, 1200)
+        if extension():
+            self.assertGreater(small, 600)
         self.assertGreater(refined, 200)
 
     def test_sums_of_tenths(self):
@@ -114,7 +111,7 @@ class Small(unittest.TestCase):
                 costs = self.costs(draw, kind, n_rows, n_columns)
             for form in (costs,) if kind == "great whole" else (costs, np.array(costs)):
                 result = nushbaret.solve(form, maximize)
-                with mock.patch.object(solve, "small_arrays", return_value=None):
+                with mock.patch.object(direct, "extension", return_value=None):
                     longer = nushbaret.solve(form, maximize)
                 for own in result, pickle.loads(pickle.dumps(result)):
                     self.assertEqual(self.form_of(own), self.form_of(longer))
