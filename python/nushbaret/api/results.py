@@ -11,7 +11,8 @@ from ..costs.reading import loaded_numpy, manner, whole_number
 from ..costs.source import FixedProblem, Source, problem_of
 from ..lap import duals as exact_duals, library, proved
 from ..lap.checking import check_wholly
-from ..lap.ranking import Ranking, Subproblem
+from ..lap.paths import Subproblem
+from ..lap.ranking import Ranking, has_other
 from ..lap.solving import solved
 from .infeasible import infeasible
 from .verdicts import Verdict, verdict_on
@@ -220,7 +221,8 @@ class Result(Lasting):
     def is_unique(self) -> bool:
         """Whether no other plan of as many pairs is as good. The library finds, among the plans along pairs without
         reduced cost, one with as few of this plan's pairs as possible; which pairs these are follows from the duals."""
-        return not self._ranking().has_other()
+        ranking = self._ranking()
+        return not has_other(ranking.paths, ranking.whole)
 
     def _ranking(self) -> Ranking:
         """The plans of the problem of the call, from this one on."""
