@@ -174,7 +174,7 @@ class Checked(unittest.TestCase):
 
     def test_a_plan_taken_for_the_only_one(self):
         result = nushbaret.solve([[1, 1], [1, 1]])
-        ranking = result._ranking()
+        ranking = result._solved.ranking()
         self.assertTrue(has_other(ranking.paths, ranking.whole))
         ranking.whole = ranking.whole._replace(row_duals=[dual + 1 for dual in ranking.whole.row_duals])
         with self.assertRaisesRegex(RuntimeError, "along pairs of reduced cost 0, and the library says otherwise"):
