@@ -7,7 +7,8 @@ from unittest import mock
 
 import nushbaret
 from nushbaret.lap import ranking
-from nushbaret.lap.ranking import Ranking, _PathSearch
+from nushbaret.lap.paths import Paths, PathSearch
+from nushbaret.lap.ranking import has_other
 from drawn import drawing, matrix
 from optional import np
 
@@ -145,39 +146,39 @@ class Checked(unittest.TestCase):
             self.assertEqual(check.call_count, len(plans))
 
     def refused(self, name, wrong, said, costs=None):
-        with mock.patch.object(Ranking, name, wrong), self.assertRaisesRegex(RuntimeError, said):
+        with mock.patch.object(Paths, name, wrong), self.assertRaisesRegex(RuntimeError, said):
             list(nushbaret.k_best(costs or self.COSTS, 6))
 
     def test_a_wrong_plan(self):
         def turned(ranking, part):
             return part._replace(columns=part.columns[::-1])
-        self.refused("_first_of_its_cost", turned, "found to be the best of its part, and the library says otherwise: "
+        self.refused("first_of_its_cost", turned, "found to be the best of its part, and the library says otherwise: "
                      "row 0")
 
     def test_a_wrong_cost(self):
         def cheaper(ranking, part):
             return part._replace(cost=part.cost - 1)
-        self.refused("_first_of_its_cost", cheaper, "found to cost 4, and its pairs cost 5")
+        self.refused("first_of_its_cost", cheaper, "found to cost 4, and its pairs cost 5")
 
     def test_wrong_duals(self):
-        behind = Ranking._after
+        behind = Paths.after
 
         def same(ranking, part, *words):
             return behind(ranking, part, *words)._replace(column_duals=part.column_duals)
-        self.refused("_after", same, "the library says otherwise", matrix(drawing(36), 9, 9, 9))
+        self.refused("after", same, "the library says otherwise", matrix(drawing(36), 9, 9, 9))
 
     def test_a_part_taken_for_empty(self):
         def none(ranking, part, *words):
-            return _PathSearch(None, {}, {}, [0] * (ranking.n_columns + 1))
-        self.refused("_search", none, "a group was found to be short, and the library says otherwise")
+            return PathSearch(None, {}, {}, [0] * (ranking.n_columns + 1))
+        self.refused("search", none, "a group was found to be short, and the library says otherwise")
 
     def test_a_plan_taken_for_the_only_one(self):
         result = nushbaret.solve([[1, 1], [1, 1]])
-        ranking = result._ranking()
-        self.assertTrue(ranking.has_other())
+        ranking = result._solved.ranking()
+        self.assertTrue(has_other(ranking.paths, ranking.whole))
         ranking.whole = ranking.whole._replace(row_duals=[dual + 1 for dual in ranking.whole.row_duals])
         with self.assertRaisesRegex(RuntimeError, "along pairs of reduced cost 0, and the library says otherwise"):
-            ranking.has_other()
+            has_other(ranking.paths, ranking.whole)
 
 
 class Bottlenecks(unittest.TestCase):

@@ -10,7 +10,7 @@ from decimal import Decimal
 from fractions import Fraction
 
 import nushbaret
-from nushbaret.api import results as _result
+from nushbaret.api import solved
 from drawn import KINDS, doubles, drawing
 from optional import np, pd, sparse
 
@@ -172,7 +172,7 @@ class Kept(unittest.TestCase):
         self.assertEqual((result.cost, result.row_duals), (5, nushbaret.solve([[1, 2], [3, 5]]).row_duals))
 
     def test_changed_text_is_said_once(self):
-        self.assertIn(CHANGED, _result.CHANGED)
+        self.assertIn(CHANGED, solved.CHANGED)
 
 
 def _cost_of(result):

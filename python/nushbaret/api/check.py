@@ -144,5 +144,5 @@ def compare(costs: Any, columns: Any, rows: Any = None, maximize: bool = False,
     result = solve_problem(problem, None, True, source)
     if len(pairs) != len(result.rows):
         raise ValueError(f"the plan has {counted(len(pairs), 'pair')}, and {len(result.rows)} can be made")
-    own, best = result._sum_of([problem.ratio(cost) for cost in held]), result.cost
+    own, best = result._solved.sum_of([problem.ratio(cost) for cost in held]), result.cost
     return Comparison(own, best, exactly_less(best, own) if problem.maximize else exactly_less(own, best), result)

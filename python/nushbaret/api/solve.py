@@ -32,10 +32,10 @@ def began_at(problem: Problem, start: Start) -> Began:
             raise TypeError(f"start is {start!r}: it must be a result, or a list of prices")
         return proved.WarmStart(proved.exact_prices(problem, start, "start"))
     try:
-        prices = start._exact_rents
+        prices = start._solved.rents
     except ValueError:
         return None
-    return proved.WarmStart(proved.exact_prices(problem, prices), *start._pairs)
+    return proved.WarmStart(proved.exact_prices(problem, prices), *start._solved.pairs)
 
 
 def solve_served(problem: Problem, served: int, source: Optional[Source] = None) -> Optional[Result]:
