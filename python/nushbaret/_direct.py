@@ -27,7 +27,7 @@ EXPORTS = "nushbaret_doubles", "nushbaret_doubles_from", "nushbaret_dense", "nus
 def extension() -> Any:
     """The extension module, or None. With None under its name in sys.modules it isn't used."""
     if NAME not in sys.modules:
-        sys.modules[NAME] = _opened()  # type: ignore[assignment]
+        sys.modules[NAME] = _opened()
     return sys.modules[NAME]
 
 

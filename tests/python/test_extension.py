@@ -376,7 +376,7 @@ class Around(unittest.TestCase):
 
     @unittest.skipUnless(importlib.util.find_spec("_testcapi"), "this Python has no module of its own tests")
     def test_each_allocation_refused(self):
-        """Whichever allocation is refused, a call answers or raises MemoryError, and the next one answers."""
+        """Where an allocation is refused, each in its turn, a call answers or raises MemoryError, and the next one answers."""
         self.assertEqual(self.run_here(REFUSED), "True\n")
 
     def test_interpreters(self):
