@@ -9,8 +9,9 @@ where rows and columns count several times, and `plan_roster` where there are ru
 weekends; for it SciPy finds, and a check in whole numbers proves. `k_best` yields plans from the best on, and
 `bottleneck` makes the worst pair as good as possible. `check` and `compare` judge plans from elsewhere. Plans are best
 for the costs as given, of any size. Nushbaret's proved library solves all costs that are up to 10**12 multiples of one
-unit, and proves the plan; for any others it solves rounded ones, level by level. What this package adds is tested, not
-proved: how costs are read, levels, dummies where some stay out, and the order of plans.
+unit, and matrices of doubles unless plans nearly tie, and proves the plan; for any others it solves rounded ones, level
+by level. What this package adds is tested, not proved: how costs are read, levels, dummies where some stay out, and the
+order of plans.
 """
 import importlib
 import os

@@ -248,7 +248,7 @@ class Batch(unittest.TestCase):
             for words in (good, wrong), (wrong, good):
                 self.assertIsNone(extension().batch(costs, False, *words))
 
-    @unittest.skipUnless(hasattr(signal, "setitimer"), "there is no such alarm")
+    @unittest.skipUnless(hasattr(signal, "setitimer"), "this system has no timer that raises a signal")
     def test_ctrl_c(self):
         many = np.broadcast_to(np.random.default_rng(9).random((64, 64)), (10**5, 64, 64))
         rows, columns = np.empty((2, 10**5, 64), np.intp)
@@ -397,7 +397,8 @@ class Around(unittest.TestCase):
 
     @unittest.skipUnless(importlib.util.find_spec("_testcapi"), "this Python has no module of its own tests")
     def test_each_allocation_refused(self):
-        """Whichever allocation is refused, a call answers or raises MemoryError, and the next one answers."""
+        """Where an allocation is refused, each in its turn, a call answers or raises MemoryError, and the next one
+        answers."""
         self.assertEqual(self.run_here(REFUSED), "True\n")
 
     def test_interpreters(self):

@@ -67,7 +67,7 @@ def _laid_out(draw, costs):
 
 
 def _said(call, costs, maximize):
-    """What a call says of a problem, whichever best plan it takes, or its refusal."""
+    """What a call says of a problem, but not which of several best plans, or its refusal."""
     try:
         found = call(costs, maximize)
     except (ValueError, TypeError) as fault:

@@ -111,7 +111,7 @@ class Package(unittest.TestCase):
         build.PLATFORM = "manylinux2014_aarch64"
         with zipfile.ZipFile(self.folder / build.build_wheel(self.folder)) as wheel:
             self.assertEqual(wheel.read(f"nushbaret/{build.EXTENSION}"), b"built")
-        self.assertFalse(build.compile_extension("no such compiler", self.folder / "none"))
+        self.assertFalse(build.compile_extension("no-compiler", self.folder / "none"))
 
     def test_no_library_to_pack(self):
         build = backend()

@@ -57,9 +57,9 @@ class Assigner:
     def update(self, row: int, costs: Any) -> None:
         """Gives a row, counted from 0, other costs.
 
-        IndexError where there is no such row, ValueError where there aren't as many costs as columns. What is wrong
-        with a cost is raised by `result`. An earlier result keeps its plan and cost; what reads its costs again raises
-        ValueError.
+        IndexError where there is no row of this number, ValueError where there aren't as many costs as columns. What is
+        wrong with a cost is raised by `result`. An earlier result keeps its plan and cost; what reads its costs again
+        raises ValueError.
 
         >>> import nushbaret
         >>> assigner = nushbaret.Assigner([[4, 1], [2, 3]])
@@ -189,7 +189,7 @@ def numbers_of(costs: Any) -> Optional[Numbers]:
 
 
 def doubles_of(row: Any) -> Optional[Any]:
-    """Floats and whole numbers as doubles that are exactly these; None where one isn't such a number. NaN isn't."""
+    """Floats and whole numbers as doubles that are exactly these; None where one isn't, or is NaN."""
     if hasattr(row, "dtype"):
         if row.ndim != 1 or row.dtype.kind not in "iuO" and row.dtype.str[1:] != "f8":
             return None
