@@ -3,11 +3,12 @@ here, by its status."""
 import sys
 import unittest
 
-NAMES = ("arguments", "arrays", "assigner", "floats", "forms", "levels", "numpy", "pages", "rectangles", "refusals",
-         "results", "scipys_errors", "scipys_own", "small", "solving")
+NAMES = ("api.test_arguments", "api.test_assigner", "api.test_forms", "api.test_refusals", "api.test_results",
+         "api.test_scipys_errors", "api.test_scipys_own", "api.test_solving", "costs.test_arrays", "costs.test_floats",
+         "costs.test_numpy", "lap.test_levels", "lap.test_rectangles", "lap.test_small", "test_pages")
 
 if sys.argv[1:] == ["--is-here"]:
     from optional import extension
     sys.exit(0 if extension() else 1)
 sys.modules["nushbaret._extension"] = None
-unittest.main(None, argv=[sys.argv[0], *(f"test_{name}" for name in NAMES)])
+unittest.main(None, argv=[sys.argv[0], *NAMES])

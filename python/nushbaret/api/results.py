@@ -111,7 +111,8 @@ class Result(Lasting):
     @cached_property
     def pairs(self) -> List[Tuple[Any, Any]]:
         """The pairs, by the labels of a DataFrame, or else by numbers."""
-        return [(self._shape.row_name(row), self._shape.column_name(column)) for row, column in zip(*self._solved.pairs)]
+        return [(self._shape.row_name(row), self._shape.column_name(column))
+                for row, column in zip(*self._solved.pairs)]
 
     @cached_property
     def unmatched_rows(self) -> Any:

@@ -25,7 +25,8 @@ class SolvedProblem:
     """A problem that a call solved: where its costs are, the problem without its lists, the library's answer, and the
     costs of the plan's pairs, as they were at the call."""
 
-    def __init__(self, source: Union[Source, FixedProblem], shape: Problem, answer: proved.Assignment, costs: List[Any]):
+    def __init__(self, source: Union[Source, FixedProblem], shape: Problem, answer: proved.Assignment,
+                 costs: List[Any]):
         self.source, self.shape, self.answer, self.costs = source, shape, answer, costs
 
     @classmethod
