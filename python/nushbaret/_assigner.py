@@ -13,6 +13,8 @@ from ._source import Source
 MOST_PLACES = 6
 # Whole numbers up to this are doubles.
 _MOST_WHOLE = 2**53
+# From so many costs on an array is worth making.
+_FEW = 32
 
 
 class Assigner:
@@ -136,13 +138,13 @@ class Assigner:
     def _of(self, numbers: "Numbers", answer: proved.Answer) -> Found:
         n, places, flat = numbers.n, numbers.places, numbers.flat
         shape = Problem(n, n, self._maximize, None, unit=of_places(places or 0), raw=places is None)
-        columns: Any = [item - 1 for item in answer.objects]
-        own = [flat[n * row + column] for row, column in enumerate(columns)]
-        rows: Any = list(range(n))
-        numpy = exact.loaded_numpy() if hasattr(self._costs, "dtype") else None
-        if numpy is not None:
-            rows, columns = numpy.array(rows, numpy.intp), numpy.array(columns, numpy.intp)
-        return Found(shape, answer, rows, columns, own, numpy is not None)
+        own = [flat[place + item] for place, item in zip(range(-1, n * n - 1, n), answer.objects)]
+        if not hasattr(self._costs, "dtype"):
+            return Found(shape, answer, list(range(n)), [item - 1 for item in answer.objects], own, False)
+        numpy: Any = exact.numpy_of(self._costs)
+        columns = numpy.frombuffer(answer.objects, numpy.uint32).astype(numpy.intp)
+        columns -= 1
+        return Found(shape, answer, numpy.arange(n), columns, own, True)
 
 
 class Numbers(NamedTuple):
@@ -185,6 +187,8 @@ def doubles_of(row: Any) -> Optional[Any]:
     if hasattr(row, "dtype"):
         if row.ndim != 1 or row.dtype.kind not in "iuO" and row.dtype.str[1:] != "f8":
             return None
+        if row.dtype.kind == "f":
+            return array("d", row.tobytes()) if (row == row).all() else None
         row = row.tolist()
     if not all(type(cost) is float and cost == cost or type(cost) is int and abs(cost) <= _MOST_WHOLE for cost in row):
         return None
@@ -195,7 +199,7 @@ def whole_of(costs: Any, places: int) -> Optional[Any]:
     """Doubles as whole numbers of a decimal unit, in the library's range; None where one isn't."""
     power = 10.0**places
     numpy = exact.loaded_numpy()
-    if numpy is None or len(costs) < library.FEW:
+    if numpy is None or len(costs) < _FEW:
         return _whole_list(costs, power)
     with numpy.errstate(all="ignore"):
         held = numpy.frombuffer(costs)
