@@ -4,7 +4,7 @@ from array import array
 from typing import Any, List, NamedTuple, Optional, Set
 
 from ..costs import reading
-from ..costs.limits import FEW, GREATEST_COST, MOST_PERSONS
+from ..costs.limits import GREATEST_COST, MOST_PERSONS
 from ..costs.numbers import of_places
 from ..costs.problem import Problem
 from ..costs.source import Source
@@ -16,6 +16,8 @@ from .solve import solve
 MOST_PLACES = 6
 # Whole numbers up to this are doubles.
 _MOST_WHOLE = 2**53
+# From so many costs on an array is worth making.
+_FEW = 32
 
 
 class Assigner:
@@ -144,13 +146,14 @@ class Assigner:
     def _of(self, numbers: "Numbers", answer: proved.Assignment) -> proved.ResultParts:
         n, places, flat = numbers.n, numbers.places, numbers.flat
         shape = Problem(n, n, self._maximize, None, unit=of_places(places or 0), raw=places is None)
-        columns: Any = [item - 1 for item in answer.objects]
-        own = [flat[n * row + column] for row, column in enumerate(columns)]
-        rows: Any = list(range(n))
-        numpy = reading.loaded_numpy() if hasattr(self._costs, "dtype") else None
-        if numpy is not None:
-            rows, columns = numpy.array(rows, numpy.intp), numpy.array(columns, numpy.intp)
-        return proved.ResultParts(shape, answer, rows, columns, own, numpy is not None)
+        own = [flat[place + item] for place, item in zip(range(-1, n * n - 1, n), answer.objects)]
+        if not hasattr(self._costs, "dtype"):
+            columns = [item - 1 for item in answer.objects]
+            return proved.ResultParts(shape, answer, list(range(n)), columns, own, False)
+        numpy: Any = reading.numpy_of(self._costs)
+        chosen = numpy.frombuffer(answer.objects, numpy.uint32).astype(numpy.intp)
+        chosen -= 1
+        return proved.ResultParts(shape, answer, numpy.arange(n), chosen, own, True)
 
 
 class Numbers(NamedTuple):
@@ -193,6 +196,8 @@ def doubles_of(row: Any) -> Optional[Any]:
     if hasattr(row, "dtype"):
         if row.ndim != 1 or row.dtype.kind not in "iuO" and row.dtype.str[1:] != "f8":
             return None
+        if row.dtype.kind == "f":
+            return array("d", row.tobytes()) if (row == row).all() else None
         row = row.tolist()
     if not all(type(cost) is float and cost == cost or type(cost) is int and abs(cost) <= _MOST_WHOLE for cost in row):
         return None
@@ -203,7 +208,7 @@ def whole_of(costs: Any, places: int) -> Optional[Any]:
     """Doubles as whole numbers of a decimal unit, in the library's range; None where one isn't."""
     power = 10.0**places
     numpy = reading.loaded_numpy()
-    if numpy is None or len(costs) < FEW:
+    if numpy is None or len(costs) < _FEW:
         return _whole_list(costs, power)
     with numpy.errstate(all="ignore"):
         held = numpy.frombuffer(costs)

@@ -7,7 +7,6 @@ process of several that has a lock of its own refuses it, and goes the longer wa
 import importlib.machinery
 import importlib.util
 import sys
-import sysconfig
 from array import array
 from typing import Any, Optional
 
@@ -49,8 +48,8 @@ def _opened() -> Any:
 def _is_for_this_python() -> bool:
     """Whether this Python's objects are those of the limited API: they aren't where it has no lock, or traces
     references."""
-    return ".abi3.so" in importlib.machinery.EXTENSION_SUFFIXES and not sysconfig.get_config_var("Py_GIL_DISABLED") \
-        and not hasattr(sys, "getobjects")
+    has_lock = "t" not in getattr(sys, "abiflags", "")
+    return ".abi3.so" in importlib.machinery.EXTENSION_SUFFIXES and has_lock and not hasattr(sys, "getobjects")
 
 
 def connect() -> None:
