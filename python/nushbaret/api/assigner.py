@@ -197,7 +197,7 @@ def doubles_of(row: Any) -> Optional[Any]:
         if row.ndim != 1 or row.dtype.kind not in "iuO" and row.dtype.str[1:] != "f8":
             return None
         if row.dtype.kind == "f":
-            return array("d", row.tobytes()) if (row == row).all() else None
+            return array("d", row.astype("d").tobytes()) if (row == row).all() else None
         row = row.tolist()
     if not all(type(cost) is float and cost == cost or type(cost) is int and abs(cost) <= _MOST_WHOLE for cost in row):
         return None

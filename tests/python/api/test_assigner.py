@@ -92,6 +92,18 @@ class Rows(unittest.TestCase):
                 first.without(0, 0)
             costs = [[1, 5], [5, 1]]
 
+    @unittest.skipUnless(np, "NumPy isn't there")
+    def test_arrays_of_either_byte_order(self):
+        rng = np.random.default_rng(405)
+        for kind in "<f8", ">f8", "<i4", ">i4", ">f4":
+            costs = (rng.random((4, 4)) * 99).astype(kind)
+            assigner = nushbaret.Assigner(costs)
+            for row in range(3):
+                self.assertEqual(assigner.result.cost, nushbaret.solve(costs).cost)
+                costs[row] = costs[row][::-1]
+                assigner.update(row, costs[row])
+            self.assertEqual(assigner.result.cost, nushbaret.solve(costs).cost)
+
     def test_refusals(self):
         assigner = nushbaret.Assigner([[1, 2], [3, 5]])
         for row in -1, 2:
