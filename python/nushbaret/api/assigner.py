@@ -52,7 +52,7 @@ class Assigner:
         numpy = reading.numpy_of(costs)
         self._costs: Any = numpy.array(costs) if numpy else [list(row) for row in costs]
         self._changed: Set[int] = set()
-        self._numbers: Optional[Numbers] = None
+        self._numbers: Optional[SquareCosts] = None
         self._state: Any = None
         self._result: Optional[Result] = None
 
@@ -109,7 +109,7 @@ class Assigner:
             return solve(self._costs, self._maximize)
         return Result._of(Source(self._costs, None, None, None, reading.Manner(self._maximize)), found)
 
-    def _found(self, numbers: "Numbers") -> Optional[proved.ResultParts]:
+    def _found(self, numbers: "SquareCosts") -> Optional[proved.ResultParts]:
         """What a result is made of, from the state of before; None where this way finds nothing that is sure to be
         best."""
         if self._state is not None:
@@ -119,7 +119,7 @@ class Assigner:
             return self._found_of_doubles(numbers)
         return self._found_of_whole(numbers)
 
-    def _found_of_whole(self, numbers: "Numbers") -> Optional[proved.ResultParts]:
+    def _found_of_whole(self, numbers: "SquareCosts") -> Optional[proved.ResultParts]:
         n, first = numbers.n, None
         objects, prices = self._state or (array("I", bytes(4 * n)), array("q", bytes(8 * n)))
         if self._state:
@@ -131,7 +131,7 @@ class Assigner:
         self._state = objects, prices
         return self._of(numbers, proved.Assignment(n, n, info.total, array("I", objects), array("q", prices)))
 
-    def _found_of_doubles(self, numbers: "Numbers") -> Optional[proved.ResultParts]:
+    def _found_of_doubles(self, numbers: "SquareCosts") -> Optional[proved.ResultParts]:
         n = numbers.n
         objects, prices = self._state or doubles.start(self._maximize, n, n, numbers.flat)
         try:
@@ -143,7 +143,7 @@ class Assigner:
         self._state = objects, prices
         return self._of(numbers, proved.Assignment(n, n, None, array("I", objects), None))
 
-    def _of(self, numbers: "Numbers", answer: proved.Assignment) -> proved.ResultParts:
+    def _of(self, numbers: "SquareCosts", answer: proved.Assignment) -> proved.ResultParts:
         n, places, flat = numbers.n, numbers.places, numbers.flat
         shape = Problem(n, n, self._maximize, None, unit=of_places(places or 0), raw=places is None)
         own = [flat[place + item] for place, item in zip(range(-1, n * n - 1, n), answer.objects)]
@@ -156,7 +156,7 @@ class Assigner:
         return proved.ResultParts(shape, answer, numpy.arange(n), chosen, own, True)
 
 
-class Numbers(NamedTuple):
+class SquareCosts(NamedTuple):
     """The costs of a square matrix: doubles, or whole numbers of a decimal unit of so many places."""
 
     n: int
@@ -173,7 +173,7 @@ class Numbers(NamedTuple):
         return True
 
 
-def numbers_of(costs: Any) -> Optional[Numbers]:
+def numbers_of(costs: Any) -> Optional[SquareCosts]:
     """The numbers of a square matrix; None where it is none, or has others."""
     n = len(costs)
     if not n or n > MOST_PERSONS or any(not hasattr(row, "__len__") or len(row) != n for row in costs):
@@ -187,8 +187,8 @@ def numbers_of(costs: Any) -> Optional[Numbers]:
     for places in range(MOST_PLACES + 1):
         whole = whole_of(flat, places)
         if whole is not None:
-            return Numbers(n, places, whole)
-    return Numbers(n, None, flat)
+            return SquareCosts(n, places, whole)
+    return SquareCosts(n, None, flat)
 
 
 def doubles_of(row: Any) -> Optional[Any]:

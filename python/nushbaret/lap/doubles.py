@@ -19,7 +19,7 @@ class DoublesInfo(ctypes.Structure):
                 ("by_margin", ctypes.c_uint32)]
 
 
-class Plan(NamedTuple):
+class DoublesPlan(NamedTuple):
     """Objects of persons, from 1 on, and prices; whether each other plan is worse by so much that the plan is best too
     for the decimals that the doubles print as."""
 
@@ -37,18 +37,18 @@ def _call() -> Any:
     return _calls["doubles_from"]
 
 
-def search(sense: bool, n: int, m: int, costs: Any, objects: Any, prices: Any) -> Optional[Plan]:
+def search(sense: bool, n: int, m: int, costs: Any, objects: Any, prices: Any) -> Optional[DoublesPlan]:
     """A plan that the library proves best for doubles, from these objects (0: nobody's) and prices, which are written;
     None where it finds none, or none that it can prove. MemoryError where memory is refused."""
     info, persons = DoublesInfo(), array("I", bytes(4 * n))
-    code = _call()(int(sense), n, m, *_lent(costs), *_lent(objects), *_lent(persons), *_lent(prices),
-                   ctypes.addressof(info))
+    lists = [word for values in (costs, objects, persons, prices) for word in _address_and_count(values)]
+    code = _call()(int(sense), n, m, *lists, ctypes.addressof(info))
     if code == library.CODES.index("MEMORY"):
         raise MemoryError("the library was refused memory")
-    return None if code else Plan(objects, prices, bool(info.by_margin))
+    return None if code else DoublesPlan(objects, prices, bool(info.by_margin))
 
 
-def _lent(values: Any) -> Tuple[int, int]:
+def _address_and_count(values: Any) -> Tuple[int, int]:
     """Address and count of an array of either kind."""
     return values.buffer_info() if isinstance(values, array) else (values.ctypes.data, values.size)
 
