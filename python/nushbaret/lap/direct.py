@@ -118,7 +118,7 @@ def _matrix(costs: Any) -> Any:
 
 def _printed(numpy: Any, costs: Any) -> Any:
     """The doubles that print as short floats do."""
-    return printing.with_places(numpy, costs.ravel())[0].reshape(costs.shape)
+    return printing.of_array(numpy, costs.ravel()).reshape(costs.shape)
 
 
 def _of_frame(numpy: Any, costs: Any) -> Any:
