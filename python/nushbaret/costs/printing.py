@@ -121,8 +121,8 @@ def _tried(numpy: Any, floats: Any, wide: Any, power: Any) -> Tuple[Any, Any]:
 
 
 def _of_few(numpy: Any, floats: Any, wide: Any, least: float) -> Any:
-    """Tries all numbers of places at once that sizes from `least` on may have. Smaller ones may need more. Whole numbers
-    are the same with one place."""
+    """Tries all numbers of places at once that sizes from `least` on may have. Smaller ones may need more. Whole
+    numbers are the same with one place."""
     most = bisect_left(_POWERS, _ENOUGH / least)
     decimals, fit = _tried(numpy, floats, wide, _powers_of(numpy)[1:most + 1])
     # A float that fits does so with more places too, and each one with the most.

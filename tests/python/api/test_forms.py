@@ -1,7 +1,6 @@
 """Arrays of every kind take the shorter way, and get the costs, kinds of answers and refusals of the longer one."""
 import pickle
 import unittest
-from decimal import Decimal
 from fractions import Fraction
 from unittest import mock
 
