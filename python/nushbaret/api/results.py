@@ -11,7 +11,7 @@ from ..lap import library, proved
 from ..lap.paths import Subproblem
 from ..lap.ranking import Ranking, has_other
 from .infeasible import infeasible
-from .solved import SolvedProblem, without_lists
+from .solved import SolvedProblem, ratios_of, sum_of, without_lists
 from .verdicts import Verdict, verdict_on
 
 
@@ -102,7 +102,7 @@ class Result(Lasting):
     def cost(self) -> Number:
         """The exact sum of the costs: an int, a Decimal where costs have decimal places, or a Fraction where one was
         given."""
-        return self._solved.cost
+        return sum_of(self._shape, ratios_of(self._shape, self._costs))
 
     def _numbers(self, values: Sequence[int]) -> Any:
         numpy = loaded_numpy() if self._as_arrays else None

@@ -21,6 +21,16 @@ def without_lists(problem: Problem) -> Problem:
     return problem._replace(costs=None, persons=None, objects=None, numpy=None, arrays=None)
 
 
+def ratios_of(shape: Problem, costs: Sequence[Any]) -> List[Ratio]:
+    """Costs of a problem, exactly."""
+    return [shape.ratio(cost) for cost in costs]
+
+
+def sum_of(shape: Problem, ratios: Sequence[Ratio]) -> Number:
+    """The exact sum of some costs of a problem."""
+    return total(ratios, shape.fractions) if shape.raw else shape.unit.shown(sum(number for number, _ in ratios))
+
+
 class SolvedProblem:
     """A problem that a call solved: where its costs are, the problem without its lists, the library's answer, and the
     costs of the plan's pairs, as they were at the call."""
@@ -28,11 +38,6 @@ class SolvedProblem:
     def __init__(self, source: Union[Source, FixedProblem], shape: Problem, answer: proved.Assignment,
                  costs: List[Any]):
         self.source, self.shape, self.answer, self.costs = source, shape, answer, costs
-
-    @classmethod
-    def of(cls, source: Union[Source, FixedProblem], problem: Problem, answer: proved.Assignment) -> "SolvedProblem":
-        """The problem with an answer of the library's."""
-        return cls(source, without_lists(problem), answer, costs_of_pairs(problem, *proved.pairs_of(problem, answer)))
 
     @cached_property
     def pairs(self) -> Tuple[List[int], List[int]]:
@@ -42,17 +47,7 @@ class SolvedProblem:
     @cached_property
     def ratios(self) -> List[Ratio]:
         """The costs of the pairs, exactly."""
-        return [self.shape.ratio(cost) for cost in self.costs]
-
-    @cached_property
-    def cost(self) -> Number:
-        """The exact sum of the costs."""
-        return self.sum_of(self.ratios)
-
-    def sum_of(self, ratios: Sequence[Ratio]) -> Number:
-        """The exact sum of some costs of the problem."""
-        shape = self.shape
-        return total(ratios, shape.fractions) if shape.raw else shape.unit.shown(sum(number for number, _ in ratios))
+        return ratios_of(self.shape, self.costs)
 
     @property
     def decimals(self) -> Optional[int]:
@@ -86,7 +81,7 @@ class SolvedProblem:
         problem, count = self.read_again(), len(self.pairs[0])
         served = None if count == min(problem.n_rows, problem.n_columns) else count
         again = solved(problem, None, served)
-        if isinstance(again, proved.HallSet) or SolvedProblem.of(self.source, problem, again).cost != self.cost:
+        if isinstance(again, proved.HallSet) or _cost_of(problem, again) != sum_of(self.shape, self.ratios):
             raise ValueError(CHANGED)
         found = exact_duals.exact_prices(problem, served, self.answer.objects)
         if found is None:
@@ -121,3 +116,8 @@ class SolvedProblem:
         if isinstance(self.source, Source):
             return self.source._replace(less=self.source.less + ((row, column),)), less, answer
         return FixedProblem(less), less, answer
+
+
+def _cost_of(problem: Problem, answer: proved.Assignment) -> Number:
+    """What the plan of an answer costs."""
+    return sum_of(problem, ratios_of(problem, costs_of_pairs(problem, *proved.pairs_of(problem, answer))))
