@@ -98,11 +98,11 @@ def _configuration(headers, held):
 
 
 def _extension():
-    """The extension for the machine that the wheel is for, as bytes: what was built, or else compiled here; None where
-    there is none."""
+    """The extension for the machine that the wheel is for, as bytes: what was built, unless its source is newer, or
+    else compiled here; None where there is none."""
     library = next(place for kind, (place, _) in LIBRARIES.items() if re.fullmatch(kind, PLATFORM))
     for file in (PACKAGE / EXTENSION, library.with_name(EXTENSION)):
-        if library.suffix == ".so" and file.exists():
+        if library.suffix == ".so" and file.exists() and file.stat().st_mtime >= SOURCE.stat().st_mtime:
             return file.read_bytes()
     compiler = next((own for kind, own in COMPILERS.items() if re.fullmatch(kind, PLATFORM)), None)
     if compiler is None:
