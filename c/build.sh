@@ -3,6 +3,7 @@
 # exports.map can be seen. Programs ask at run time for the SONAME, libnushbaret.so.3 by the first number of VERSION: a
 # link of this name stands next to it. Needs the kit, and cc with the binutils that it uses.
 #     c/build.sh [gate] [--target aarch64]
+# The extension module of the Python package, c/build_extension.sh, comes after them where Python.h is.
 # With `--target aarch64` it builds the same for 64-bit ARM in c/out/aarch64, by aarch64-linux-gnu-gcc and with the heap of
 # c/heap.c: the kit has one for x86-64 alone. Without it c/out gets module.ll too, the LLVM module of which the archive is
 # made; page/build.sh compiles it for web pages.
@@ -116,4 +117,5 @@ soname=libnushbaret.so.$(cut -d. -f1 "$top/VERSION")
     -Wl,--version-script="$top/c/exports.map" -Wl,-z,defs -Wl,-z,now -Wl,-z,relro
 ln -sf libnushbaret.so "$out/$soname"
 rm -f "$out/nushbaret.o" "$out/heap.o"
+"$top/c/build_extension.sh" ${tools:+--target aarch64} || echo 'c/build.sh: the Python package goes by ctypes, without an extension' >&2
 [ -n "$is_gate" ] || echo "c/build.sh: $out has libnushbaret.a and libnushbaret.so" >&2

@@ -1,13 +1,18 @@
-"""The build backend of the package: packs it, the shared library that c/build.sh made, the guide to rosters and the
-manual's page into a wheel. It needs nothing but Python, so that installing needs no network. Windows has no manual."""
+"""The build backend of the package: packs it, the shared library that c/build.sh made, the extension module, the guide
+to rosters and the manual's page into a wheel. It needs nothing but Python, so that installing needs no network. An
+extension that wasn't built yet is compiled where a C compiler and Python.h are; without one the package works, by
+ctypes. Windows has none, and no manual."""
 import base64
 import hashlib
 import io
 import pathlib
 import re
+import shutil
+import subprocess
 import sys
 import sysconfig
 import tarfile
+import tempfile
 import zipfile
 
 TOP = pathlib.Path(__file__).resolve().parent
@@ -19,7 +24,15 @@ LIBRARIES = {
     r"(linux|manylinux2014)[-_]aarch64": (BUILT / "aarch64" / "libnushbaret.so", "c/build.sh --target aarch64"),
     r"win[-_]amd64": (BUILT / "windows" / "nushbaret.dll", "c/build_windows.sh"),
 }
-NAMES = {place.name for place, _ in LIBRARIES.values()}
+EXTENSION = "_extension.abi3.so"
+NAMES = {EXTENSION, *(place.name for place, _ in LIBRARIES.values())}
+SOURCE = TOP / "nushbaret_extension.c"
+# The compilers that make the extension for each kind of machine; those of a machine of the same kind alone need no name
+# of their own.
+COMPILERS = {r"(linux|manylinux2014)[-_]x86_64": "cc", r"(linux|manylinux2014)[-_]aarch64": "aarch64-linux-gnu-gcc"}
+FLAGS = ("-std=c99", "-O3", "-ffp-contract=off", "-Wall", "-Wextra", "-Wno-missing-field-initializers", "-fPIC",
+         "-shared", "-fvisibility=hidden", "-Wl,-z,now", "-Wl,-z,relro", "-Wl,--build-id=none", "-s")
+NO_EXTENSION = "it needs a C compiler and Python.h (Debian has it in python3-dev)"
 DAY = (2020, 1, 1, 0, 0, 0)
 # What the wheel's tag says of the machine; release/make.sh sets it to what its library is looked at for.
 PLATFORM = sysconfig.get_platform()
@@ -61,6 +74,43 @@ def _library():
         if file.exists():
             return file
     raise SystemExit(f"{place.name} isn't there: run {script} at the top of the checkout first, and then install again")
+
+
+def compile_extension(compiler, place):
+    """Compiles the extension to a place; false where there is no compiler or no Python.h."""
+    headers = pathlib.Path(sysconfig.get_path("include"))
+    if not shutil.which(compiler) or not (headers / "Python.h").exists():
+        return False
+    with tempfile.TemporaryDirectory() as held:
+        _configuration(headers, pathlib.Path(held))
+        words = [compiler, *FLAGS, f"-I{headers}", f"-I{held}", "-o", str(place), SOURCE.name]
+        return subprocess.run(words, cwd=TOP).returncode == 0
+
+
+def _configuration(headers, held):
+    """Debian's pyconfig.h leads to that of the machine, which isn't there for another machine: as that for ARM serves
+    the one for x86-64."""
+    own = headers.parent / "x86_64-linux-gnu" / headers.name / "pyconfig.h"
+    if own.exists():
+        there = held / "aarch64-linux-gnu" / headers.name
+        there.mkdir(parents=True)
+        shutil.copy(own, there)
+
+
+def _extension():
+    """The extension for the machine that the wheel is for, as bytes: what was built, unless its source is newer, or
+    else compiled here; None where there is none."""
+    library = next(place for kind, (place, _) in LIBRARIES.items() if re.fullmatch(kind, PLATFORM))
+    for file in (PACKAGE / EXTENSION, library.with_name(EXTENSION)):
+        if library.suffix == ".so" and file.exists() and file.stat().st_mtime >= SOURCE.stat().st_mtime:
+            return file.read_bytes()
+    compiler = next((own for kind, own in COMPILERS.items() if re.fullmatch(kind, PLATFORM)), None)
+    if compiler is None:
+        return None
+    with tempfile.TemporaryDirectory() as held:
+        place = pathlib.Path(held) / EXTENSION
+        own = "cc" if PLATFORM == sysconfig.get_platform() else compiler
+        return place.read_bytes() if compile_extension(own, place) else None
 
 
 def _tag():
@@ -178,6 +228,9 @@ def build_wheel(wheel_directory, config_settings=None, metadata_directory=None):
     held = {f"nushbaret/{file.relative_to(PACKAGE).as_posix()}": file.read_bytes() for file in _sources()}
     library = _library()
     held[f"nushbaret/{library.name}"] = library.read_bytes()
+    extension = _extension()
+    if extension is not None:
+        held[f"nushbaret/{EXTENSION}"] = extension
     held.update(_guide())
     if library.suffix == ".so":
         held.update({f"{DATA}/{name}": text for name, text in _manual().items()})
@@ -195,7 +248,7 @@ def build_sdist(sdist_directory, config_settings=None):
     """The sources with the library next to them, so that a wheel can be made of them alone."""
     front = f"nushbaret-{VERSION}"
     files = {name: TOP / name for name in ("pyproject.toml", "nushbaret_build.py", "nushbaret_guide.py",
-                                           "nushbaret_manual.py")}
+                                           "nushbaret_manual.py", SOURCE.name)}
     files.update({file.name: file for file in (*DESCRIPTIONS, *GUIDES, *RULES) if file.exists()})
     files.update({f"examples/{file.name}": file for file in _examples()})
     files.update({file.name: file for file in _licenses()})

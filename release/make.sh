@@ -69,6 +69,7 @@ source_text() {
     echo "C library: $(told ldd --version)"
     echo "for ARM: $(told aarch64-linux-gnu-gcc --version), $(told aarch64-linux-gnu-ld --version), $(arm_library)"
     echo "for Windows: $(told x86_64-w64-mingw32-gcc --version), $(told x86_64-w64-mingw32-ld --version)"
+    echo "Python.h: $(told python3 -c 'import re, sysconfig; print(re.search(r"PY_VERSION +.(\S+)\"", open(sysconfig.get_path("include") + "/patchlevel.h").read())[1])')"
     echo "packers: $(told tar --version), $(told gzip --version), zlib $(told python3 -c 'import zlib; print(zlib.ZLIB_RUNTIME_VERSION)')"
 }
 
@@ -109,15 +110,19 @@ look_at_the_program() {
 
 # The same of a machine's library, which is for this machine.
 look_at_the_library() {
-    local words='' soname
+    local words='' soname file
     [ "$machine" = x86_64 ] || words=" --target $machine"
-    for file in "$library.so" "$library.a"; do
-        [ -e "$file" ] || stop "${file#"$top"/} isn't there: run c/build.sh$words first"
+    extension=$(dirname "$library")/_extension.abi3.so
+    for file in "$library.so" "$library.a" "$extension"; do
+        [ -e "$file" ] || stop "${file#"$top"/} isn't there: run c/build.sh$words first (the extension needs Python.h)"
     done
+    [ "$extension" -nt "$top/python/nushbaret_extension.c" ] || stop "${extension#"$top"/} is older than its source: run c/build_extension.sh$words"
     soname=$(readelf -d "$library.so" | sed -n 's/.*(SONAME).*\[\(.*\)\]/\1/p')
     [ "$soname" = "libnushbaret.so.$major" ] || stop "the SONAME of ${library#"$top"/}.so is '$soname', not libnushbaret.so.$major: run c/build.sh$words"
-    readelf -h "$library.so" | sed 's/X86-64/x86_64/; s/AArch64/aarch64/' | grep "Machine:.*$machine" > /dev/null || stop "${library#"$top"/}.so is for another machine"
-    needs_only "$library.so" "$library_glibc"
+    for file in "$library.so" "$extension"; do
+        readelf -h "$file" | sed 's/X86-64/x86_64/; s/AArch64/aarch64/' | grep "Machine:.*$machine" > /dev/null || stop "${file#"$top"/} is for another machine"
+        needs_only "$file" "$library_glibc"
+    done
 }
 
 # filled PART LIBDIR PREFIX PYTHON: a file of parts/ with the places for what differs filled in. UP leads from its folder to the prefix.

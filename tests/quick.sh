@@ -55,6 +55,7 @@ borrow() {
     tar -xzf release/nushbaret-*-linux-"$1".tar.gz -C "$work/$1"
     cp "$work/$1/lib/libnushbaret.a" "$2/"
     cp -L "$work/$1/lib/libnushbaret.so" "$2/"
+    cp "$work/$1/lib/nushbaret/nushbaret/_extension.abi3.so" "$2/" 2> /dev/null || echo "left out: the extension for $1, which release/ hasn't"
     ln -sf libnushbaret.so "$2/libnushbaret.so.$(cut -d. -f1 VERSION)"
 }
 

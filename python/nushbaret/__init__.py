@@ -9,14 +9,17 @@ where rows and columns count several times, and `plan_roster` where there are ru
 weekends; for it SciPy finds, and a check in whole numbers proves. `k_best` yields plans from the best on, and
 `bottleneck` makes the worst pair as good as possible. `check` and `compare` judge plans from elsewhere. Plans are best
 for the costs as given, of any size. Nushbaret's proved library solves all costs that are up to 10**12 multiples of one
-unit, and proves the plan; for any others it solves rounded ones, level by level. What this package adds is tested, not
-proved: how costs are read, levels, dummies where some stay out, and the order of plans.
+unit, and matrices of doubles unless plans nearly tie, and proves the plan; for any others it solves rounded ones, level
+by level. What this package adds is tested, not proved: how costs are read, levels, dummies where some stay out, and the
+order of plans.
 """
 import importlib
 import os
 from typing import TYPE_CHECKING, Any, List
 
 if TYPE_CHECKING:
+    from .api.assigner import Assigner
+    from .api.batch import linear_sum_assignment_batch
     from .api.bottleneck import bottleneck
     from .api.check import Comparison, check, compare
     from .api.counts import CountsInfeasible, CountsResult, assign_counts
@@ -29,13 +32,16 @@ if TYPE_CHECKING:
     from .costs.limits import GREATEST_COST, MOST_PERSONS
     from .lap.library import VERSION as __version__, LibraryNotFound
 
-__all__ = ["GREATEST_COST", "MOST_PERSONS", "Comparison", "CountsInfeasible", "CountsResult", "Infeasible",
+__all__ = ["GREATEST_COST", "MOST_PERSONS", "Assigner", "Comparison", "CountsInfeasible", "CountsResult", "Infeasible",
            "LibraryNotFound", "Plan", "Result", "RosterPlan", "Shortage", "Verdict", "__version__", "assign_counts",
-           "bottleneck", "check", "compare", "k_best", "linear_sum_assignment", "plan_roster", "solve", "solve_sparse"]
+           "bottleneck", "check", "compare", "k_best", "linear_sum_assignment", "linear_sum_assignment_batch",
+           "plan_roster", "solve", "solve_sparse"]
 
 # The module of each name. It is loaded when the name is first used, so that the command can set what Ctrl-C does before
 # that.
 _MODULES = {
+    "api.assigner": ("Assigner",),
+    "api.batch": ("linear_sum_assignment", "linear_sum_assignment_batch"),
     "api.bottleneck": ("bottleneck",),
     "api.check": ("Comparison", "check", "compare"),
     "api.counts": ("CountsInfeasible", "CountsResult", "assign_counts"),
@@ -43,7 +49,7 @@ _MODULES = {
     "api.plans": ("k_best",),
     "api.results": ("Plan", "Result"),
     "api.rosters": ("RosterPlan", "plan_roster"),
-    "api.solve": ("linear_sum_assignment", "solve", "solve_sparse"),
+    "api.solve": ("solve", "solve_sparse"),
     "api.verdicts": ("Verdict",),
     "costs.limits": ("GREATEST_COST", "MOST_PERSONS"),
     "lap.library": ("VERSION", "LibraryNotFound"),

@@ -14,7 +14,8 @@ SOLVER = TOP / "crates/list_solver/src"
 ROWS = TOP / "crates/lent_rows/src/info.rt"
 DOUBLES = TOP / "crates/lent_doubles/src"
 HEADER = re.sub(r"/\*.*?\*/", "", (TOP / "c/nushbaret.h").read_text(), flags=re.S)
-NUMBERS = {"u8": "uint8_t", "u32": "uint32_t", "u64": "uint64_t", "usize": "size_t", "i32": "int32_t", "i64": "int64_t", "f64": "double",
+NUMBERS = {"u8": "uint8_t", "u32": "uint32_t", "u64": "uint64_t", "usize": "size_t", "i32": "int32_t",
+           "i64": "int64_t", "f64": "double",
            "Person": "uint32_t", "Object": "uint32_t", "Cost": "int64_t", "Price": "int64_t",
            "Record": "struct nushbaret_record", "Info": "struct nushbaret_info",
            "RowsInfo": "struct nushbaret_rows_info", "DoublesInfo": "struct nushbaret_doubles_info"}

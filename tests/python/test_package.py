@@ -10,6 +10,7 @@ import re
 import shutil
 import subprocess
 import sys
+import sysconfig
 import tempfile
 import unittest
 import zipfile
@@ -79,8 +80,38 @@ class Package(unittest.TestCase):
                                 "import nushbaret_build; print(nushbaret_build.build_wheel('..'))"],
                                cwd=self.folder / f"nushbaret-{build.VERSION}", capture_output=True, text=True,
                                check=True)
-        self.assertEqual((self.folder / again.stdout.strip()).read_bytes(),
-                         (self.folder / build.build_wheel(self.folder)).read_bytes())
+        own, other = self.held(again.stdout.strip()), self.held(build.build_wheel(self.folder))
+        self.assertEqual(own, other)
+        subprocess.run([sys.executable, "-m", "zipfile", "-e", again.stdout.strip(), "again"], cwd=self.folder,
+                       check=True)
+        self.solves(str(self.folder / "again"))
+
+    def held(self, name):
+        """What a wheel holds, without the extension, which each compiler makes in its own way, and what sums it up."""
+        with zipfile.ZipFile(self.folder / name) as wheel:
+            return {file: wheel.read(file) for file in wheel.namelist()
+                    if not file.endswith(("/_extension.abi3.so", "/RECORD"))}
+
+    def test_extension(self):
+        """It is packed if it was built, or else if it can be compiled, and never for Windows; without it the package is
+        whole."""
+        build = backend()
+        shutil.copytree(build.PACKAGE, self.folder / "nushbaret",
+                        ignore=shutil.ignore_patterns("__pycache__", *build.NAMES))
+        build.PACKAGE = self.folder / "nushbaret"
+        build.LIBRARIES = {kind: (build.PACKAGE / place.name, script)
+                           for kind, (place, script) in build.LIBRARIES.items()}
+        for name in "libnushbaret.so", "nushbaret.dll":
+            (build.PACKAGE / name).write_bytes(b"a library")
+        can = shutil.which("cc") and (pathlib.Path(sysconfig.get_path("include")) / "Python.h").exists()
+        for build.PLATFORM, there in ((sysconfig.get_platform(), bool(can)), ("win-amd64", False)):
+            with zipfile.ZipFile(self.folder / build.build_wheel(self.folder)) as wheel:
+                self.assertEqual(f"nushbaret/{build.EXTENSION}" in wheel.namelist(), there)
+        (build.PACKAGE / build.EXTENSION).write_bytes(b"built")
+        build.PLATFORM = "manylinux2014_aarch64"
+        with zipfile.ZipFile(self.folder / build.build_wheel(self.folder)) as wheel:
+            self.assertEqual(wheel.read(f"nushbaret/{build.EXTENSION}"), b"built")
+        self.assertFalse(build.compile_extension("no-compiler", self.folder / "none"))
 
     def test_no_library_to_pack(self):
         build = backend()
@@ -109,7 +140,8 @@ class Package(unittest.TestCase):
                 # Windows has no manual.
                 self.assertEqual(any(".data/" in file for file in wheel.namelist()), name.endswith(".so"))
                 # The other library isn't packed.
-                self.assertEqual([file for file in wheel.namelist() if file.endswith((".so", ".dll"))],
+                self.assertEqual([file for file in wheel.namelist()
+                                  if file.endswith((".so", ".dll")) and not file.endswith(build.EXTENSION)],
                                  [f"nushbaret/{name}"])
             self.assertEqual(sorted(file.name for file in build._sources()), sources)
 

@@ -75,11 +75,14 @@ roster=$'least hours: 12\.00\nAda: early, 2\.50\nBen: night, 1\.75\nCleo: late, 
 wheel() {
     python3 -m zipfile -e "$folder/nushbaret-$version-py3-none-manylinux2014_x86_64.whl" "$work/unpacked"
     library "$work/unpacked/nushbaret/libnushbaret.so" X86-64
+    library "$work/unpacked/nushbaret/_extension.abi3.so" X86-64
     if python3 -m venv "$work/planner" > "$work/log" 2>&1; then
         done_by 'pip install' "$work/planner/bin/pip" --disable-pip-version-check install --quiet --no-index --find-links "$folder" nushbaret || return
         expect 'nushbaret --version' "nushbaret $version" "$work/planner/bin/nushbaret" --version
         expect 'nushbaret' "$roster" "$work/planner/bin/nushbaret" "$top/examples/named_roster.csv"
         expect 'import' "$work/planner/.* 5" "$work/planner/bin/python" -I -c 'import nushbaret; print(nushbaret.__file__, nushbaret.solve([[1, 2], [3, 5]]).cost)'
+        expect 'the extension' "builtin_function_or_method .*\[0, 1\].*" "$work/planner/bin/python" -I -c \
+            'import nushbaret; print(type(nushbaret.linear_sum_assignment).__name__, nushbaret.linear_sum_assignment([[1, 2.5], [3, 5]], True))'
         guide "$work/planner/bin/nushbaret"
         expect 'pip show' '.*Topic :: Office/Business :: Scheduling.*' "$work/planner/bin/pip" --disable-pip-version-check show --verbose nushbaret
         ran 'the wheel in a venv'
@@ -96,6 +99,7 @@ wheel_for_arm() {
     done_by 'pip install for ARM' "$work/planner/bin/pip" --disable-pip-version-check install --quiet --no-index --find-links "$folder" \
         --platform manylinux2014_aarch64 --only-binary=:all: --target "$work/for_arm" nushbaret || return
     library "$work/for_arm/nushbaret/libnushbaret.so" AArch64
+    library "$work/for_arm/nushbaret/_extension.abi3.so" AArch64
     ran 'the wheel for ARM by pip'
 }
 

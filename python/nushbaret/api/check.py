@@ -10,6 +10,7 @@ from ..lap.checking import counted
 from ..lap.proved import exact_prices
 from .results import Result, numbered
 from .solve import solve_problem
+from .solved import ratios_of, sum_of
 from .verdicts import Verdict, verdict_on
 
 
@@ -144,5 +145,5 @@ def compare(costs: Any, columns: Any, rows: Any = None, maximize: bool = False,
     result = solve_problem(problem, None, True, source)
     if len(pairs) != len(result.rows):
         raise ValueError(f"the plan has {counted(len(pairs), 'pair')}, and {len(result.rows)} can be made")
-    own, best = result._sum_of([problem.ratio(cost) for cost in held]), result.cost
+    own, best = sum_of(result._shape, ratios_of(problem, held)), result.cost
     return Comparison(own, best, exactly_less(best, own) if problem.maximize else exactly_less(own, best), result)

@@ -69,5 +69,5 @@ def k_best(costs: Any, k: int, maximize: bool = False, decimals: Optional[int] =
     with library.limited(timeout):
         problem = source.read()
         result = solve_problem(problem, None, partial, source)
-        ranking = result._ranking_of(problem)
+        ranking = result._solved.ranking(problem)
     return _in_order(ranking, result, k, timeout)

@@ -1,23 +1,18 @@
 """A best assignment as the caller sees it."""
 import decimal
-from fractions import Fraction
 from functools import cached_property
 from typing import Any, Dict, Iterable, List, NamedTuple, Optional, Sequence, Tuple, Union
 
-from ..costs import problem as reading
-from ..costs.numbers import Number, Ratio, Unit, all_shown, total
+from ..costs.numbers import Number, all_shown
 from ..costs.problem import Problem, costs_of_pairs
 from ..costs.reading import loaded_numpy, manner, whole_number
 from ..costs.source import FixedProblem, Source, problem_of
-from ..lap import duals as exact_duals, library, proved
-from ..lap.checking import check_wholly
-from ..lap.ranking import Ranking, Subproblem
-from ..lap.solving import solved
+from ..lap import library, proved
+from ..lap.paths import Subproblem
+from ..lap.ranking import Ranking, has_other
 from .infeasible import infeasible
+from .solved import SolvedProblem, ratios_of, sum_of, without_lists
 from .verdicts import Verdict, verdict_on
-
-CHANGED = ("the costs were changed after the call, and the plan and its duals are no longer best for them: solve them "
-           "again")
 
 
 class Plan(NamedTuple):
@@ -78,9 +73,8 @@ class Result(Lasting):
     def __init__(self, source: Union[Source, FixedProblem], problem: Problem, answer: proved.Assignment):
         rows, columns = proved.rows_and_columns(problem, answer)
         costs = costs_of_pairs(problem, rows, columns)
-        # Without its lists the problem is small.
-        shape = problem._replace(costs=None, persons=None, objects=None, numpy=None, arrays=None)
-        self._take(source, proved.ResultParts(shape, answer, rows, columns, costs, problem.arrays is not None))
+        found = proved.ResultParts(without_lists(problem), answer, rows, columns, costs, problem.arrays is not None)
+        self._take(source, found)
 
     def _take(self, source: Union[Source, FixedProblem], found: proved.ResultParts) -> None:
         held = self.__dict__
@@ -94,29 +88,21 @@ class Result(Lasting):
         result._take(source, found)
         return result
 
+    @cached_property
+    def _solved(self) -> SolvedProblem:
+        return SolvedProblem(self._source, self._shape, self._answer, self._costs)
+
+    def __getstate__(self) -> Dict[str, Any]:
+        return {name: value for name, value in self.__dict__.items() if name != "_solved"}
+
     def __repr__(self) -> str:
         return f"<nushbaret.Result: cost {self.cost}, {len(self.rows)} pairs>"
-
-    @cached_property
-    def _pairs(self) -> Tuple[List[int], List[int]]:
-        """Rows and columns of the pairs, which nobody can change."""
-        return proved.pairs_of(self._shape, self._answer)
-
-    @cached_property
-    def _ratios(self) -> List[Ratio]:
-        """The costs of the pairs, as they were at the call."""
-        return [self._shape.ratio(cost) for cost in self._costs]
 
     @cached_property
     def cost(self) -> Number:
         """The exact sum of the costs: an int, a Decimal where costs have decimal places, or a Fraction where one was
         given."""
-        return self._sum_of(self._ratios)
-
-    def _sum_of(self, ratios: Sequence[Ratio]) -> Number:
-        """The exact sum of some costs of the problem."""
-        shape = self._shape
-        return total(ratios, shape.fractions) if shape.raw else shape.unit.shown(sum(number for number, _ in ratios))
+        return sum_of(self._shape, ratios_of(self._shape, self._costs))
 
     def _numbers(self, values: Sequence[int]) -> Any:
         numpy = loaded_numpy() if self._as_arrays else None
@@ -125,54 +111,21 @@ class Result(Lasting):
     @cached_property
     def pairs(self) -> List[Tuple[Any, Any]]:
         """The pairs, by the labels of a DataFrame, or else by numbers."""
-        return [(self._shape.row_name(row), self._shape.column_name(column)) for row, column in zip(*self._pairs)]
+        return [(self._shape.row_name(row), self._shape.column_name(column))
+                for row, column in zip(*self._solved.pairs)]
 
     @cached_property
     def unmatched_rows(self) -> Any:
         """The rows without a pair, rising."""
-        return self._numbers(sorted(set(range(self._shape.n_rows)).difference(self._pairs[0])))
+        return self._numbers(sorted(set(range(self._shape.n_rows)).difference(self._solved.pairs[0])))
 
     @cached_property
     def unmatched_columns(self) -> Any:
         """The columns without a pair, rising."""
-        return self._numbers(sorted(set(range(self._shape.n_columns)).difference(self._pairs[1])))
-
-    def _read_again(self) -> Problem:
-        """The problem of the call; ValueError if the plan's pairs have other costs now."""
-        problem = self._source.read()
-        if (problem.n_rows, problem.n_columns) != (self._shape.n_rows, self._shape.n_columns):
-            raise ValueError(CHANGED)
-        now = costs_of_pairs(problem, *self._pairs)
-        if None in now or [Fraction(*problem.ratio(cost)) for cost in now] != [Fraction(*ratio)
-                                                                               for ratio in self._ratios]:
-            raise ValueError(CHANGED)
-        return problem
-
-    @cached_property
-    def _whole_duals(self) -> Tuple[proved.Duals, Unit]:
-        """Whole duals in a unit. Where levels found the plan these take the costs again."""
-        unit = self._shape.unit
-        prices: List[int] = []
-        if self._pairs[0] and self._answer.prices is None:
-            prices, unit = self._exact_prices()
-        elif self._pairs[0]:
-            prices = proved.whole_prices(self._answer)
-        costs = [number * (unit.denominator // denominator) for number, denominator in self._ratios]
-        return proved.duals_of(self._shape, self._answer, prices, list(zip(*self._pairs)), costs), unit
-
-    def _exact_prices(self) -> exact_duals.ExactPrices:
-        problem, count = self._read_again(), len(self._pairs[0])
-        served = None if count == min(problem.n_rows, problem.n_columns) else count
-        again = solved(problem, None, served)
-        if isinstance(again, proved.HallSet) or Result(self._source, problem, again).cost != self.cost:
-            raise ValueError(CHANGED)
-        found = exact_duals.exact_prices(problem, served, self._answer.objects)
-        if found is None:
-            raise ValueError(CHANGED)
-        return found
+        return self._numbers(sorted(set(range(self._shape.n_columns)).difference(self._solved.pairs[1])))
 
     def _shown(self, numbers: Iterable[int]) -> List[Number]:
-        unit = self._whole_duals[1]
+        unit = self._solved.duals[1]
         return [unit.shown(number) for number in numbers]
 
     @cached_property
@@ -185,49 +138,25 @@ class Result(Lasting):
         are reversed. In a partial plan that leaves out rows and columns, unmatched rows have one dual, none is greater,
         and the sum over matched rows and columns is the cost. Other duals may prove the same plan.
         """
-        return self._shown(-dual if self.maximize else dual for dual in self._whole_duals[0].rows)
+        return self._shown(-dual if self.maximize else dual for dual in self._solved.duals[0].rows)
 
     @cached_property
     def column_duals(self) -> List[Number]:
         """The exact dual of each column, as `row_duals` says."""
-        return self._shown(-dual if self.maximize else dual for dual in self._whole_duals[0].columns)
+        return self._shown(-dual if self.maximize else dual for dual in self._solved.duals[0].columns)
 
     @cached_property
     def prices(self) -> List[Number]:
         """One price for each column, exactly, in the unit of the costs; the least is 0. With them `check` proves the
         plan, and `start` begins at them."""
-        return self._shown(proved.rents(self._whole_duals[0]))
-
-    @property
-    def _rents(self) -> List[Number]:
-        """The prices, as the command for rosters calls them."""
-        return self.prices
-
-    @cached_property
-    def _exact_rents(self) -> List[Fraction]:
-        duals, unit = self._whole_duals
-        return [Fraction(rent, unit.denominator) for rent in proved.rents(duals)]
-
-    def _checked(self) -> Problem:
-        """The problem of the call; ValueError unless the duals prove that the plan is best for its costs as they are
-        now."""
-        problem = self._read_again()
-        if not check_wholly(problem, self._pairs[0], self._pairs[1], self._exact_rents):
-            raise ValueError(CHANGED)
-        return problem
+        return self._shown(proved.rents(self._solved.duals[0]))
 
     @cached_property
     def is_unique(self) -> bool:
         """Whether no other plan of as many pairs is as good. The library finds, among the plans along pairs without
         reduced cost, one with as few of this plan's pairs as possible; which pairs these are follows from the duals."""
-        return not self._ranking().has_other()
-
-    def _ranking(self) -> Ranking:
-        """The plans of the problem of the call, from this one on."""
-        return self._ranking_of(self._checked())
-
-    def _ranking_of(self, problem: Problem) -> Ranking:
-        return Ranking(problem, self._pairs, self._ratios, *self._whole_duals)
+        ranking = self._solved.ranking()
+        return not has_other(ranking.paths, ranking.whole)
 
     def _plan(self, ranking: Ranking, part: Subproblem) -> Plan:
         """The best plan of a part, as the caller sees it."""
@@ -250,7 +179,7 @@ class Result(Lasting):
         >>> nushbaret.solve([[4, 1], [2, 3]]).next_best().cost
         7
         """
-        ranking = self._ranking()
+        ranking = self._solved.ranking()
         ranking.split(ranking.whole, 1)
         part = ranking.take()
         return None if part is None else self._plan(ranking, part)
@@ -272,8 +201,8 @@ class Result(Lasting):
         """
         import pandas  # type: ignore
         shape = self._shape
-        costs: List[Any] = (all_shown(self._ratios, shape.fractions) if shape.raw
-                            else [shape.unit.shown(number) for number, _ in self._ratios])
+        costs: List[Any] = (all_shown(self._solved.ratios, shape.fractions) if shape.raw
+                            else [shape.unit.shown(number) for number, _ in self._solved.ratios])
         rows, columns = zip(*self.pairs) if self.pairs else ((), ())
         return pandas.DataFrame({"row": list(rows), "column": list(columns), "cost": in_frames(costs)})
 
@@ -303,17 +232,13 @@ class Result(Lasting):
         if costs is None:
             problem = self._source.read()
         else:
-            how = manner(self.maximize, self._decimals, missing)
+            how = manner(self.maximize, self._solved.decimals, missing)
             problem = problem_of(costs, rows, columns, (self._shape.n_rows, self._shape.n_columns), how)
         try:
-            prices = self._exact_rents
+            prices = self._solved.rents
         except ValueError as fault:
             return Verdict(str(fault))
-        return verdict_on(problem, self._pairs[0], self._pairs[1], prices)
-
-    @property
-    def _decimals(self) -> Optional[int]:
-        return self._source.manner.decimals if isinstance(self._source, Source) else None
+        return verdict_on(problem, self._solved.pairs[0], self._solved.pairs[1], prices)
 
     def without(self, row: Any, column: Any, timeout: Optional[float] = None) -> "Result":
         """The best plan with this pair forbidden. The pair is worth what that plan costs more.
@@ -343,7 +268,16 @@ class Result(Lasting):
         >>> nushbaret.solve([[4, 1], [2, 3]]).without(0, 1).cost
         7
         """
-        return _without(self, row, column, timeout)
+        shape = self._shape
+        rows, columns = shape.labels or (None, None)
+        row, column = numbered(row, rows, "row"), numbered(column, columns, "column")
+        if not (0 <= row < shape.n_rows and 0 <= column < shape.n_columns):
+            raise IndexError(f"row {row}, column {column}: there are {shape.n_rows} rows and {shape.n_columns} columns")
+        with library.limited(timeout):
+            source, problem, answer = self._solved.without(row, column)
+        if isinstance(answer, proved.HallSet):
+            raise infeasible(problem)
+        return Result(source, problem, answer)
 
 
 def in_frames(costs: List[Any]) -> List[Any]:
@@ -365,26 +299,3 @@ def numbered(value: Any, labels: Optional[List[Any]], name: str) -> int:
         return labels.index(value)
     except ValueError:
         raise IndexError(f"{name}: the frame has no label {value!r}") from None
-
-
-def _without(result: Result, row: Any, column: Any, timeout: Optional[float]) -> Result:
-    """Solves the problem of a result again with one pair forbidden."""
-    shape = result._shape
-    rows, columns = shape.labels or (None, None)
-    row, column = numbered(row, rows, "row"), numbered(column, columns, "column")
-    if not (0 <= row < shape.n_rows and 0 <= column < shape.n_columns):
-        raise IndexError(f"row {row}, column {column}: there are {shape.n_rows} rows and {shape.n_columns} columns")
-    with library.limited(timeout):
-        less = reading.without_pair(result._checked(), row, column)
-        answer = solved(less, _less(result, row, column), len(result._pairs[0]))
-    if isinstance(answer, proved.HallSet):
-        raise infeasible(less)
-    source: Any = result._source
-    source = source._replace(less=source.less + ((row, column),)) if isinstance(source, Source) else FixedProblem(less)
-    return Result(source, less, answer)
-
-
-def _less(result: Result, row: int, column: int) -> proved.WarmStart:
-    """Where the search without a pair begins: at the result's prices and other pairs."""
-    pairs = [pair for pair in zip(*result._pairs) if pair != (row, column)]
-    return proved.WarmStart(result._exact_rents, [own for own, _ in pairs], [own for _, own in pairs])

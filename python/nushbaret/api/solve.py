@@ -4,8 +4,7 @@ from typing import Any, Callable, List, Optional, Sequence, Tuple, Union, overlo
 from ..costs import problem as reading, reading as exact, source as sources
 from ..costs.problem import Problem
 from ..costs.source import FixedProblem, Source
-from ..lap import library, proved
-from ..lap.small import small_arrays
+from ..lap import direct, library, proved
 from ..lap.solving import Began, most, solved
 from .infeasible import infeasible
 from .results import Result
@@ -33,10 +32,10 @@ def began_at(problem: Problem, start: Start) -> Began:
             raise TypeError(f"start is {start!r}: it must be a result, or a list of prices")
         return proved.WarmStart(proved.exact_prices(problem, start, "start"))
     try:
-        prices = start._exact_rents
+        prices = start._solved.rents
     except ValueError:
         return None
-    return proved.WarmStart(proved.exact_prices(problem, prices), *start._pairs)
+    return proved.WarmStart(proved.exact_prices(problem, prices), *start._solved.pairs)
 
 
 def solve_served(problem: Problem, served: int, source: Optional[Source] = None) -> Optional[Result]:
@@ -124,8 +123,7 @@ def solve(costs: Any, maximize: bool = False, decimals: Optional[int] = None, st
     Decimal('5.5')
     """
     if decimals is None and start is None and timeout is None and progress is None and missing == "refuse":
-        arrays = small_arrays()
-        found = arrays and arrays.found(costs, bool(maximize))
+        found = direct.found(costs, bool(maximize))
         if found:
             return Result._of(Source(costs, None, None, None, exact.Manner(found.shape.maximize)), found)
     source = Source(sources.lasting(costs), None, None, None, exact.manner(maximize, decimals, missing))
@@ -216,10 +214,6 @@ def linear_sum_assignment(cost_matrix: Any, maximize: bool = False, *, missing: 
     >>> nushbaret.linear_sum_assignment([[0.3, 0.1, 1e15], [0.1, 0.3, 1e15], [1e15, 1e15, 0.5]])
     ([0, 1, 2], [1, 0, 2])
     """
-    arrays = small_arrays() if timeout is None and progress is None and missing == "refuse" else None
-    found = arrays and (arrays.assignment(cost_matrix, maximize) or arrays.of_rows(cost_matrix, maximize))
-    if found:
-        return found
     with library.limited(timeout, progress):
         problem = reading.of_matrix(cost_matrix, exact.manner(maximize, None, missing, True))
         return proved.rows_and_columns(problem, _answer(problem, None, False))

@@ -80,15 +80,10 @@ def _powers_of(numpy: Any) -> Any:
 
 def of_array(numpy: Any, flat: Any) -> Any:
     """What the floats of an array of 16 or 32 bits print as; infinities and NaN stay."""
-    return parts.filled(numpy, numpy.float64, len(flat), lambda part: _of_part(numpy, flat[part])[0])
+    return parts.filled(numpy, numpy.float64, len(flat), lambda part: _of_part(numpy, flat[part]))
 
 
-def with_places(numpy: Any, flat: Any) -> Tuple[Any, int]:
-    """As `of_array`, and how many decimal places these have, or fewer."""
-    return _of_part(numpy, flat) if flat.size <= parts.PART else (of_array(numpy, flat), 0)
-
-
-def _of_part(numpy: Any, floats: Any) -> Tuple[Any, int]:
+def _of_part(numpy: Any, floats: Any) -> Any:
     wide = floats.astype(numpy.float64)
     sizes = wide if len(wide) and wide.item(wide.argmin()) > 0 else numpy.abs(wide)
     # From here on floats end in zeros where they print.
@@ -97,17 +92,17 @@ def _of_part(numpy: Any, floats: Any) -> Tuple[Any, int]:
     if floats.itemsize > 2 and len(sizes) and sizes.item(sizes.argmax()) < great:
         least = sizes.item(sizes.argmin())
         if floats.item(0).is_integer() and (numpy.rint(wide) == wide).all():
-            return wide, 0
-        found, least_places = find(numpy, floats, wide, max(least, _LEAST))
+            return wide
+        found = find(numpy, floats, wide, max(least, _LEAST))
         if least < _LEAST:
             _read(numpy, floats, found, (sizes < _LEAST) & (sizes > 0))
-        return found, least_places
+        return found
     with numpy.errstate(all="ignore"):
-        found, _ = find(numpy, floats, wide, _LEAST)
+        found = find(numpy, floats, wide, _LEAST)
         odd = (sizes >= great) | (wide != wide)
         _read(numpy, floats, found, odd | (sizes == _UNEVEN if floats.itemsize == 2
                                            else (sizes < _LEAST) & (sizes > 0)))
-        return found, 0
+        return found
 
 
 def _read(numpy: Any, floats: Any, found: Any, odd: Any) -> None:
@@ -125,17 +120,17 @@ def _tried(numpy: Any, floats: Any, wide: Any, power: Any) -> Tuple[Any, Any]:
     return decimals, decimals.astype(floats.dtype) == floats
 
 
-def _of_few(numpy: Any, floats: Any, wide: Any, least: float) -> Tuple[Any, int]:
-    """Tries all numbers of places at once that sizes from `least` on may have, and says how many are needed. Smaller
-    ones may need more. Whole numbers are the same with one place."""
+def _of_few(numpy: Any, floats: Any, wide: Any, least: float) -> Any:
+    """Tries all numbers of places at once that sizes from `least` on may have. Smaller ones may need more. Whole
+    numbers are the same with one place."""
     most = bisect_left(_POWERS, _ENOUGH / least)
     decimals, fit = _tried(numpy, floats, wide, _powers_of(numpy)[1:most + 1])
     # A float that fits does so with more places too, and each one with the most.
     fewer = numpy.add.reduce(fit[:-1], axis=0, dtype=numpy.int8)
-    return decimals[~fewer, numpy.arange(len(floats))], most - fewer.item(fewer.argmin()) if len(fewer) else 0
+    return decimals[~fewer, numpy.arange(len(floats))]
 
 
-def _of_many(numpy: Any, floats: Any, wide: Any, _: float) -> Tuple[Any, int]:
+def _of_many(numpy: Any, floats: Any, wide: Any, _: float) -> Any:
     """Tries the places that some have, and then fewer for those that fit and more for the others."""
     # Mostly the first is like the next ones, but not where a diagonal has zeros.
     some = _tried(numpy, floats[:_SOME], wide[:_SOME], _powers_of(numpy))[1].argmax(axis=0)
@@ -147,14 +142,14 @@ def _of_many(numpy: Any, floats: Any, wide: Any, _: float) -> Tuple[Any, int]:
         few = fit_too.nonzero()[0]
         left = left.take(few)
         found[left] = decimals.take(few)
-    return found, _with_more_places(numpy, floats, wide, found, (~fit).nonzero()[0], start)
+    _try_more_places(numpy, floats, wide, found, (~fit).nonzero()[0], start)
+    return found
 
 
-def _with_more_places(numpy: Any, floats: Any, wide: Any, found: Any, left: Any, start: int) -> int:
-    """Tries more places for those that are left, and says how many are needed."""
+def _try_more_places(numpy: Any, floats: Any, wide: Any, found: Any, left: Any, start: int) -> None:
+    """Tries more places for those that are left."""
     for places in range(start + 1, _MOST_PLACES + 1):
         if not len(left):
-            return places - 1
+            return
         found[left], fit = _tried(numpy, floats.take(left), wide.take(left), _POWERS[places])
         left = left.take((~fit).nonzero()[0])
-    return _MOST_PLACES

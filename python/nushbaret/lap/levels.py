@@ -20,7 +20,7 @@ from typing import Any, Optional, Tuple, Union
 from ..costs import problem as reading
 from ..costs.numbers import ONE, Unit, bits_above, rounded
 from ..costs.problem import Problem
-from . import arrays, pricing, proved, residues, ties
+from . import arrays, doubles, pricing, proved, residues, ties
 from .level import BITS, Level, Pairs, more
 from .reduced import is_only_plan, kept, level_of
 
@@ -49,15 +49,10 @@ def _solved(problem: Problem, served: Optional[int], start: Optional[proved.Warm
     found = priced.level if priced else first_level(problem, served, start)
     if isinstance(found, proved.HallSet):
         return found
-    objects = _from_level(problem, tied, found, priced.pairs if priced else None)
+    objects = doubles.best_from(problem, found) if served is None else None
+    if objects is None:
+        objects = _from_level(problem, tied, found, priced.pairs if priced else None)
     return proved.Assignment(found.asked.n, found.asked.m, None, objects, None)
-
-
-def after_first(problem: Problem, level: Level) -> Any:
-    """The objects of a best plan of a matrix, or of listed pairs, from its first level."""
-    tied = ties.of_problem(problem)
-    objects = None if tied is None else ties.best(tied)
-    return _from_level(problem, tied, level, None) if objects is None else objects
 
 
 def _from_level(problem: Problem, tied: Optional[ties.Matrix], level: Level, pairs: Optional[Pairs]) -> Any:

@@ -20,6 +20,9 @@ CODES = (
     "HALL_RANGE", "HALL_ORDER", "HALL_MISSING", "HALL_EXTRA", "HALL_COUNT",
     "OVERPRICED",
     "STOPPED",
+    # A code that 4.0.0 had.
+    "",
+    "UNDECIDED",
 )
 
 # What the library is called, where a checkout has it, and what makes it there.
@@ -53,7 +56,6 @@ class Record(ctypes.Structure):
                 ("flags", ctypes.c_uint32), ("looks", ctypes.c_uint64)]
 
 
-_INFO = ctypes.sizeof(Info)
 # How many lists each call takes.
 _LISTS = {"dense": 4, "dense_from": 5, "sparse": 6, "sparse_from": 7, "check": 5, "check_hall": 5}
 _loading = threading.Lock()
@@ -89,8 +91,7 @@ def _load() -> None:
         _calls[name] = call
     with contextlib.suppress(MemoryError):
         bytes(_KEPT)
-    # Without types, so that prepared arguments aren't converted again.
-    _calls["dense, made ready"], _calls["sparse, made ready"] = library["nushbaret_dense"], library["nushbaret_sparse"]
+    _calls["library"] = library
 
 
 _SPARE = array("Q", [0])
@@ -121,6 +122,11 @@ def _loaded() -> Dict[str, Any]:
             if not _calls:
                 _load()
     return _calls
+
+
+def address(export: str) -> int:
+    """The address of an export. AttributeError if the library doesn't have it."""
+    return ctypes.cast(getattr(_loaded()["library"], export), ctypes.c_void_p).value or 0
 
 
 def call(name: str, sense: Optional[bool], n: int, m: int, *lists: Any, piece: Sequence[int] = ()) -> Tuple[str, Info]:
@@ -313,134 +319,3 @@ def look_at_time() -> None:
     end = _end()
     if end is not None and time.monotonic() >= end:
         raise TimeoutError(_TIME_IS_OVER)
-
-
-class CostMemory:
-    """Memory for costs that are to become whole numbers: `doubles`, `numbers` and `flat` are one memory, and `calls`
-    has the arguments for these under minimize and maximize."""
-
-    doubles: Any = None
-    numbers: Any = None
-    flat: Any = None
-    calls: Any = None
-
-    def words(self, sense: Any, costs: Any) -> Tuple[Any, ...]:
-        """The arguments of a call with these costs."""
-        raise NotImplementedError
-
-    def _hold(self, numpy: Any, shape: Tuple[int, ...], senses: Tuple[Any, Any]) -> None:
-        self.doubles = numpy.empty(shape)
-        self.numbers = self.doubles.view(numpy.int64)
-        self.flat = memoryview(self.numbers).cast("B").cast("q")
-        own = address_of(self.numbers)
-        self.calls = tuple(self.words(sense, own) for sense in senses)
-
-
-class Workspace(CostMemory):
-    """What a dense call on an array of NumPy's fills, with its arguments made ready, since to convert them takes as
-    long as a small problem: a sense, sizes, costs, and the rest. The call answers 0 where it found a best assignment,
-    whose objects stand here then. `home` is the list that the room goes back to after a call, if it is kept.
-    `is_rounded` says whether costs were rounded, `places` of how many decimal places they are whole numbers otherwise,
-    `is_turned` whether columns are the persons, and `listed` has the pairs where some are forbidden."""
-
-    def __init__(self, numpy: Any, n: int, m: int, home: Optional[List["Workspace"]]):
-        self.memory, self.shape, self.home = array("Q", bytes(_INFO + 8 * m + 8 * n)), (n, m), home
-        self.rows, self.objects = numpy.arange(n, dtype=numpy.intp), numpy.frombuffer(self.memory, numpy.uint32, n,
-                                                                                      _INFO + 8 * m)
-        info = self.memory.buffer_info()[0]
-        prices, objects, persons = info + _INFO, info + _INFO + 8 * m, info + _INFO + 8 * m + 4 * n
-        sense, count, address = ctypes.c_uint32.from_param, ctypes.c_size_t.from_param, ctypes.c_void_p.from_param
-        many, few = count(m), count(n)
-        self.minimized, self.maximized, self.sizes = sense(0), sense(1), (few, many)
-        self.rest = count(n * m), address(objects), few, address(persons), few, address(prices), many, address(info)
-        self.call = _calls["dense, made ready"]
-        # Where the costs of each row begin, less 1.
-        self.before = range(-1, n * m - 1, m)
-        self.prices = numpy.frombuffer(self.memory, numpy.int64, m, _INFO)
-        self.total = ctypes.c_int64.from_buffer(self.memory)
-        self.is_rounded = self.is_turned = self.of_list = False
-        self.places = 0
-        self.listed: Optional["SparseWorkspace"] = None
-        self.every: Any = None
-
-    def give_back(self) -> None:
-        """Lets another call have the room."""
-        self.listed = None
-        if self.home is not None:
-            self.home.append(self)
-
-    def words(self, sense: Any, costs: Any) -> Tuple[Any, ...]:
-        return (sense, *self.sizes, costs, *self.rest)
-
-    def hold_doubles(self, numpy: Any, shape: Tuple[int, ...]) -> None:
-        """Makes memory for costs that are to become whole numbers."""
-        self._hold(numpy, shape, (self.minimized, self.maximized))
-
-    def every_pair(self, numpy: Any) -> Tuple[Any, Any]:
-        """The persons and the objects of all pairs."""
-        if self.every is None:
-            n, m = self.shape
-            kind = numpy.uint32
-            self.every = numpy.repeat(numpy.arange(1, n + 1, dtype=kind),
-                                      m), numpy.tile(numpy.arange(1, m + 1, dtype=kind), n)
-        persons, objects = self.every
-        return persons, objects
-
-
-class SparseWorkspace(CostMemory):
-    """The pairs of a room's problem, where some are forbidden, and the arguments of a sparse call that fills the room.
-    `places` are those of the pairs among all."""
-
-    def __init__(self, numpy: Any, room: Workspace, places: Any):
-        self.senses = room.minimized, room.maximized
-        persons, objects = room.every_pair(numpy)
-        self.persons, self.objects = persons.take(places), objects.take(places)
-        self.call = _calls["sparse, made ready"]
-        count = ctypes.c_size_t.from_param(len(places))
-        self.before = *room.sizes, argument_of(self.persons), count, argument_of(self.objects), count
-        self.rest = count, *room.rest[1:]
-
-    def words(self, sense: Any, costs: Any) -> Tuple[Any, ...]:
-        return (sense, *self.before, costs, *self.rest)
-
-    def hold_doubles(self, numpy: Any, shape: Tuple[int, ...]) -> None:
-        """As in `Room`."""
-        self._hold(numpy, shape, self.senses)
-
-
-def address_of(numbers: Any) -> Any:
-    """The address of an array, which must live until the call ends."""
-    return ctypes.c_void_p.from_param(numbers.__array_interface__["data"][0])
-
-
-def argument_of(numbers: Any) -> Any:
-    """An array as an argument that was made ready: bytes where it has few numbers, else its address."""
-    return numbers.tobytes() if numbers.size <= FEW else address_of(numbers)
-
-
-# Rooms of calls that have ended, by their sizes; at most so many sizes.
-_MOST_SIZES = 256
-_MOST_KEPT = 4096
-_workspaces: Dict[Tuple[int, int], List[Workspace]] = {}
-
-
-def workspace_for(numpy: Any, n: int, m: int) -> Workspace:
-    """A room that no other call has: give it back after the call."""
-    rooms = _workspaces.get((n, m))
-    if rooms:
-        try:
-            return rooms.pop()
-        except IndexError:
-            pass
-    return Workspace(numpy, n, m, rooms if rooms is not None else _workspaces_for(n, m))
-
-
-def _workspaces_for(n: int, m: int) -> Optional[List[Workspace]]:
-    """A new list of rooms. Larger ones aren't kept: making one takes little time compared with the problem, and it
-    holds much memory."""
-    _loaded()
-    if n * m > _MOST_KEPT:
-        return None
-    if len(_workspaces) >= _MOST_SIZES:
-        _workspaces.clear()
-    return _workspaces.setdefault((n, m), [])

@@ -1,0 +1,227 @@
+"""A problem whose rows change one after the other: the plan and the prices of before are where the next search
+begins."""
+from array import array
+from typing import Any, List, NamedTuple, Optional, Set
+
+from ..costs import reading
+from ..costs.limits import GREATEST_COST, MOST_PERSONS
+from ..costs.numbers import of_places
+from ..costs.problem import Problem
+from ..costs.source import Source
+from ..lap import doubles, library, proved
+from .results import Result
+from .solve import solve
+
+# Floats with so few places are whole numbers of a decimal unit.
+MOST_PLACES = 6
+# Whole numbers up to this are doubles.
+_MOST_WHOLE = 2**53
+# From so many costs on an array is worth making.
+_FEW = 32
+
+
+class Assigner:
+    """A matrix whose rows change one after the other, and its best assignment after each change.
+
+    After a change of a row the search begins at the plan and the prices of before: it gives this row a column again,
+    and the library checks the whole plan. Whatever changed, `result.cost` is that of `solve` for the costs as they are
+    now.
+
+    So it is for square matrices of floats and of whole numbers in the library's range. Any other matrix is solved from
+    the beginning after each change, and so is one with two plans that are best, or nearly so, unless its costs are
+    whole numbers, or floats with at most six decimal places.
+
+    Parameters
+    ----------
+    costs : matrix
+        A list of rows or a NumPy array, as `solve` takes it. It is copied.
+    maximize : bool, optional
+        Whether to find the greatest sum, not the least.
+
+    >>> import nushbaret
+    >>> assigner = nushbaret.Assigner([[4, 1, 3], [2, 0, 5], [3, 2, 2]])
+    >>> assigner.result.columns, assigner.result.cost
+    ([1, 0, 2], 5)
+    >>> assigner.update(0, [0, 6, 6])
+    >>> assigner.result.columns, assigner.result.cost
+    ([0, 1, 2], 2)
+    """
+
+    def __init__(self, costs: Any, maximize: bool = False):
+        self._maximize = bool(maximize)
+        numpy = reading.numpy_of(costs)
+        self._costs: Any = numpy.array(costs) if numpy else [list(row) for row in costs]
+        self._changed: Set[int] = set()
+        self._numbers: Optional[SquareCosts] = None
+        self._state: Any = None
+        self._result: Optional[Result] = None
+
+    def update(self, row: int, costs: Any) -> None:
+        """Gives a row, counted from 0, other costs.
+
+        IndexError where there is no row of this number, ValueError where there aren't as many costs as columns. What is
+        wrong with a cost is raised by `result`. An earlier result keeps its plan and cost; what reads its costs again
+        raises ValueError.
+
+        >>> import nushbaret
+        >>> assigner = nushbaret.Assigner([[4, 1], [2, 3]])
+        >>> assigner.update(1, [0, 0])
+        >>> assigner.result.cost
+        1
+        """
+        row = reading.whole_number(row, "row")
+        if not 0 <= row < len(self._costs):
+            raise IndexError(f"row {row}: there are {len(self._costs)} rows")
+        if len(costs) != len(self._costs[row]):
+            raise ValueError(f"row {row} has {len(self._costs[row])} costs, and {len(costs)} were given")
+        self._write(row, costs)
+        self._changed.add(row)
+        self._result = None
+        if self._numbers is not None and not self._numbers.write(row, self._costs[row]):
+            self._numbers = self._state = None
+
+    def _write(self, row: int, costs: Any) -> None:
+        """Gives the copy this row. An array of numbers that can't hold others becomes one of objects."""
+        if not hasattr(self._costs, "dtype"):
+            self._costs[row] = list(costs)
+            return
+        numpy = reading.numpy_of(self._costs)
+        kind = None if len(set(map(type, costs))) == 1 else object
+        own = costs if hasattr(costs, "dtype") else numpy.array(costs, kind)
+        if not numpy.can_cast(own.dtype, self._costs.dtype, "safe"):
+            self._costs = self._costs.astype(object)
+        self._costs[row] = own
+
+    @property
+    def result(self) -> Result:
+        """The result of `solve` for the costs as they are now; it raises what `solve` raises."""
+        if self._result is None:
+            self._result = self._solved()
+        return self._result
+
+    def _solved(self) -> Result:
+        if self._numbers is None:
+            self._numbers = numbers_of(self._costs)
+        found = None if self._numbers is None else self._found(self._numbers)
+        self._changed.clear()
+        if found is None:
+            self._state = None
+            return solve(self._costs, self._maximize)
+        return Result._of(Source(self._costs, None, None, None, reading.Manner(self._maximize)), found)
+
+    def _found(self, numbers: "SquareCosts") -> Optional[proved.ResultParts]:
+        """What a result is made of, from the state of before; None where this way finds nothing that is sure to be
+        best."""
+        if self._state is not None:
+            for row in self._changed:
+                self._state[0][row] = 0
+        if numbers.places is None:
+            return self._found_of_doubles(numbers)
+        return self._found_of_whole(numbers)
+
+    def _found_of_whole(self, numbers: "SquareCosts") -> Optional[proved.ResultParts]:
+        n, first = numbers.n, None
+        objects, prices = self._state or (array("I", bytes(4 * n)), array("q", bytes(8 * n)))
+        if self._state:
+            first = array("q", prices)
+        code, info = library.searched(self._maximize, n, n, [numbers.flat], first,
+                                      [objects, array("I", bytes(4 * n)), prices])
+        if code != "BEST":
+            return None
+        self._state = objects, prices
+        return self._of(numbers, proved.Assignment(n, n, info.total, array("I", objects), array("q", prices)))
+
+    def _found_of_doubles(self, numbers: "SquareCosts") -> Optional[proved.ResultParts]:
+        n = numbers.n
+        objects, prices = self._state or doubles.start(self._maximize, n, n, numbers.flat)
+        try:
+            plan = doubles.search(self._maximize, n, n, numbers.flat, objects, prices)
+        except AttributeError:
+            return None
+        if plan is None or not plan.by_margin:
+            return None
+        self._state = objects, prices
+        return self._of(numbers, proved.Assignment(n, n, None, array("I", objects), None))
+
+    def _of(self, numbers: "SquareCosts", answer: proved.Assignment) -> proved.ResultParts:
+        n, places, flat = numbers.n, numbers.places, numbers.flat
+        shape = Problem(n, n, self._maximize, None, unit=of_places(places or 0), raw=places is None)
+        own = [flat[place + item] for place, item in zip(range(-1, n * n - 1, n), answer.objects)]
+        if not hasattr(self._costs, "dtype"):
+            columns = [item - 1 for item in answer.objects]
+            return proved.ResultParts(shape, answer, list(range(n)), columns, own, False)
+        numpy: Any = reading.numpy_of(self._costs)
+        chosen = numpy.frombuffer(answer.objects, numpy.uint32).astype(numpy.intp)
+        chosen -= 1
+        return proved.ResultParts(shape, answer, numpy.arange(n), chosen, own, True)
+
+
+class SquareCosts(NamedTuple):
+    """The costs of a square matrix: doubles, or whole numbers of a decimal unit of so many places."""
+
+    n: int
+    places: Optional[int]
+    flat: Any
+
+    def write(self, row: int, costs: Any) -> bool:
+        """Whether a row's other costs are of this kind too; then they stand here."""
+        found = doubles_of(costs)
+        own = found if found is None or self.places is None else whole_of(found, self.places)
+        if own is None:
+            return False
+        self.flat[self.n * row:self.n * (row + 1)] = own
+        return True
+
+
+def numbers_of(costs: Any) -> Optional[SquareCosts]:
+    """The numbers of a square matrix; None where it is none, or has others."""
+    n = len(costs)
+    if not n or n > MOST_PERSONS or any(not hasattr(row, "__len__") or len(row) != n for row in costs):
+        return None
+    flat = array("d")
+    for row in costs:
+        own = doubles_of(row)
+        if own is None:
+            return None
+        flat.extend(own)
+    for places in range(MOST_PLACES + 1):
+        whole = whole_of(flat, places)
+        if whole is not None:
+            return SquareCosts(n, places, whole)
+    return SquareCosts(n, None, flat)
+
+
+def doubles_of(row: Any) -> Optional[Any]:
+    """Floats and whole numbers as doubles that are exactly these; None where one isn't, or is NaN."""
+    if hasattr(row, "dtype"):
+        if row.ndim != 1 or row.dtype.kind not in "iuO" and row.dtype.str[1:] != "f8":
+            return None
+        if row.dtype.kind == "f":
+            return array("d", row.astype("d").tobytes()) if (row == row).all() else None
+        row = row.tolist()
+    if not all(type(cost) is float and cost == cost or type(cost) is int and abs(cost) <= _MOST_WHOLE for cost in row):
+        return None
+    return array("d", row)
+
+
+def whole_of(costs: Any, places: int) -> Optional[Any]:
+    """Doubles as whole numbers of a decimal unit, in the library's range; None where one isn't."""
+    power = 10.0**places
+    numpy = reading.loaded_numpy()
+    if numpy is None or len(costs) < _FEW:
+        return _whole_list(costs, power)
+    with numpy.errstate(all="ignore"):
+        held = numpy.frombuffer(costs)
+        whole = numpy.rint(held * power)
+        fits = bool(numpy.abs(whole).max() <= GREATEST_COST and (whole / power == held).all())
+    return array("q", whole.astype(numpy.int64).tobytes()) if fits else None
+
+
+def _whole_list(costs: Any, power: float) -> Optional[Any]:
+    found: List[int] = []
+    for cost in costs:
+        scaled = cost * power
+        if not abs(scaled) <= GREATEST_COST or round(scaled) / power != cost:
+            return None
+        found.append(round(scaled))
+    return array("q", found)

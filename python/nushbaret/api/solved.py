@@ -1,0 +1,123 @@
+"""What a result stands on: a problem that a call solved, whose costs are read again where they are needed."""
+from fractions import Fraction
+from functools import cached_property
+from typing import Any, List, Optional, Sequence, Tuple, Union
+
+from ..costs import problem as reading
+from ..costs.numbers import Number, Ratio, Unit, total
+from ..costs.problem import Problem, costs_of_pairs
+from ..costs.source import FixedProblem, Source
+from ..lap import duals as exact_duals, proved
+from ..lap.checking import check_wholly
+from ..lap.ranking import Ranking
+from ..lap.solving import Outcome, solved
+
+CHANGED = ("the costs were changed after the call, and the plan and its duals are no longer best for them: solve them "
+           "again")
+
+
+def without_lists(problem: Problem) -> Problem:
+    """The problem without its lists, which is small."""
+    return problem._replace(costs=None, persons=None, objects=None, numpy=None, arrays=None)
+
+
+def ratios_of(shape: Problem, costs: Sequence[Any]) -> List[Ratio]:
+    """Costs of a problem, exactly."""
+    return [shape.ratio(cost) for cost in costs]
+
+
+def sum_of(shape: Problem, ratios: Sequence[Ratio]) -> Number:
+    """The exact sum of some costs of a problem."""
+    return total(ratios, shape.fractions) if shape.raw else shape.unit.shown(sum(number for number, _ in ratios))
+
+
+class SolvedProblem:
+    """A problem that a call solved: where its costs are, the problem without its lists, the library's answer, and the
+    costs of the plan's pairs, as they were at the call."""
+
+    def __init__(self, source: Union[Source, FixedProblem], shape: Problem, answer: proved.Assignment,
+                 costs: List[Any]):
+        self.source, self.shape, self.answer, self.costs = source, shape, answer, costs
+
+    @cached_property
+    def pairs(self) -> Tuple[List[int], List[int]]:
+        """Rows and columns of the pairs, which nobody can change."""
+        return proved.pairs_of(self.shape, self.answer)
+
+    @cached_property
+    def ratios(self) -> List[Ratio]:
+        """The costs of the pairs, exactly."""
+        return ratios_of(self.shape, self.costs)
+
+    @property
+    def decimals(self) -> Optional[int]:
+        """To how many places the costs were rounded, if they were."""
+        return self.source.manner.decimals if isinstance(self.source, Source) else None
+
+    def read_again(self) -> Problem:
+        """The problem of the call; ValueError if the plan's pairs have other costs now."""
+        problem = self.source.read()
+        if (problem.n_rows, problem.n_columns) != (self.shape.n_rows, self.shape.n_columns):
+            raise ValueError(CHANGED)
+        now = costs_of_pairs(problem, *self.pairs)
+        if None in now or [Fraction(*problem.ratio(cost)) for cost in now] != [Fraction(*ratio)
+                                                                               for ratio in self.ratios]:
+            raise ValueError(CHANGED)
+        return problem
+
+    @cached_property
+    def duals(self) -> Tuple[proved.Duals, Unit]:
+        """Whole duals in a unit. Where levels found the plan these take the costs again."""
+        unit = self.shape.unit
+        prices: List[int] = []
+        if self.pairs[0] and self.answer.prices is None:
+            prices, unit = self._exact_prices()
+        elif self.pairs[0]:
+            prices = proved.whole_prices(self.answer)
+        costs = [number * (unit.denominator // denominator) for number, denominator in self.ratios]
+        return proved.duals_of(self.shape, self.answer, prices, list(zip(*self.pairs)), costs), unit
+
+    def _exact_prices(self) -> exact_duals.ExactPrices:
+        problem, count = self.read_again(), len(self.pairs[0])
+        served = None if count == min(problem.n_rows, problem.n_columns) else count
+        again = solved(problem, None, served)
+        if isinstance(again, proved.HallSet) or _cost_of(problem, again) != sum_of(self.shape, self.ratios):
+            raise ValueError(CHANGED)
+        found = exact_duals.exact_prices(problem, served, self.answer.objects)
+        if found is None:
+            raise ValueError(CHANGED)
+        return found
+
+    @cached_property
+    def rents(self) -> List[Fraction]:
+        """What columns cost in addition to their pairs, exactly."""
+        duals, unit = self.duals
+        return [Fraction(rent, unit.denominator) for rent in proved.rents(duals)]
+
+    def checked(self) -> Problem:
+        """The problem of the call; ValueError unless the duals prove that the plan is best for its costs as they are
+        now."""
+        problem = self.read_again()
+        if not check_wholly(problem, self.pairs[0], self.pairs[1], self.rents):
+            raise ValueError(CHANGED)
+        return problem
+
+    def ranking(self, problem: Optional[Problem] = None) -> Ranking:
+        """The plans of the problem, from this one on. Without a problem it is that of the call, checked."""
+        return Ranking(problem or self.checked(), self.pairs, self.ratios, *self.duals)
+
+    def without(self, row: int, column: int) -> Tuple[Union[Source, FixedProblem], Problem, Outcome]:
+        """The problem with one pair forbidden, and the library's answer. The search begins at the prices and the other
+        pairs."""
+        less = reading.without_pair(self.checked(), row, column)
+        pairs = [pair for pair in zip(*self.pairs) if pair != (row, column)]
+        start = proved.WarmStart(self.rents, [own for own, _ in pairs], [own for _, own in pairs])
+        answer = solved(less, start, len(self.pairs[0]))
+        if isinstance(self.source, Source):
+            return self.source._replace(less=self.source.less + ((row, column),)), less, answer
+        return FixedProblem(less), less, answer
+
+
+def _cost_of(problem: Problem, answer: proved.Assignment) -> Number:
+    """What the plan of an answer costs."""
+    return sum_of(problem, ratios_of(problem, costs_of_pairs(problem, *proved.pairs_of(problem, answer))))

@@ -1,0 +1,86 @@
+"""The library's calls for doubles, by ctypes: for an Assigner, and for what the extension doesn't take."""
+import ctypes
+import math
+from array import array
+from typing import Any, Dict, NamedTuple, Optional, Tuple
+
+from ..costs.problem import Problem
+from ..costs.reading import loaded_numpy, size_of
+from . import arrays, library
+from .level import BITS, Level
+
+_calls: Dict[str, Any] = {}
+
+
+class DoublesInfo(ctypes.Structure):
+    """What a call for doubles reports in addition to its lists."""
+
+    _fields_ = [*((name, ctypes.c_uint64) for name in ("place", "persons", "objects", "person", "object")),
+                ("by_margin", ctypes.c_uint32)]
+
+
+class DoublesPlan(NamedTuple):
+    """Objects of persons, from 1 on, and prices; whether each other plan is worse by so much that the plan is best too
+    for the decimals that the doubles print as."""
+
+    objects: Any
+    prices: Any
+    by_margin: bool
+
+
+def _call() -> Any:
+    """The call that searches from an earlier plan."""
+    if not _calls:
+        found = ctypes.CFUNCTYPE(ctypes.c_int32, ctypes.c_uint32, *[ctypes.c_size_t] * 2,
+                                 *[ctypes.c_void_p, ctypes.c_size_t] * 4, ctypes.c_void_p)
+        _calls["doubles_from"] = found(library.address("nushbaret_doubles_from"))
+    return _calls["doubles_from"]
+
+
+def search(sense: bool, n: int, m: int, costs: Any, objects: Any, prices: Any) -> Optional[DoublesPlan]:
+    """A plan that the library proves best for doubles, from these objects (0: nobody's) and prices, which are written;
+    None where it finds none, or none that it can prove. MemoryError where memory is refused."""
+    info, persons = DoublesInfo(), array("I", bytes(4 * n))
+    lists = [word for values in (costs, objects, persons, prices) for word in _address_and_count(values)]
+    code = _call()(int(sense), n, m, *lists, ctypes.addressof(info))
+    if code == library.CODES.index("MEMORY"):
+        raise MemoryError("the library was refused memory")
+    return None if code else DoublesPlan(objects, prices, bool(info.by_margin))
+
+
+def _address_and_count(values: Any) -> Tuple[int, int]:
+    """Address and count of an array of either kind."""
+    return values.buffer_info() if isinstance(values, array) else (values.ctypes.data, values.size)
+
+
+def start(sense: bool, n: int, m: int, costs: Any) -> Tuple[Any, Any]:
+    """Objects and prices to begin from: those of the rounded costs where the search may take long, since it is done in
+    pieces, and else nobody's."""
+    objects, prices = array("I", bytes(4 * n)), array("d", bytes(8 * m))
+    numpy = loaded_numpy()
+    if numpy is None or n * n * m < library.LONG:
+        return objects, prices
+    held = numpy.frombuffer(costs)
+    shift = BITS - math.frexp(size_of(held))[1]
+    if not numpy.isfinite(held).all() or not -arrays.MOST_SHIFT < shift < arrays.MOST_SHIFT:
+        return objects, prices
+    whole = array("q", bytes(8 * m))
+    code, _ = library.searched(sense, n, m, [arrays.whole_of(numpy, held, shift)], None,
+                               [objects, array("I", bytes(4 * n)), whole])
+    return objects, array("d", [math.ldexp(price, -shift) for price in whole]) if code == "BEST" else prices
+
+
+def best_from(problem: Problem, level: Level) -> Any:
+    """The objects of a plan that the library proves best for all doubles of a matrix, from the plan of a first level;
+    None where it doesn't, or where the problem is another one."""
+    n, m, is_matrix = problem.n_rows, problem.n_columns, problem.raw and problem.numpy and problem.persons is None
+    if not is_matrix or n > m or (n, m) != (level.asked.n, level.asked.m):
+        return None
+    numpy = problem.numpy
+    objects = numpy.array(level.objects, numpy.uint32)
+    prices = numpy.ldexp(-numpy.array(level.of_objects[1:], numpy.float64), -level.shift)
+    try:
+        plan = search(problem.maximize, n, m, problem.costs, objects, prices)
+    except AttributeError:
+        return None
+    return plan.objects if plan and (problem.doubles or plan.by_margin) else None

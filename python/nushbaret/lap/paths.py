@@ -1,0 +1,154 @@
+"""Shortest alternating paths in the reduced costs of a best plan, which are never below 0 (Dijkstra 1959): by which one
+a row gets another column at the least cost more. Rows and columns that stay out are held by one dummy column and one
+dummy row, which cost nothing."""
+import heapq
+from itertools import repeat
+from typing import Any, Dict, FrozenSet, Iterable, List, NamedTuple, Optional, Sequence, Tuple
+
+INFINITE = float("inf")
+NOBODY: FrozenSet[int] = frozenset()
+
+Choice = Tuple[int, int]
+
+
+class Subproblem(NamedTuple):
+    """All plans that keep the columns of the rows below `first`, and in which row `first` has none of `banned`: the
+    columns of the best one and its cost, with duals that prove it. A row whose column is the number of columns stays
+    out."""
+
+    columns: List[int]
+    cost: int
+    row_duals: List[int]
+    column_duals: List[int]
+    first: int
+    banned: FrozenSet[int]
+
+
+class PathSearch(NamedTuple):
+    """A search for a shortest alternating path: its length, None where none was found; the row that takes each column,
+    by which column each row was reached, and how far columns are (below 0: closed)."""
+
+    length: Optional[int]
+    taker: Dict[int, int]
+    reached: Dict[int, int]
+    far: List[Any]
+
+
+class Paths:
+    """The columns that each row may have, with their costs, and the paths along them. `rows_out` and `columns_out` say
+    whether some stay out."""
+
+    def __init__(self, n_columns: int, lists: List[Any], rows_out: bool, columns_out: bool):
+        self.n_rows, self.n_columns, self.rows_out, self.columns_out = len(lists), n_columns, rows_out, columns_out
+        self.lists = lists + [(range(n_columns if columns_out else 0), repeat(0))]
+
+    def choices(self, row: int) -> Iterable[Choice]:
+        choices = zip(*self.lists[row])
+        return [*choices, (self.n_columns, 0)] if self.rows_out and row < self.n_rows else choices
+
+    def closed(self, part: Subproblem) -> List[int]:
+        """The columns of the rows that a part keeps."""
+        return [column for column in part.columns[:part.first] if column < self.n_columns]
+
+    def holders(self, part: Subproblem) -> List[int]:
+        """The row of each column, which is the dummy row for columns that are out."""
+        holder = [self.n_rows] * (self.n_columns + 1)
+        for row, column in enumerate(part.columns):
+            holder[column] = row
+        return holder
+
+    def cost(self, row: int, column: int) -> int:
+        columns, values = self.lists[row]
+        cost: int = values[columns.index(column)]
+        return cost
+
+    def least_column(self, part: Subproblem) -> int:
+        """The first column that the first free row of a part can have at the part's cost, as far as the duals say."""
+        row, taken = part.first, set(part.columns[:part.first])
+        if row == self.n_rows:
+            return 0
+        base = part.row_duals[row]
+        return next((column for column, cost in self.choices(row)
+                     if cost - base == part.column_duals[column] and column not in part.banned
+                     and (column not in taken or column == self.n_columns)), 0)
+
+    def search(self, part: Subproblem, holder: List[int], closed: List[int], row: int, choices: Iterable[Choice],
+                most: float) -> PathSearch:
+        """The shortest path of at most a length by which a row leaves its column for one of some choices (Dijkstra
+        1959)."""
+        target, rows, columns = part.columns[row], part.row_duals, part.column_duals
+        far: List[Any] = [INFINITE] * (self.n_columns + 1)
+        for column in closed:
+            far[column] = -INFINITE
+        taker: Dict[int, int] = {}
+        reached: Dict[int, int] = {}
+        heap: List[Tuple[int, int]] = []
+
+        def go(taking: int, base: int, choices: Iterable[Choice]) -> None:
+            for column, cost in choices:
+                length = base + cost - columns[column]
+                if length < far[column] and length <= most:
+                    far[column], taker[column] = length, taking
+                    heapq.heappush(heap, (length, column))
+
+        go(row, -rows[row], choices)
+        while heap:
+            length, column = heapq.heappop(heap)
+            if column == target:
+                return PathSearch(length, taker, reached, far)
+            if length > far[column]:
+                continue
+            for other in self._asked(part, holder, column, row):
+                if other not in reached:
+                    reached[other] = column
+                    go(other, length - rows[other], self.choices(other))
+        return PathSearch(None, taker, reached, far)
+
+    def _asked(self, part: Subproblem, holder: List[int], column: int, row: int) -> Sequence[int]:
+        """Who may be asked to leave a column: of rows that are out all after the row that the path begins with."""
+        if column < self.n_columns:
+            return (holder[column],)
+        return [other for other in range(row + 1, self.n_rows) if part.columns[other] == column]
+
+    def changed(self, part: Subproblem, found: PathSearch, row: int) -> List[int]:
+        """The columns after the changes of a path."""
+        columns, column = part.columns.copy(), part.columns[row]
+        while True:
+            taking = found.taker[column]
+            if taking < self.n_rows:
+                columns[taking] = column
+            if taking == row:
+                return columns
+            column = found.reached[taking]
+
+    def after(self, part: Subproblem, found: PathSearch, row: int, first: int, banned: FrozenSet[int]) -> Subproblem:
+        """The part whose best plan is the one after a row's path. Columns that are nearer than the path is long get
+        cheaper by the rest of it, and the row that holds them gains as much."""
+        rows, columns, whole = part.row_duals, part.column_duals, found.length or 0
+        if whole:
+            rows, columns = rows.copy(), columns.copy()
+            rows[row] += whole
+            for column, length in enumerate(found.far):
+                if 0 <= length < whole:
+                    columns[column] -= whole - length
+            for other, column in found.reached.items():
+                rows[other] += max(whole - found.far[column], 0)
+        return Subproblem(self.changed(part, found, row), part.cost + whole, rows, columns, first, banned)
+
+    def first_of_its_cost(self, part: Subproblem) -> Subproblem:
+        """The part with that one of its best plans whose columns come first, row by row."""
+        closed = self.closed(part)
+        for row in range(part.first, self.n_rows):
+            banned = part.banned if row == part.first else NOBODY
+            base = part.row_duals[row]
+            for column, cost in self.choices(row):
+                if column >= part.columns[row]:
+                    break
+                if cost - base == part.column_duals[column] and column not in banned and column not in closed:
+                    found = self.search(part, self.holders(part), closed, row, [(column, cost)], 0)
+                    if found.length is not None:
+                        part = part._replace(columns=self.changed(part, found, row))
+                        break
+            if part.columns[row] < self.n_columns:
+                closed.append(part.columns[row])
+        return part

@@ -1,0 +1,164 @@
+"""A matrix whose rows change: after each change the cost is that of a fresh solve, compared with a slow search too."""
+import math
+import unittest
+from decimal import Decimal
+from fractions import Fraction
+from unittest import mock
+
+import nushbaret
+from nushbaret.api import assigner as _assigner, solve
+from drawn import best, drawing, exactly, proves
+from optional import extension, np
+
+
+def _far(draw):
+    return draw.choice([draw.random(), draw.random(), -draw.worst])
+
+
+KINDS = {
+    "even": lambda draw: draw.random(),
+    "whole": lambda draw: draw.randint(-20, 20),
+    "cents": lambda draw: draw.randint(-500, 500) / 100,
+    "forbidden": _far,
+    "ties": lambda draw: draw.choice([0.1, 0.2, 0.3, 0.1 + 0.2, 1 / 3, 2 / 3]),
+    "great": lambda draw: draw.choice([10**12, -10**12, 0, 10**12 - 1]),
+    "beyond": lambda draw: draw.choice([10**20, 1, Fraction(1, 3), Decimal("0.1"), 2.5]),
+    "mixed": lambda draw: draw.choice([1, 0.5, 0.25, 1 / 3, 10**13, 0.1]),
+}
+
+
+class Rows(unittest.TestCase):
+    def said(self, call):
+        """The cost, or why there is no plan."""
+        try:
+            return call().cost
+        except nushbaret.Infeasible as short:
+            return str(short), list(short.rows)
+
+    def test_beside_fresh_solves(self):
+        draw, kinds, again = drawing(401), list(KINDS), 0
+        for turn in range(240):
+            kind, maximize, n = kinds[turn % len(kinds)], draw.random() < 0.5, draw.randint(1, 6)
+            m = draw.choice([n, n, n, n + 1, max(n - 1, 1)])
+            draw.worst = math.inf if maximize else -math.inf
+            costs = [[KINDS[kind](draw) for _ in range(m)] for _ in range(n)]
+            assigner = nushbaret.Assigner(np.array(costs) if np and turn % 3 == 0 and kind != "beyond" else costs,
+                                          maximize)
+            with mock.patch.object(_assigner, "solve", side_effect=_assigner.solve) as fresh:
+                for _ in range(6):
+                    with self.subTest(kind=kind, costs=costs, maximize=maximize):
+                        wanted = self.said(lambda: nushbaret.solve(costs, maximize))
+                        self.assertEqual(self.said(lambda: assigner.result), wanted)
+                    for _ in range(draw.choice([1, 1, 1, 2])):
+                        row = draw.randrange(n)
+                        other = KINDS["even" if draw.random() < 0.1 else kind]
+                        costs[row] = [other(draw) for _ in range(m)]
+                        assigner.update(row, np.array(costs[row]) if np and turn % 4 == 0 and kind != "beyond"
+                                        else costs[row])
+                again += 6 - fresh.call_count
+        if extension():
+            self.assertGreater(again, 300)
+
+    def test_results(self):
+        """A result is one of `solve`: with a proof, in the form of the costs."""
+        draw = drawing(402)
+        for turn in range(60):
+            n, maximize = draw.randint(1, 5), turn % 2 == 0
+            costs = [[list(KINDS.values())[turn % 3](draw) for _ in range(n)] for _ in range(n)]
+            form = np.array(costs) if np and turn % 4 == 0 else costs
+            assigner = nushbaret.Assigner(form, maximize)
+            for _ in range(3):
+                result, exact = assigner.result, exactly(costs, True)
+                self.assertIs(result, assigner.result)
+                self.assertEqual(Fraction(result.cost), best(exact, maximize, n))
+                self.assertTrue(result.verify(costs))
+                self.assertTrue(proves(exact, result, maximize))
+                self.assertEqual(type(result.rows), list if form is costs else np.ndarray)
+                self.assertEqual(result.next_best() is None, n == 1)
+                costs[0] = [cost + draw.randint(0, 3) for cost in costs[0]]
+                assigner.update(0, costs[0])
+
+    def test_costs_are_its_own(self):
+        costs = [[1, 5], [5, 1]]
+        for form in (costs, np.array(costs)) if np else (costs,):
+            assigner = nushbaret.Assigner(form)
+            first = assigner.result
+            form[0][0] = 99
+            row = [9, 2]
+            assigner.update(1, row)
+            row[0] = -99
+            self.assertEqual((assigner.result.cost, first.cost), (3, 2))
+            with self.assertRaisesRegex(ValueError, "the costs were changed after the call"):
+                first.without(0, 0)
+            costs = [[1, 5], [5, 1]]
+
+    @unittest.skipUnless(np, "NumPy isn't there")
+    def test_arrays_of_either_byte_order(self):
+        rng = np.random.default_rng(405)
+        for kind in ["<f8", ">f8", "<i4", ">i4", ">f4"] * 20:
+            costs = (rng.random((3, 3)) * 99).astype(kind)
+            assigner = nushbaret.Assigner(costs)
+            for row in range(3):
+                self.assertEqual(assigner.result.cost, nushbaret.solve(costs).cost)
+                costs[row] = costs[row][::-1]
+                assigner.update(row, costs[row])
+            self.assertEqual(assigner.result.cost, nushbaret.solve(costs).cost)
+
+    def test_refusals(self):
+        assigner = nushbaret.Assigner([[1, 2], [3, 5]])
+        for row in -1, 2:
+            with self.assertRaisesRegex(IndexError, f"row {row}: there are 2 rows"):
+                assigner.update(row, [1, 2])
+        with self.assertRaisesRegex(ValueError, "row 1 has 2 costs, and 3 were given"):
+            assigner.update(1, [1, 2, 3])
+        with self.assertRaisesRegex(TypeError, "row is 'a'"):
+            assigner.update("a", [1, 2])
+        self.assertEqual(assigner.result.cost, 5)
+        for wrong, fault in ((math.nan, ValueError), ("1", TypeError), (None, nushbaret.Infeasible)):
+            assigner.update(1, [wrong, wrong])
+            for _ in range(2):
+                with self.assertRaises(fault) as seen:
+                    assigner.result
+                with self.assertRaises(fault) as wanted:
+                    nushbaret.solve([[1, 2], [wrong, wrong]])
+                self.assertEqual(str(seen.exception), str(wanted.exception))
+        assigner.update(1, [3, 5])
+        self.assertEqual(assigner.result.cost, 5)
+        for costs in ([], [[]], [[1], [2, 3]]):
+            with self.subTest(costs=costs):
+                try:
+                    wanted = nushbaret.solve(costs).cost
+                except ValueError as fault:
+                    with self.assertRaisesRegex(ValueError, str(fault)[:20].replace("(", ".")):
+                        nushbaret.Assigner(costs).result
+                else:
+                    self.assertEqual(nushbaret.Assigner(costs).result.cost, wanted)
+
+    @unittest.skipUnless(np, "NumPy isn't there")
+    def test_larger(self):
+        rng, draw = np.random.default_rng(403), drawing(403)
+        for costs in (rng.random((150, 150)), rng.integers(0, 10**6, (150, 150)),
+                      np.round(rng.random((150, 150)) * 100, 2)):
+            assigner = nushbaret.Assigner(costs, True)
+            for _ in range(12):
+                self.assertEqual(assigner.result.cost, nushbaret.solve(costs, True).cost)
+                row = draw.randrange(150)
+                costs[row] = costs[draw.randrange(150)][::-1]
+                assigner.update(row, costs[row])
+
+    @unittest.skipUnless(np, "NumPy isn't there")
+    def test_long_searches_begin_in_pieces(self):
+        costs = np.random.default_rng(404).random((520, 520))
+        with mock.patch.object(_assigner.library, "searched", side_effect=_assigner.library.searched) as pieces:
+            assigner = nushbaret.Assigner(costs)
+            cost = assigner.result.cost
+            assigner.update(3, costs[3])
+            self.assertEqual(assigner.result.cost, cost)
+        if extension():
+            self.assertEqual(pieces.call_count, 1)
+        rows, columns = solve.linear_sum_assignment(costs)
+        self.assertEqual(sum(map(Decimal, map(repr, costs[rows, columns].tolist()))), cost)
+
+
+if __name__ == "__main__":
+    unittest.main()

@@ -1,0 +1,253 @@
+"""The command with rules: what is printed, written and drawn, and what is refused."""
+import contextlib
+import io
+import json
+import sys
+import unittest
+from unittest import mock
+
+from nushbaret.roster import ruling
+from nushbaret.rows import finding
+from nushbaret.rows.model import Finding
+from optional import np, optimize
+from roster.test_command import Runs, Terminal
+
+WISHES = (",Early 2027-03-05,Night 2027-03-05,Early 2027-03-06,Night 2027-03-06,Early 2027-03-07,Night "
+          "2027-03-07,Early 2027-03-08,Night "
+          "2027-03-08\nAda,3,0,4,2,6,0,5,1\nBen,2,1,4,1,3,5,0,7\nCleo,1,6,1,8,1,4,3,9\n")
+DAYS = "shift,day,kind\n" + "".join(f"{kind} 2027-03-0{day},2027-03-0{day},{kind}\n" for day in (5, 6, 7, 8)
+                                    for kind in ("Early", "Night"))
+EARLIER = "".join(f"{kind} 2027-03-0{day},2027-03-0{day},{kind}\n" for day in (3, 4) for kind in ("Early", "Night"))
+TASKS = "person,at least,at most\nAda,2,4\nBen,2,4\nCleo,2,4\n"
+RULES = "rule,value,for\nrest,Night > Early,\nNight per month,2,\n"
+WORDS = ("s.csv", "--groups", "d.csv", "--tasks", "t.csv", "--rules", "r.csv")
+# The one plan of least cost. These numbers come from a search of all 1296 plans.
+PLAN = ("Ada (2): Night 2027-03-07, 0; Night 2027-03-08, 1\nBen (3): Night 2027-03-05, 1; Night 2027-03-06, 1; Early "
+        "2027-03-08, 0\nCleo (3): Early 2027-03-05, 1; Early 2027-03-06, 1; Early 2027-03-07, 1\n")
+WHY = ("no plan keeps these rules, proved: together they can't hold:\n  1 person (Night 2027-03-05, Night 2027-03-06, "
+       "Night 2027-03-07, Night 2027-03-08)\n  Night per month: 1 (Ada, Ben, Cleo)\n")
+# Words that are refused, and what is said.
+REFUSED = (
+    (("s.csv", "--rules", "r.csv"), "--rules needs --groups, which says the day of each object"),
+    (("s.csv", "--time", "5"), "--time needs --rules"),
+    (("s.csv", "--before", "b.csv"), "--before needs --rules"),
+    (("s.csv", "--certificate", "c"), "--certificate needs --rules"),
+    ((*WORDS, "--plans", "3"), "--plans is of plans without rules: not with --rules"),
+    ((*WORDS, "--others"), "--others is of plans without rules: not with --rules"),
+    ((*WORDS, "--fair"), "--fair is of plans without rules: not with --rules"),
+    (("s.csv", "--groups", "d.csv", "--rules", "r.csv", "--rents"), "--rents"),
+    ((*WORDS, "--time", "0"), "'0' is no number from 1 to 1000000"),
+    ((*WORDS, "--certificate", "r.csv"), "r.csv is named twice, or is read too"),
+)
+
+
+class Files(Runs):
+    def setUp(self):
+        super().setUp()
+        for name, content in (("s.csv", WISHES), ("d.csv", DAYS), ("t.csv", TASKS), ("r.csv", RULES)):
+            self.file(name, content)
+
+    def rules(self, *lines):
+        self.file("r.csv", "rule,value,for\n" + "".join(line + "\n" for line in lines))
+
+
+class Words(Files):
+    def test_refused_words(self):
+        for words, text in REFUSED:
+            with self.subTest(words):
+                self.refused(2, text, *words)
+
+    def test_refused_rules(self):
+        self.rules("rest,Night > Early,", "Nihgt per month,2,")
+        self.refused(3, "r.csv, line 3, column 1: no kind of shift is 'Nihgt': did you mean 'Night'?", *WORDS)
+        self.file("r.csv", "rest,Night > Early,\n")
+        self.refused(3, "r.csv, line 1, column 1: a title line must come first, and 'rest' is a rule", *WORDS)
+        self.rules("apart,,Ada,Ben")
+        self.refused(3, "r.csv, line 2: 4 cells, where a rule, a value and names are needed (several names in one cell "
+                     "need quotes)", *WORDS)
+        days = DAYS.replace("shift,day,kind", "shift,day,kind,kind", 1)
+        self.file("d.csv", days.replace("Early\n", "Early,\n").replace("Night\n", "Night,\n"))
+        self.refused(3, "d.csv, line 1, column 4: 2 columns are titled 'kind', where there may be one", *WORDS)
+
+    def test_semicolons_and_kinds_without_a_column(self):
+        """Where no column has kinds, the rest of an object's name is its kind."""
+        self.file("d.csv", "\n".join(line.rpartition(",")[0] for line in DAYS.splitlines()) + "\n")
+        self.file("r.csv", "rule;value;for\nrest;Night > Early;\nNight per month;0;Ada, Ben\n")
+        found = Finding("undecided")
+        with mock.patch.object(finding, "find", return_value=found) as find:
+            self.assertEqual(self.run_words(*WORDS)[0], 6)
+        texts = {row.text for row in find.call_args[0][0].rows}
+        self.assertIn("Night per month: 0 (Ben)", texts)
+        self.assertNotIn("Night per month: 0 (Cleo)", texts)
+
+    def test_not_decided(self):
+        with mock.patch.object(finding, "find", return_value=Finding("undecided")):
+            self.expect(6, "not decided in 60 s\no.csv isn't written: there is no plan\n", "", *WORDS, "--output",
+                        "o.csv")
+            self.expect(6, "not decided in 5 s\nc isn't written: nothing was proved\n", "", *WORDS, "--time", "5",
+                        "--certificate", "c")
+
+    def test_not_proved_best(self):
+        """What was found is said to be no better than was shown."""
+        def found(model, seconds, progress=None, start=None):
+            plan = [0] * model.variables
+            pairs = [(person, object_) for person in range(3) for object_ in range(8)]
+            for pair in ((0, 5), (0, 7), (1, 1), (1, 3), (1, 6), (2, 0), (2, 2), (2, 4)):
+                plan[pairs.index(pair)] = 1
+            return Finding(kind, tuple(plan), 6, bound)
+        for kind, bound, first in (("within", 4, "cost 6, proved: no plan is more than 2 better"),
+                                   ("undecided", None, "cost 6, nothing proved in 60 s")):
+            with self.subTest(kind), mock.patch.object(finding, "find", side_effect=found):
+                self.expect(0, first + "\n" + PLAN, "", *WORDS)
+
+    def test_without_scipy(self):
+        with mock.patch.object(finding, "find", side_effect=ImportError(finding.NEEDS_SCIPY)):
+            self.expect(2, "", finding.NEEDS_SCIPY + "\n", *WORDS)
+
+    def test_progress_on_a_terminal(self):
+        def found(model, seconds, progress=None, start=None):
+            progress("looks for plans", None, 4)
+            progress("proofs", 7, 5)
+            return Finding("undecided")
+        terminal = Terminal()
+        with mock.patch.object(finding, "find", side_effect=found), mock.patch.object(sys, "stderr", terminal):
+            from nushbaret.roster.command import main
+            with contextlib.redirect_stdout(io.StringIO()):
+                main([*WORDS, "-q"])
+        self.assertIn("\rcosts: looks for plans, proved at least 4\rcosts: proofs, found 7, proved at least 5",
+                      terminal.getvalue())
+        self.assertTrue(terminal.getvalue().endswith(" \r"))
+
+
+@unittest.skipIf(optimize is None or np is None, "needs SciPy")
+class Plans(Files):
+    def setUp(self):
+        super().setUp()
+        # More than any of these takes on a busy machine.
+        longer = mock.patch.object(ruling, "DEFAULT_SECONDS", 900)
+        longer.start()
+        self.addCleanup(longer.stop)
+
+    def test_best(self):
+        self.expect(0, "least cost: 6, proved: no plan that keeps the rules costs less\n" + PLAN, "", *WORDS)
+        status, out, _ = self.run_words(*WORDS, "--max", "-q")
+        self.assertEqual((status, out), (0, "greatest cost: 44, proved: no plan that keeps the rules has more\n"))
+
+    def test_certificates(self):
+        """What proves an answer is checked alone; a changed bound isn't shown, and what is no certificate is
+        refused."""
+        words = (*WORDS, "-q", "--certificate", "c.txt")
+        self.assertEqual(self.run_words(*words)[0], 0)
+        rows = int(self.read("c.txt").count(" ", self.read("c.txt").index("least"),
+                                            self.read("c.txt").index("most"))) - 1
+        self.expect(0, f"c.txt: shown: a plan of cost 6 meets the {rows} rows, and no plan that meets them costs "
+                    "less\n", "", "--check", "c.txt")
+        self.refused(4, "c.txt exists: --force overwrites it", *words)
+        most = self.read("c.txt").split("\nmost ")[1].split("\n")[0]
+        self.file("d.txt", self.read("c.txt").replace(f"\nmost {most}", f"\nmost {most.rpartition(' ')[0]} 6"))
+        self.expect(1, "d.txt: not shown\n", "", "--check", "d.txt")
+        self.expect(3, "r.csv: no certificate: line 1: it isn't 'nushbaret rows 1'\n", "", "--check", "r.csv")
+        self.rules("rest,Night > Early,", "Night per month,1,")
+        self.assertEqual(self.run_words(*words, "--force")[0], 1)
+        status, out, _ = self.run_words("--check", "c.txt")
+        self.assertEqual((status, out), (0, "c.txt: shown: no plan meets the 7 rows\n"))
+        self.assertEqual(self.run_words("--check", "missing.txt")[0], 4)
+
+    def test_impossible(self):
+        self.rules("rest,Night > Early,", "Night per month,1,")
+        self.expect(1, WHY + "o.csv isn't written: there is no plan\n", "", *WORDS, "--output", "o.csv")
+        status, out, _ = self.run_words(*WORDS, "--as-many-as-can", "--output", "o.json", "--html", "o.html")
+        self.assertEqual((status, out.splitlines()[:5]), (1, [
+            *WHY.splitlines(), "1 missing in all, proved: no plan that keeps the rules misses less",
+            "least cost of 7 pairs: 13, proved: no plan that keeps the rules and misses no more costs less"]))
+        content = json.loads(self.read("o.json"))
+        self.assertEqual((content["format"], content["cost"], content["rules"]), (4, "13", {
+            "proved": "best", "better": "0", "is_minimal": True, "missing": 1, "least_missing": 1, "reasons": [
+                {"sentence": "1 person", "about": [f"Night 2027-03-0{day}" for day in (5, 6, 7, 8)]},
+                {"sentence": "Night per month: 1", "about": ["Ada", "Ben", "Cleo"]}]}))
+        self.assertEqual(self.read("o.html").count('<p class="short">'), 3)
+
+    def test_fixed_and_together(self):
+        self.file("f.csv", "person,object\nCleo,Night 2027-03-05\nCleo,Early 2027-03-06\n")
+        self.expect(1, "no plan keeps these rules, proved: together they can't hold:\n  fixed (Cleo: Night 2027-03-05, "
+                    "Cleo: Early 2027-03-06)\n  rest: no Early the day after Night (Cleo)\n", "", *WORDS, "--fixed",
+                    "f.csv")
+        self.file("f.csv", "person,object\nCleo,Night 2027-03-05\n")
+        status, out, _ = self.run_words(*WORDS, "--fixed", "f.csv")
+        self.assertEqual((status, out.splitlines()[0]), (0, "least cost: 15, proved: no plan that keeps the rules "
+                                                         "costs less"))
+        self.assertIn("Night 2027-03-05, 6 (fixed)", out)
+
+    def test_keep(self):
+        """Of plans that cost the least one with the fewest changes; where changes cost, they are weighed."""
+        self.assertEqual(self.run_words(*WORDS, "--output", "k.csv")[0], 0)
+        self.file("s.csv", WISHES.replace("Ada,3,0,4,2,6,0,5,1", "Ada,3,0,4,2,6,9,5,1"))
+        status, out, _ = self.run_words(*WORDS, "--keep", "k.csv")
+        lines = out.splitlines()
+        self.assertEqual((status, lines[0]), (0, "least cost: 13, proved: no plan that keeps the rules costs less"))
+        self.assertEqual(lines[4], "k.csv: 3 pairs come, 3 go")
+        with_cost = self.run_words(*WORDS, "--keep", "k.csv", "--change-cost", "1")[1].splitlines()
+        self.assertEqual((with_cost[0], with_cost[4:]), ("least cost with changes: 15 (cost 15), proved: no plan that "
+                                                         "keeps the rules costs less", ["k.csv: no pair changes"]))
+
+    def test_before(self):
+        """Who worked the night before the first day has no early shift on it, and nights in a row look back."""
+        self.file("d.csv", DAYS + EARLIER)
+        self.file("b.csv", "person,object\nCleo,Night 2027-03-04\nZoe,Night 2027-03-04\nCleo,Night "
+                  "2027-03-03\nAda,Office 2027-03-04\n")
+        status, out, err = self.run_words(*WORDS, "--before", "b.csv")
+        self.assertEqual((status, out.splitlines()[0]), (0, "least cost: 8, proved: no plan that keeps the rules costs "
+                                                         "less"))
+        self.assertNotIn("Cleo (3): Early 2027-03-05", out)
+        self.assertEqual(err, "b.csv: the roster has no Zoe\nb.csv: the groups' file doesn't list 1 object (Office "
+                         "2027-03-04): no rule looks at them\n")
+        self.rules("Night in a row,1,")
+        self.file("f.csv", "person,object\nCleo,Night 2027-03-05\n")
+        status, out, _ = self.run_words(*WORDS, "--before", "b.csv", "--fixed", "f.csv")
+        self.assertEqual(out, "around the past, no plan keeps these rules, proved: together they can't hold:\n"
+                         "  fixed (Cleo: Night 2027-03-05)\n  Night in a row: 1 (Cleo)\n")
+        self.refused(3, "d.csv, line 10, column 1: the roster has no object 'Early 2027-03-03'", *WORDS)
+
+    def test_past(self):
+        """What is past stays, whatever rules it breaks, and rules look at it."""
+        self.file("k.csv", "person,object\nCleo,Night 2027-03-05\nCleo,Early 2027-03-06\nBen,Early "
+                  "2027-03-05\nAda,Night 2027-03-06\n")
+        status, out, err = self.run_words(*WORDS, "--keep", "k.csv", "--past", "2027-03-07")
+        self.assertEqual(status, 0)
+        self.assertEqual(out.splitlines()[:4], ["least cost: 19, proved: no plan that keeps the rules costs less",
+                                                "Ada (2): Night 2027-03-06, 2 (past); Night 2027-03-08, 1",
+                                                "Ben (3): Early 2027-03-05, 2 (past); Early 2027-03-07, 3; Early "
+                                                "2027-03-08, 0", "Cleo (3): Night 2027-03-05, 6 (past); Early "
+                                                "2027-03-06, 1 (past); Night 2027-03-07, 4"])
+
+    def test_compare(self):
+        self.file("h.csv", "person,object\nAda,Night 2027-03-05\nAda,Early 2027-03-06\nAda,Night 2027-03-07\nAda,Night "
+                  "2027-03-08\nBen,Early 2027-03-05\nBen,Night 2027-03-06\nCleo,Early 2027-03-07\nCleo,Early "
+                  "2027-03-08\n")
+        status, out, _ = self.run_words(*WORDS, "--compare", "h.csv", "--html", "h.html", "--output", "h.json")
+        self.assertEqual((status, out.splitlines()[4:8]), (0, [
+            "h.csv: breaks 2 rules", "  Ada: Early 2027-03-06 after Night 2027-03-05 (rest: Night > Early)",
+            "  Ada: 3 Night (Night per month: 2)", "h.csv: 12, 6 more than the best, which breaks none"]))
+        self.assertEqual(json.loads(self.read("h.json"))["compare"]["broken"][0], {
+            "rule": "rest", "persons": ["Ada"], "objects": ["Night 2027-03-05", "Early 2027-03-06"],
+            "sentence": "Ada: Early 2027-03-06 after Night 2027-03-05 (rest: Night > Early)"})
+        page = self.read("h.html")
+        self.assertEqual(page.count("breaks a rule</"), 4)
+        self.assertIn("what breaks a rule is framed", page)
+
+    def test_even(self):
+        self.rules("rest,Night > Early,", "even,Night,")
+        status, out, _ = self.run_words(*WORDS, "--output", "e.json")
+        self.assertEqual((status, out.splitlines()[4:]), (0, ["even: Night: 1 to 2", "without the rules of evenness: "
+                                                              "least cost 5, proved: no plan that keeps the other "
+                                                              "rules costs less"]))
+        rules = json.loads(self.read("e.json"))["rules"]
+        self.assertEqual(rules["even"], [{"sentence": "even: Night", "least": 1, "most": 2}])
+        self.assertEqual(rules["without_evenness"], {"cost": "5", "proved": "best", "better": "0"})
+        self.rules("Night per month,0,Ada", "Night per month,4-,Ben", "even,Night,\"Ada, Ben\"")
+        out = self.run_words(*WORDS)[1]
+        self.assertIn("even: Night: 0 to 4\nproved: no plan that keeps the rules is more even\n", out)
+
+
+if __name__ == "__main__":
+    unittest.main()

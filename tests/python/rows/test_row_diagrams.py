@@ -1,0 +1,143 @@
+"""Decision diagrams, prices and trees of drawn rows, held against searches of all plans."""
+import itertools
+import random
+import time
+import unittest
+from unittest import mock
+
+from nushbaret.rows.check import shows_here
+from nushbaret.rows.model import Certificate, Limits, Model, flat
+import row_models as models
+
+if models.scipy:
+    import numpy as np
+    from nushbaret.rows import diagrams, prices
+    from nushbaret.rows.chains import Closing, chain
+    from nushbaret.rows.parts import Part
+    from nushbaret.rows.prices import SCALE, Pricing
+    from nushbaret.rows.trees import Open, Trees
+
+CASES = 300
+
+
+def end():
+    return time.monotonic() + 3600
+
+
+def limits(model):
+    return [Limits(row.least, row.terms, row.most) for row in model.rows]
+
+
+@unittest.skipUnless(models.scipy, "SciPy isn't there")
+class Diagrams(unittest.TestCase):
+    def test_cheapest(self):
+        for seed in range(CASES):
+            with self.subTest(seed=seed):
+                draw = random.Random(seed)
+                model = models.drawn_model(draw)
+                model = model._replace(rows=tuple(row for row in model.rows if row.terms))
+                diagram, plans = diagrams.diagram_of(model.variables, limits(model)), models.plans(model)
+                costs = np.array([draw.randint(-9, 9) for _ in range(model.variables)], dtype=np.int64)
+                costs_of = {plan: int(costs @ np.array(plan)) for plan in plans}
+                found = diagrams.cheapest(diagram, costs)
+                self.assertEqual(found is None, not plans)
+                if found is not None:
+                    self.assertEqual((found[0], costs_of[tuple(found[1].tolist())]), (min(costs_of.values()),) * 2)
+                    self.check_each(model, costs_of, diagrams.cheapest_with(diagram, costs))
+
+    def check_each(self, model, costs_of, found):
+        for value, variable in itertools.product((0, 1), range(model.variables)):
+            least = min((price for plan, price in costs_of.items() if plan[variable] == value), default=None)
+            self.assertEqual(None if found[value, variable] >= diagrams.TOO_MUCH // 2 else found[value, variable],
+                             least)
+
+    def test_too_wide(self):
+        rows = [Limits(1000, tuple((variable, 3**variable) for variable in range(12)), 100_000)]
+        self.assertIsNone(diagrams.diagram_of(12, rows, 50))
+        self.assertIsNotNone(diagrams.diagram_of(12, rows))
+
+
+@unittest.skipUnless(models.scipy, "SciPy isn't there")
+class Trees_(unittest.TestCase):
+    def test_trees(self):
+        """A tree is found where there is one to find, and shows it; else a plan."""
+        counts = [0, 0]
+        for seed in range(CASES):
+            model = models.drawn_model(random.Random(seed))
+            prices = [models.cost(model, plan) for plan in models.plans(model)]
+            most = min(prices, default=0) - random.Random(seed).choice((0, 1, 1, 3))
+            rows = limits(model)
+            trees = Trees(Part(rows, list(range(len(rows))), list(range(model.variables))), end())
+            terms = tuple((variable, cost) for variable, cost in enumerate(model.costs) if cost)
+            with self.subTest(seed=seed):
+                try:
+                    tree = trees.tree(model.costs, most)
+                    self.assertTrue(shows_here(Certificate(model.variables, (*rows, Limits(None, terms, most)), None,
+                                                           flat(tree))))
+                    self.assertGreater(min(prices, default=most + 1), most)
+                    counts[0] += 1
+                except Open:
+                    self.assertLessEqual(min(prices), most)
+                    counts[1] += 1
+        self.assertGreater(min(counts), CASES // 20)
+
+
+@unittest.skipUnless(models.scipy, "SciPy isn't there")
+class Prices(unittest.TestCase):
+    def proof(self, model, make, target):
+        """The certificate of a proof that no plan costs `target` or less."""
+        rows = (*limits(model), Limits(None, tuple((variable, cost) for variable, cost in enumerate(model.costs)
+                                                   if cost), target))
+        return Certificate(model.variables, rows, None, flat(make()))
+
+    def months(self):
+        for seed in range(2, 10):
+            model = models.drawn_month(random.Random(seed))
+            least = models.least_cost(model)
+            if least is not None:
+                yield model, least
+
+    def test_bounds_and_chains(self):
+        """No price gives more than the least cost, and each bound has its proof."""
+        for model, least in self.months():
+            pricing, draw = Pricing(model, end()), random.Random(1)
+            for _ in range(3):
+                prices = pricing.rounded(np.array([draw.uniform(-5, 5) for _ in pricing.shared]))
+                bound = pricing.bound(prices)
+                self.assertLessEqual(bound.value, SCALE * least)
+                target = -(-bound.value // SCALE) - 1
+                self.assertTrue(shows_here(self.proof(model, lambda: chain(pricing, bound, target, end()), target)))
+                with self.assertRaises(Open):
+                    chain(pricing, bound, target + 1, end())
+
+    def test_closing(self):
+        """From poor prices, too, a tree after the persons' links shows the least cost; for more it comes upon a
+        plan."""
+        for model, least in self.months():
+            pricing = Pricing(model, end())
+            bound = pricing.bound(np.zeros(len(pricing.shared), dtype=np.int64))
+            closing = Closing(pricing, bound, least - 1, end())
+            self.assertTrue(shows_here(self.proof(model, lambda: closing.proof(5000), least - 1)))
+            more = Closing(pricing, bound, least, end())
+            with self.assertRaises(Open):
+                more.proof(5000)
+            self.assertEqual(models.cost(model, more.trees.plan), least)
+            self.assertTrue(models.meets(more.trees.plan, model.rows))
+
+    def test_hours_may_be_left_out(self):
+        """Where a diagram with all rows is too wide, bounds hold without those that weigh."""
+        model, least = next(self.months())
+        with mock.patch.object(prices, "_EXACT_PART", -1):
+            pricing = Pricing(model, end())
+        exact = Pricing(model, end())
+        none = np.zeros(len(pricing.shared), dtype=np.int64)
+        self.assertLess(pricing.bound(none).value, exact.bound(none).value)
+        self.assertLessEqual(exact.bound(none).value, SCALE * least)
+
+    def test_nobodys_variables(self):
+        model = Model(3, (1, 2, 3), models.drawn_month(random.Random(1), 1, 1).rows[:0], (None, 0, None))
+        self.assertEqual(len(Pricing(model, end()).blocks), 3)
+
+
+if __name__ == "__main__":
+    unittest.main()

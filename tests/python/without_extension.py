@@ -1,0 +1,14 @@
+"""Runs the tests whose answers come by the extension once more without it. With --is-here it only says whether it is
+here, by its status."""
+import sys
+import unittest
+
+NAMES = ("api.test_arguments", "api.test_assigner", "api.test_forms", "api.test_refusals", "api.test_results",
+         "api.test_scipys_errors", "api.test_scipys_own", "api.test_solving", "costs.test_arrays", "costs.test_floats",
+         "costs.test_numpy", "lap.test_levels", "lap.test_rectangles", "lap.test_small", "test_pages")
+
+if sys.argv[1:] == ["--is-here"]:
+    from optional import extension
+    sys.exit(0 if extension() else 1)
+sys.modules["nushbaret._extension"] = None
+unittest.main(None, argv=[sys.argv[0], *NAMES])
