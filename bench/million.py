@@ -1,10 +1,10 @@
 #!/usr/bin/env python3
-"""Solves a drawn sparse problem of a million persons and as many objects by the library for C, and checks what it finds:
-    bench/million.py [LIBRARY [PERSONS [PAIRS [MOST]]]]
-Each person lists PAIRS objects (10) at costs from 1 to MOST (1000), among them one of its own, so that there is an assignment.
-LIBRARY is a libnushbaret.so, c/out/libnushbaret.so if none is given. It prints the seconds of processor time of the call and of
-the check, and by how many MB the call raised the greatest memory of this process. It ends with status 1 if the checker doesn't
-accept the answer, or if no time or memory of the machine is left.
+"""Solves a drawn sparse problem of a million persons and objects by the library for C, and checks what it finds:
+bench/million.py [LIBRARY [PERSONS [PAIRS [MOST]]]] Each person lists PAIRS objects (10) at costs from 1 to MOST
+(1000), among them one of its own, so that there is an assignment. LIBRARY is a libnushbaret.so, c/out/libnushbaret.so
+if none is given. It prints the seconds of processor time of the call and of the check, and by how many MB the call
+raised the greatest memory of this process. It ends with status 1 if the checker doesn't accept the answer, or if no
+time or memory of the machine is left.
 """
 import array
 import ctypes
@@ -51,7 +51,7 @@ def most_memory():
 
 def main():
     path = sys.argv[1] if len(sys.argv) > 1 else os.path.join(HERE, "..", "c", "out", "libnushbaret.so")
-    persons, pairs, most = (int(word) for word in (sys.argv[2:] + ["1000000", "10", "1000"][len(sys.argv[2:]):]))
+    persons, pairs, most = (int(word) for word in (sys.argv[2:] + ["1000000", "10", "1000"][len(sys.argv[2:]) :]))
     library = ctypes.CDLL(path)
     lists = drawn(persons, pairs, most)
     objects, owners = array.array("I", bytes(4 * persons)), array.array("I", bytes(4 * persons))
@@ -62,8 +62,10 @@ def main():
     memory = most_memory() - before
     total = info[0]
     verdict, checking = timed(library.nushbaret_check, *size, *words(*lists, objects, prices), ctypes.byref(info))
-    print(f"{persons} persons, {pairs} pairs each, costs to {most}: code {code}, total {total}, {seconds:.2f} s, {memory:.0f} MB; "
-          f"check: code {verdict}, {checking:.2f} s")
+    print(
+        f"{persons} persons, {pairs} pairs each, costs to {most}: code {code}, total {total}, {seconds:.2f} s, {memory:.0f} MB; "
+        f"check: code {verdict}, {checking:.2f} s"
+    )
     return 0 if code == verdict == 0 else 1
 
 

@@ -1,6 +1,7 @@
 #!/usr/bin/env python3
-"""Calls nushbaret_doubles, nushbaret_doubles_from and nushbaret_check_doubles over the shared library: each code, and drawn problems of many
-kinds, each against all plans in fractions. What a call doesn't write stays as it was. tests/door/doubles.py LIBRARY [HOW MANY]"""
+"""Calls nushbaret_doubles, nushbaret_doubles_from and nushbaret_check_doubles over the shared library: each code, and
+drawn problems of many kinds, each against all plans in fractions. What a call doesn't write stays as it was.
+tests/door/doubles.py LIBRARY [HOW MANY]"""
 import ctypes
 import fractions
 import itertools
@@ -18,7 +19,9 @@ HOW_MANY = int(sys.argv[2]) if sys.argv[2:] else 60
 
 
 class Info(ctypes.Structure):
-    _fields_ = [(name, c_uint64) for name in ("place", "persons", "objects", "person", "object")] + [("by_margin", c_uint32)]
+    _fields_ = [(name, c_uint64) for name in ("place", "persons", "objects", "person", "object")] + [
+        ("by_margin", c_uint32)
+    ]
 
 
 for call in (library.nushbaret_doubles, library.nushbaret_doubles_from, library.nushbaret_check_doubles):
@@ -58,34 +61,72 @@ def solve(sense, n, m, costs, start=None, long=None):
     persons, info = numbers(c_uint32, [KEPT] * sizes[1]), Info(KEPT, KEPT, KEPT, KEPT, KEPT, KEPT)
     before = list(objects), list(persons), list(prices)
     call = library.nushbaret_doubles_from if start else library.nushbaret_doubles
-    code = call(c_uint32(sense), c_size_t(n), c_size_t(m), numbers(c_double, costs), c_size_t(len(costs)), objects, c_size_t(sizes[0]),
-                persons, c_size_t(sizes[1]), prices, c_size_t(sizes[2]), ctypes.byref(info))
+    code = call(
+        c_uint32(sense),
+        c_size_t(n),
+        c_size_t(m),
+        numbers(c_double, costs),
+        c_size_t(len(costs)),
+        objects,
+        c_size_t(sizes[0]),
+        persons,
+        c_size_t(sizes[1]),
+        prices,
+        c_size_t(sizes[2]),
+        ctypes.byref(info),
+    )
     answer = Answer(code, objects, persons, prices, info)
     if code == BEST:
-        want(answer.persons == before[1] and answer.has_only(by_margin=info.by_margin), "the best writes", answer.fields())
+        want(
+            answer.persons == before[1] and answer.has_only(by_margin=info.by_margin),
+            "the best writes",
+            answer.fields(),
+        )
         want(info.by_margin in (0, 1), "by_margin is", info.by_margin)
     elif code == HALL:
-        want(answer.persons[info.persons:] == before[1][info.persons:] and answer.objects[info.objects:] == before[0][info.objects:]
-             and repr(answer.prices) == repr(before[2]) and answer.has_only(persons=info.persons, objects=info.objects), "a Hall set writes", answer.fields())
+        want(
+            answer.persons[info.persons :] == before[1][info.persons :]
+            and answer.objects[info.objects :] == before[0][info.objects :]
+            and repr(answer.prices) == repr(before[2])
+            and answer.has_only(persons=info.persons, objects=info.objects),
+            "a Hall set writes",
+            answer.fields(),
+        )
     else:
-        want((answer.objects, answer.persons, repr(answer.prices)) == (before[0], before[1], repr(before[2])), code, "writes lists")
+        want(
+            (answer.objects, answer.persons, repr(answer.prices)) == (before[0], before[1], repr(before[2])),
+            code,
+            "writes lists",
+        )
         want(answer.has_only(**({"place": info.place} if code == COST else {})), code, "writes", answer.fields())
     return answer
 
 
 def check(sense, n, m, costs, objects, prices):
     info = Info(KEPT, KEPT, KEPT, KEPT, KEPT, KEPT)
-    code = library.nushbaret_check_doubles(c_uint32(sense), c_size_t(n), c_size_t(m), numbers(c_double, costs), c_size_t(len(costs)),
-                                           numbers(c_uint32, objects), c_size_t(len(objects)), numbers(c_double, prices), c_size_t(len(prices)),
-                                           ctypes.byref(info))
+    code = library.nushbaret_check_doubles(
+        c_uint32(sense),
+        c_size_t(n),
+        c_size_t(m),
+        numbers(c_double, costs),
+        c_size_t(len(costs)),
+        numbers(c_uint32, objects),
+        c_size_t(len(objects)),
+        numbers(c_double, prices),
+        c_size_t(len(prices)),
+        ctypes.byref(info),
+    )
     return Answer(code, [], [], [], info)
 
 
 def plans(sense, n, m, costs):
     """The best sum in fractions; None if there is no plan."""
     exact = [None if math.isinf(cost) else fractions.Fraction(cost) for cost in costs]
-    sums = [sum(row) for row in ([exact[i * m + j] for i, j in enumerate(plan)] for plan in itertools.permutations(range(m), n))
-            if None not in row]
+    sums = [
+        sum(row)
+        for row in ([exact[i * m + j] for i, j in enumerate(plan)] for plan in itertools.permutations(range(m), n))
+        if None not in row
+    ]
     return (min if sense == MIN else max)(sums) if sums else None
 
 
@@ -95,7 +136,12 @@ def total(m, costs, objects):
 
 def is_hall_set(n, m, costs, persons, objects):
     listed = {j + 1 for i in persons for j in range(m) if not math.isinf(costs[(i - 1) * m + j])}
-    return sorted(set(persons)) == persons and sorted(listed) == objects and len(objects) < len(persons) and all(1 <= i <= n for i in persons)
+    return (
+        sorted(set(persons)) == persons
+        and sorted(listed) == objects
+        and len(objects) < len(persons)
+        and all(1 <= i <= n for i in persons)
+    )
 
 
 def is_right(sense, n, m, costs, answer):
@@ -103,19 +149,35 @@ def is_right(sense, n, m, costs, answer):
     best = plans(sense, n, m, costs)
     if answer.code == BEST:
         objects = answer.objects
-        if best is None or len(set(objects)) < n or not all(1 <= j <= m for j in objects) or any(math.isinf(costs[i * m + j - 1]) for i, j in enumerate(objects)):
+        if (
+            best is None
+            or len(set(objects)) < n
+            or not all(1 <= j <= m for j in objects)
+            or any(math.isinf(costs[i * m + j - 1]) for i, j in enumerate(objects))
+        ):
             return False
         judged = check(sense, n, m, costs, objects, answer.prices)
-        return total(m, costs, objects) == best and judged.code == BEST and judged.has_only(by_margin=answer.info.by_margin)
+        return (
+            total(m, costs, objects) == best
+            and judged.code == BEST
+            and judged.has_only(by_margin=answer.info.by_margin)
+        )
     if answer.code == HALL:
-        return best is None and is_hall_set(n, m, costs, answer.persons[:answer.info.persons], answer.objects[:answer.info.objects])
+        return best is None and is_hall_set(
+            n, m, costs, answer.persons[: answer.info.persons], answer.objects[: answer.info.objects]
+        )
     return answer.code == UNDECIDED
 
 
 def worked():
     costs = [4.5, 1.25, 9, 2, 3, INFINITY]
     answer = solve(MIN, 2, 3, costs)
-    want(answer.code == BEST and answer.objects == [2, 1] and answer.info.by_margin == 1, "worked, least", answer.code, answer.objects)
+    want(
+        answer.code == BEST and answer.objects == [2, 1] and answer.info.by_margin == 1,
+        "worked, least",
+        answer.code,
+        answer.objects,
+    )
     answer = solve(MAX, 2, 3, [-cost for cost in costs])
     want(answer.code == BEST and answer.objects == [2, 1], "worked, greatest", answer.code, answer.objects)
     answer = solve(MIN, 2, 2, [0.1, 0.2, 0.1, 0.2])
@@ -123,18 +185,37 @@ def worked():
     answer = solve(MIN, 1, 1, [-0.0])
     want(answer.code == BEST and answer.objects == [1], "a zero", answer.code)
     answer = solve(MIN, 3, 2, [1, INFINITY] * 3)
-    want(answer.code == HALL and answer.persons[:answer.info.persons] == [1, 2, 3] and answer.objects[:answer.info.objects] == [1], "three of one", answer.code)
+    want(
+        answer.code == HALL
+        and answer.persons[: answer.info.persons] == [1, 2, 3]
+        and answer.objects[: answer.info.objects] == [1],
+        "three of one",
+        answer.code,
+    )
     answer = solve(MIN, 2, 2, [1, 2, INFINITY, INFINITY])
-    want(answer.code == HALL and answer.persons[0] == 2 and answer.info.persons == 1 and answer.info.objects == 0, "a person with nothing", answer.code)
+    want(
+        answer.code == HALL and answer.persons[0] == 2 and answer.info.persons == 1 and answer.info.objects == 0,
+        "a person with nothing",
+        answer.code,
+    )
 
 
 def faults():
     costs = [1.0, 2.0, 3.0, 4.0]
     for sense, n, m, given, long, code in [
-            (2, 0, 2, costs, None, SENSE), (9, 2, 2, costs, None, SENSE), (MIN, 0, 2, [], None, SIZE), (MIN, 2, 0, [], None, SIZE),
-            (MIN, 4194305, 1, costs, (0, 0, 1), SIZE), (MIN, 1, 2 ** 63, costs, (1, 1, 0), SIZE), (MIN, 2, 2, costs[:3], None, LENGTH),
-            (MIN, 2, 2, costs + [1.0], None, LENGTH), (MIN, 2, 2, costs, (1, 2, 2), LENGTH), (MIN, 2, 2, costs, (2, 3, 2), LENGTH),
-            (MIN, 2, 2, costs, (2, 2, 1), LENGTH), (MIN, 2, 2, [NAN] * 3, None, LENGTH)]:
+        (2, 0, 2, costs, None, SENSE),
+        (9, 2, 2, costs, None, SENSE),
+        (MIN, 0, 2, [], None, SIZE),
+        (MIN, 2, 0, [], None, SIZE),
+        (MIN, 4194305, 1, costs, (0, 0, 1), SIZE),
+        (MIN, 1, 2**63, costs, (1, 1, 0), SIZE),
+        (MIN, 2, 2, costs[:3], None, LENGTH),
+        (MIN, 2, 2, costs + [1.0], None, LENGTH),
+        (MIN, 2, 2, costs, (1, 2, 2), LENGTH),
+        (MIN, 2, 2, costs, (2, 3, 2), LENGTH),
+        (MIN, 2, 2, costs, (2, 2, 1), LENGTH),
+        (MIN, 2, 2, [NAN] * 3, None, LENGTH),
+    ]:
         answer = solve(sense, n, m, given, long=long)
         want(answer.code == code and answer.has_only(), sense, n, m, given, "gives", answer.code)
     for sense in (MIN, MAX):
@@ -144,17 +225,36 @@ def faults():
                 given[place] = fault
                 later = [fault if k >= place else cost for k, cost in enumerate(costs)]
                 for doubles in (given, later):
-                    for answer in (solve(sense, 2, 2, doubles), solve(sense, 2, 2, doubles, ([1, 2], [0.0, 0.0])), check(sense, 2, 2, doubles, [1, 2], [0.0, 0.0])):
-                        want(answer.code == COST and answer.has_only(place=place), doubles, "gives", answer.code, answer.info.place)
+                    for answer in (
+                        solve(sense, 2, 2, doubles),
+                        solve(sense, 2, 2, doubles, ([1, 2], [0.0, 0.0])),
+                        check(sense, 2, 2, doubles, [1, 2], [0.0, 0.0]),
+                    ):
+                        want(
+                            answer.code == COST and answer.has_only(place=place),
+                            doubles,
+                            "gives",
+                            answer.code,
+                            answer.info.place,
+                        )
 
 
 def verdicts():
     costs = [1.0, 2.0, 3.0, INFINITY]
     for objects, prices, code, named in [
-            ([2, 1], [0.0, -1.0], BEST, {"by_margin": 0}), ([2, 1], [0.0, -1.5], BEST, {"by_margin": 1}), ([1], [0.0, 0.0], LENGTH, {}),
-            ([2, 1], [0.0], LENGTH, {}), ([1, 2], [0.0, 0.0], UNLISTED, {"person": 2}), ([0, 1], [0.0, 0.0], UNLISTED, {"person": 1}),
-            ([2, 3], [0.0, 0.0], UNLISTED, {"person": 2}), ([1, 1], [0.0, 0.0], TWICE, {"person": 2}), ([2, 1], [0.0, NAN], PRICE_RANGE, {"object": 2}),
-            ([2, 1], [INFINITY, NAN], PRICE_RANGE, {"object": 1}), ([2, 1], [0.0, 0.0], UNDECIDED, {}), ([2, 1], [-1.5, 0.0], UNDECIDED, {})]:
+        ([2, 1], [0.0, -1.0], BEST, {"by_margin": 0}),
+        ([2, 1], [0.0, -1.5], BEST, {"by_margin": 1}),
+        ([1], [0.0, 0.0], LENGTH, {}),
+        ([2, 1], [0.0], LENGTH, {}),
+        ([1, 2], [0.0, 0.0], UNLISTED, {"person": 2}),
+        ([0, 1], [0.0, 0.0], UNLISTED, {"person": 1}),
+        ([2, 3], [0.0, 0.0], UNLISTED, {"person": 2}),
+        ([1, 1], [0.0, 0.0], TWICE, {"person": 2}),
+        ([2, 1], [0.0, NAN], PRICE_RANGE, {"object": 2}),
+        ([2, 1], [INFINITY, NAN], PRICE_RANGE, {"object": 1}),
+        ([2, 1], [0.0, 0.0], UNDECIDED, {}),
+        ([2, 1], [-1.5, 0.0], UNDECIDED, {}),
+    ]:
         answer = check(MIN, 2, 2, costs, objects, prices)
         want(answer.code == code and answer.has_only(**named), objects, prices, "give", answer.code, answer.fields())
     for sense in (2, 7):
@@ -177,7 +277,7 @@ KINDS = {
     "wide": lambda r, i, j: r.random() if r.random() < 0.4 else 1e15,
     "allowed": lambda r, i, j: r.random() if r.random() < 0.5 else INFINITY,
     "allowed whole": lambda r, i, j: whole(r, -2, 2) if r.random() < 0.6 else INFINITY,
-    "nearly equal": lambda r, i, j: 0.1 + whole(r, 0, 2) * 2.0 ** -56,
+    "nearly equal": lambda r, i, j: 0.1 + whole(r, 0, 2) * 2.0**-56,
     "signs": lambda r, i, j: r.choice([-1, 1]) * r.random() * 10.0 ** r.randint(-3, 3),
 }
 # Where plans differ by more than rounding at most one in fifty may stay open.
@@ -193,13 +293,37 @@ def drawn():
                 sense = rng.randint(MIN, MAX)
                 costs = [cost(rng, i, j) * (1 if sense == MIN else -1) for i in range(n) for j in range(m)]
                 answer = solve(sense, n, m, costs)
-                want(is_right(sense, n, m, costs, answer), kind, sense, n, m, costs, answer.code, answer.objects, answer.prices)
-                start = [rng.randint(0, m + 1) for _ in range(n)], [rng.choice([0.0, 1.0, rng.random(), INFINITY, NAN, -1e300]) for _ in range(m)]
+                want(
+                    is_right(sense, n, m, costs, answer),
+                    kind,
+                    sense,
+                    n,
+                    m,
+                    costs,
+                    answer.code,
+                    answer.objects,
+                    answer.prices,
+                )
+                start = [rng.randint(0, m + 1) for _ in range(n)], [
+                    rng.choice([0.0, 1.0, rng.random(), INFINITY, NAN, -1e300]) for _ in range(m)
+                ]
                 if answer.code == BEST and rng.random() < 0.5:
                     start = answer.objects[:], answer.prices[:]
                     start[0][rng.randrange(n)] = 0
                 again = solve(sense, n, m, costs, start)
-                want(is_right(sense, n, m, costs, again), "from", start, kind, sense, n, m, costs, again.code, again.objects, again.prices)
+                want(
+                    is_right(sense, n, m, costs, again),
+                    "from",
+                    start,
+                    kind,
+                    sense,
+                    n,
+                    m,
+                    costs,
+                    again.code,
+                    again.objects,
+                    again.prices,
+                )
                 undecided += (answer.code == UNDECIDED) + (again.code == UNDECIDED)
                 count += 2
         want(kind not in DECIDED or undecided * 50 <= count, kind, undecided, "of", count, "are undecided")

@@ -81,7 +81,8 @@ def double_codes():
     called = {"Verdict::Price": "PRICE_RANGE"}
     for file in ["fault.rt", "solve.rt", "check.rt"]:
         text = (DOUBLES / file).read_text()
-        for kind, variant, number in re.findall(r"(Fault|End|Verdict)::(\w+)(?:\([^)]*\))? => (?:\{[^}]*?\n\s*)?(\d+)[,\n]", text):
+        named = r"(Fault|End|Verdict)::(\w+)(?:\([^)]*\))? => (?:\{[^}]*?\n\s*)?(\d+)[,\n]"
+        for kind, variant, number in re.findall(named, text):
             yield called.get(f"{kind}::{variant}", variant.upper()), int(number)
 
 

@@ -19,9 +19,7 @@ CODES = (
     "ANSWER_LENGTH", "UNLISTED", "TWICE", "PRICE_RANGE", "SLACK",
     "HALL_RANGE", "HALL_ORDER", "HALL_MISSING", "HALL_EXTRA", "HALL_COUNT",
     "OVERPRICED",
-    "STOPPED",
-    # A code that 4.0.0 had.
-    "",
+    "STOPPED", "UNFOUND",
     "UNDECIDED",
 )
 
@@ -46,6 +44,14 @@ class Info(ctypes.Structure):
 
     _fields_ = [(name, ctypes.c_int64 if name == "total" else ctypes.c_uint64)
                 for name in ("total", "place", "persons", "objects", "person", "object")]
+
+
+class Unfound(RuntimeError):
+    """The library's search found no best plan, and no proof that there is none. Nobody has seen it."""
+
+    def __init__(self) -> None:
+        super().__init__("the library found no plan that its checker accepts, and no proof that there is none: please "
+                         "report this problem")
 
 
 class Record(ctypes.Structure):
@@ -131,7 +137,8 @@ def address(export: str) -> int:
 
 def call(name: str, sense: Optional[bool], n: int, m: int, *lists: Any, piece: Sequence[int] = ()) -> Tuple[str, Info]:
     """The name of the code, and its record. `sense` is None for `check_hall`; `piece` is a budget, and the address of
-    the record that says where a search stands. MemoryError where memory is refused."""
+    the record that says where a search stands. MemoryError where memory is refused, and `Unfound` where a search finds
+    nothing."""
     info = Info()
     words: List[Any] = [n, m] if sense is None else [1 if sense else 0, n, m]
     for values in lists:
@@ -139,6 +146,8 @@ def call(name: str, sense: Optional[bool], n: int, m: int, *lists: Any, piece: S
     code = CODES[_loaded()[name](*words, *piece, ctypes.addressof(info))]
     if code == "MEMORY":
         raise MemoryError("the library was refused memory")
+    if code == "UNFOUND":
+        raise Unfound
     return code, info
 
 
