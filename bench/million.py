@@ -63,8 +63,8 @@ def main():
     total = info[0]
     verdict, checking = timed(library.nushbaret_check, *size, *words(*lists, objects, prices), ctypes.byref(info))
     print(
-        f"{persons} persons, {pairs} pairs each, costs to {most}: code {code}, total {total}, {seconds:.2f} s, {memory:.0f} MB; "
-        f"check: code {verdict}, {checking:.2f} s"
+        f"{persons} persons, {pairs} pairs each, costs to {most}: code {code}, total {total}, {seconds:.2f} s, "
+        f"{memory:.0f} MB; check: code {verdict}, {checking:.2f} s"
     )
     return 0 if code == verdict == 0 else 1
 
