@@ -283,8 +283,8 @@ int32_t nushbaret_doubles(uint32_t sense, size_t n, size_t m,
     struct nushbaret_doubles_info *info);
 
 /* The same from an earlier plan and its prices, which are read from objects (0: the person has none) and prices. Where a few
-   rows changed since, set their objects to 0: each takes one search for a shortest path. Whatever the lists hold, the answer
-   is as good. */
+   rows changed since, set their objects to 0: each takes one search for a shortest path. Whatever the lists hold, an answer
+   is as good; from prices that don't fit the costs NUSHBARET_UNDECIDED comes more often. */
 int32_t nushbaret_doubles_from(uint32_t sense, size_t n, size_t m,
     const double *costs, size_t costs_count,
     uint32_t *objects, size_t objects_count,

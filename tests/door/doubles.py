@@ -324,8 +324,8 @@ def drawn():
                     again.objects,
                     again.prices,
                 )
-                undecided += (answer.code == UNDECIDED) + (again.code == UNDECIDED)
-                count += 2
+                undecided += answer.code == UNDECIDED
+                count += 1
         want(kind not in DECIDED or undecided * 50 <= count, kind, undecided, "of", count, "are undecided")
 
 
