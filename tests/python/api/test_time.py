@@ -131,8 +131,7 @@ class Progress(unittest.TestCase):
             self.assertTrue(all(0 <= served <= 30 for served, _ in noted))
             numbers.append(len(noted))
             self.assertEqual(self.noted(call, timeout=1000)[1], found)
-        # Listed pairs get some passes beyond a budget, so a small search ends in its first piece.
-        self.assertEqual([number > 1 for number in numbers], [True, True, True, False, True])
+        self.assertGreater(min(numbers), 1)
 
     def test_it_may_end_the_call(self):
         def stop(served, rows):
