@@ -144,7 +144,6 @@ enum nushbaret_code {
     NUSHBARET_OVERPRICED = 20,   /* nobody has info->object, the lowest, and its price isn't 0 */
 
     NUSHBARET_STOPPED = 21,      /* the budget is spent: the same call goes on */
-    NUSHBARET_STOPPED = 21,      /* the budget is spent: the same call goes on */
     NUSHBARET_UNFOUND = 22,      /* the search found nothing that the checker accepts */
 
     NUSHBARET_UNDECIDED = 23     /* over doubles: nothing is proved, as where plans differ by less than rounding */
