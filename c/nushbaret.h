@@ -260,9 +260,9 @@ int32_t nushbaret_check_hall(size_t n, size_t m,
    NUSHBARET_BEST: no plan has a lesser sum (under NUSHBARET_MAX a greater one) in exact arithmetic, without any rounding.
    At the prices, which are doubles, each person's own object is a best one, and no price is below that of an object that
    nobody has. NUSHBARET_HALL: there is no plan. NUSHBARET_UNDECIDED says neither: plans that differ by less than the
-   rounding of their costs are mostly why, or costs of very different sizes. */
+   rounding of their costs are mostly why, or costs of very different sizes.
 
-/* What a call over doubles reports in addition to its lists. */
+   What a call over doubles reports in addition to its lists. */
 struct nushbaret_doubles_info {
     uint64_t place;     /* the place of a fault in the costs */
     uint64_t persons;   /* how many persons a Hall set has */
