@@ -76,11 +76,11 @@
            100000000, &record, &info);
        while (code == NUSHBARET_STOPPED && go_on());
 
-   NOTHING FOUND
+   WHAT ANSWERS
 
-   Each answer of a search is checked before a call returns it. A search that found nothing that passes returns
-   NUSHBARET_UNFOUND. Nobody has seen it: not once in 200,000 drawn problems of up to five persons. The problem may have
-   an assignment or none.
+   Each answer of a search is checked before a call returns it. Where a search finds nothing that passes, which nobody has
+   seen, a slow one answers that is proved. So a solving call without a budget returns NUSHBARET_BEST, NUSHBARET_HALL or a
+   fault, whatever its lists contain.
 
    A WORKED EXAMPLE
 
@@ -104,7 +104,7 @@
 extern "C" {
 #endif
 
-#define NUSHBARET_VERSION "4.1.0"
+#define NUSHBARET_VERSION "4.2.0"
 
 /* The sense: the least sum of costs, or the greatest. */
 #define NUSHBARET_MIN 0u
@@ -144,7 +144,6 @@ enum nushbaret_code {
     NUSHBARET_OVERPRICED = 20,   /* nobody has info->object, the lowest, and its price isn't 0 */
 
     NUSHBARET_STOPPED = 21,      /* the budget is spent: the same call goes on */
-    NUSHBARET_UNFOUND = 22,      /* the search found nothing that the checker accepts */
 
     NUSHBARET_UNDECIDED = 23     /* over doubles: nothing is proved, as where plans differ by less than rounding */
 };
@@ -269,7 +268,9 @@ struct nushbaret_doubles_info {
     uint64_t objects;   /* how many objects it has */
     uint64_t person;    /* the person that a verdict names */
     uint64_t object;    /* the object that a verdict names */
-    uint32_t by_margin; /* 1: each other object of a person is worse by a margin, so that no plan is as good; 0: not shown */
+    uint32_t by_margin; /* 1: each other object of a person is worse by more than 2^-52 of the size of each cost, so that no
+                           plan is as good, and none is better for numbers of which the costs are the nearest doubles;
+                           0: not shown */
 };
 
 /* Solves a dense problem over doubles: costs[(i - 1) * m + (j - 1)] is that of person i and object j. There are n * m costs,
@@ -283,7 +284,7 @@ int32_t nushbaret_doubles(uint32_t sense, size_t n, size_t m,
 
 /* The same from an earlier plan and its prices, which are read from objects (0: the person has none) and prices. Where a few
    rows changed since, set their objects to 0: each takes one search for a shortest path. Whatever the lists hold, an answer
-   is as good; from prices that don't fit the costs NUSHBARET_UNDECIDED comes more often. */
+   is as good; where none is found from there, it searches from nothing. */
 int32_t nushbaret_doubles_from(uint32_t sense, size_t n, size_t m,
     const double *costs, size_t costs_count,
     uint32_t *objects, size_t objects_count,

@@ -18,8 +18,8 @@ TOP = HERE.parent
 sys.path.insert(0, str(TOP / "python"))
 sys.dont_write_bytecode = True
 
-from nushbaret.roster.output.html import COLOURS, FRAME  # noqa: E402
-from nushbaret.roster.output.page import SHADES_STYLE, STYLE  # noqa: E402
+from nushbaret.roster.output.html import COLOURS, style_of  # noqa: E402
+from nushbaret.roster.output.page import SHADES_STYLE  # noqa: E402
 
 IMPORT = re.compile(r'^import \{[^}]*\} from "\./([a-z]+)\.mjs";\n', re.M)
 NAMED = re.compile(r"^(?:export )?(?:async )?(?:function\*?|const|let|class) (\w+)", re.M)
@@ -74,7 +74,8 @@ def defined(name: str) -> str:
 def page(module: bytes) -> str:
     """The page with a module."""
     main = script("main")
-    style = COLOURS + FRAME + STYLE + SHADES_STYLE + (HERE / "page.css").read_text(encoding="utf-8")
+    own = (HERE / "page.css").read_text(encoding="utf-8")
+    style = COLOURS + style_of("frame.css") + style_of("page.css") + SHADES_STYLE + own
     policy = (f"default-src 'none'; script-src {sum_of(main)} 'wasm-unsafe-eval'; style-src {sum_of(style)}; "
               "worker-src blob:; " "base-uri 'none'; form-action 'none'")
     text = (HERE / "page.html").read_text(encoding="utf-8")

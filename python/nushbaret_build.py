@@ -18,14 +18,14 @@ import zipfile
 TOP = pathlib.Path(__file__).resolve().parent
 PACKAGE = TOP / "nushbaret"
 BUILT = TOP.parent / "c" / "out"
-# The library for each kind of machine: where it is, after a place in the package itself, and what makes it.
+# The library for each kind of machine: where it is, after the package itself, and what makes it.
 LIBRARIES = {
     r"(linux|manylinux2014)[-_]x86_64": (BUILT / "libnushbaret.so", "c/build.sh"),
     r"(linux|manylinux2014)[-_]aarch64": (BUILT / "aarch64" / "libnushbaret.so", "c/build.sh --target aarch64"),
     r"win[-_]amd64": (BUILT / "windows" / "nushbaret.dll", "c/build_windows.sh"),
 }
 EXTENSION = "_extension.abi3.so"
-NAMES = {EXTENSION, *(place.name for place, _ in LIBRARIES.values())}
+NAMES = {EXTENSION, *(path.name for path, _ in LIBRARIES.values())}
 SOURCE = TOP / "nushbaret_extension.c"
 # The compilers that make the extension for each kind of machine; those of a machine of the same kind alone need no name
 # of their own.
@@ -69,21 +69,21 @@ def _library():
     if found is None:
         raise SystemExit("nushbaret runs on Linux for x86-64 and for 64-bit ARM, and on Windows for x86-64, and this "
                          f"is {PLATFORM}: " "use a Linux container there")
-    place, script = found
-    for file in (PACKAGE / place.name, place):
+    path, script = found
+    for file in (PACKAGE / path.name, path):
         if file.exists():
             return file
-    raise SystemExit(f"{place.name} isn't there: run {script} at the top of the checkout first, and then install again")
+    raise SystemExit(f"{path.name} isn't there: run {script} at the top of the checkout first, and then install again")
 
 
-def compile_extension(compiler, place):
-    """Compiles the extension to a place; false where there is no compiler or no Python.h."""
+def compile_extension(compiler, path):
+    """Compiles the extension to a file; false where there is no compiler or no Python.h."""
     headers = pathlib.Path(sysconfig.get_path("include"))
     if not shutil.which(compiler) or not (headers / "Python.h").exists():
         return False
     with tempfile.TemporaryDirectory() as held:
         _configuration(headers, pathlib.Path(held))
-        words = [compiler, *FLAGS, f"-I{headers}", f"-I{held}", "-o", str(place), SOURCE.name]
+        words = [compiler, *FLAGS, f"-I{headers}", f"-I{held}", "-o", str(path), SOURCE.name]
         return subprocess.run(words, cwd=TOP).returncode == 0
 
 
@@ -100,7 +100,7 @@ def _configuration(headers, held):
 def _extension():
     """The extension for the machine that the wheel is for, as bytes: what was built, unless its source is newer, or
     else compiled here; None where there is none."""
-    library = next(place for kind, (place, _) in LIBRARIES.items() if re.fullmatch(kind, PLATFORM))
+    library = next(path for kind, (path, _) in LIBRARIES.items() if re.fullmatch(kind, PLATFORM))
     for file in (PACKAGE / EXTENSION, library.with_name(EXTENSION)):
         if library.suffix == ".so" and file.exists() and file.stat().st_mtime >= SOURCE.stat().st_mtime:
             return file.read_bytes()
@@ -108,9 +108,9 @@ def _extension():
     if compiler is None:
         return None
     with tempfile.TemporaryDirectory() as held:
-        place = pathlib.Path(held) / EXTENSION
+        path = pathlib.Path(held) / EXTENSION
         own = "cc" if PLATFORM == sysconfig.get_platform() else compiler
-        return place.read_bytes() if compile_extension(own, place) else None
+        return path.read_bytes() if compile_extension(own, path) else None
 
 
 def _tag():
@@ -153,7 +153,7 @@ def _guide():
     _modules_here()
     import nushbaret_guide
 
-    pages = [next((file for file in places if file.exists()), None) for places in (GUIDES, RULES)]
+    pages = [next((file for file in files if file.exists()), None) for files in (GUIDES, RULES)]
     if None in pages:
         return {}
     texts = [page.read_text(encoding="utf-8") for page in pages]
@@ -215,9 +215,9 @@ get_requires_for_build_sdist = get_requires_for_build_editable = get_requires_fo
 
 def prepare_metadata_for_build_wheel(metadata_directory, config_settings=None):
     for name, text in _info().items():
-        place = pathlib.Path(metadata_directory) / name
-        place.parent.mkdir(parents=True, exist_ok=True)
-        place.write_bytes(text)
+        path = pathlib.Path(metadata_directory) / name
+        path.parent.mkdir(parents=True, exist_ok=True)
+        path.write_bytes(text)
     return INFO
 
 

@@ -30,11 +30,11 @@ RUN = ["README.md", "docs/MODELLING.md", "docs/SCRIPTS.md"]
 RELEASED = re.compile(r"\brelease/|\bplanner\b")
 GENERATED = "docs/DEFINITIONS.md"
 # The most words of each page. The generated one and the list of changes may have any number.
-MOST_OF_PAGE = {"README.md": 1550, "SECURITY.md": 250, "bench/README.md": 800, "drafts/README.md": 200,
+MOST_OF_PAGE = {"README.md": 1550, "SECURITY.md": 250, "bench/README.md": 1080,
                 "examples/README.md": 200,
                 "docs/ARCHITECTURE.md": 1450, "docs/CALLING.md": 700, "docs/CONTRIBUTING.md": 850,
-                "docs/DECISIONS.md": 1100, "docs/FORMATS.md": 2200, "docs/MODELLING.md": 1200, "docs/PROOFS.md": 1000,
-                "docs/PROVED.md": 3300, "docs/PYTHON.md": 1700, "docs/RATTLE.md": 400, "docs/ROSTERS.md": 2000,
+                "docs/DECISIONS.md": 1330, "docs/FORMATS.md": 2200, "docs/MODELLING.md": 1200, "docs/PROOFS.md": 1150,
+                "docs/PROVED.md": 3350, "docs/PYTHON.md": 1700, "docs/RATTLE.md": 400, "docs/ROSTERS.md": 2000,
                 "docs/RULES.md": 950, "docs/SCRIPTS.md": 850, "docs/TESTING.md": 650}
 UNCOUNTED = (GENERATED, "CHANGELOG.md")
 # The sources whose comments avoid the same words, the beginning of these comments, and code in them.

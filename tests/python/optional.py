@@ -14,14 +14,3 @@ pd = _module("pandas")
 optimize = _module("scipy.optimize")
 sparse = _module("scipy.sparse")
 openpyxl = _module("openpyxl")
-
-
-def extension():
-    """The extension module, if it is here for this Python and the library has what it calls; else None."""
-    from nushbaret.lap import direct, library
-    try:
-        for export in direct.EXPORTS:
-            library.address(export)
-    except AttributeError:
-        return None
-    return direct.extension()

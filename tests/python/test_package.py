@@ -15,7 +15,7 @@ import tempfile
 import unittest
 import zipfile
 
-from nushbaret.lap import library
+import nushbaret
 
 PYTHON = pathlib.Path(__file__).resolve().parent.parent.parent / "python"
 SOLVES = ("import sys; sys.path.insert(0, sys.argv[1]); import nushbaret; print(nushbaret.__file__, "
@@ -54,7 +54,8 @@ class Package(unittest.TestCase):
                 wanted = base64.urlsafe_b64encode(hashlib.sha256(text).digest()).rstrip(b"=").decode()
                 self.assertEqual((digest, int(size)), (f"sha256={wanted}", len(text)))
         self.assertEqual({row[0] for row in rows}, names)
-        self.assertLessEqual({"nushbaret/py.typed", "nushbaret/__main__.py", f"nushbaret/{library.NAME}",
+        library = next(path for kind, (path, _) in build.LIBRARIES.items() if re.fullmatch(kind, build.PLATFORM))
+        self.assertLessEqual({"nushbaret/py.typed", "nushbaret/__main__.py", f"nushbaret/{library.name}",
                               f"{build.DATA}/share/man/man1/nushbaret.1", "nushbaret/guide/rosters.html",
                               "nushbaret/guide/examples/week.csv", "nushbaret/guide/examples/month_rules.csv"}, names)
         self.solves(str(self.folder / "out"))
@@ -153,8 +154,8 @@ class Package(unittest.TestCase):
         self.assertEqual(list(self.folder.iterdir()), [])
 
     def test_one_version(self):
-        self.assertEqual(backend().VERSION, library.VERSION)
-        self.assertEqual((PYTHON.parent / "VERSION").read_text().strip(), library.VERSION)
+        self.assertEqual(backend().VERSION, nushbaret.__version__)
+        self.assertEqual((PYTHON.parent / "VERSION").read_text().strip(), nushbaret.__version__)
 
     @unittest.skipUnless(importlib.util.find_spec("pip"), "pip isn't there")
     def test_pip_without_a_network(self):
@@ -194,7 +195,7 @@ class Bump(unittest.TestCase):
         return {file: file.read_bytes() for file in self.top.rglob("*") if file.is_file() and ".git" not in file.parts}
 
     def test_longer_version(self):
-        old = library.VERSION
+        old = nushbaret.__version__
         first, second, _ = old.split(".")
         new, before = f"{first}.{int(second) + 10}.0", self.texts()
         self.assertEqual(self.bump(new), (0, f"{old} is now {new}; CHANGELOG.md, the builds and release/make.sh "
@@ -211,7 +212,7 @@ class Bump(unittest.TestCase):
         self.assertEqual(self.texts(), before)
 
     def test_refusals(self):
-        old, before = library.VERSION, self.texts()
+        old, before = nushbaret.__version__, self.texts()
         for words, why in (((), f"it takes one word, the new version; this is {old}"),
                            ((old,), f"this is {old} already"), (("3.1",), "'3.1' isn't a version of three numbers, as "
                                                                 "1.20.3"), (("3.01.0",), "'3.01.0' isn't a version")):

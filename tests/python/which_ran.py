@@ -3,7 +3,7 @@ import importlib.util
 import platform
 import shutil
 
-from optional import extension
+from ways import extension
 
 NAMES, PROGRAMS = ("numpy", "scipy", "pandas", "openpyxl"), ("chromium", "pdftotext")
 parts = [*(["the extension"] if extension() else []), *filter(importlib.util.find_spec, NAMES),

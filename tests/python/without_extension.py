@@ -13,6 +13,6 @@ if sys.argv[1:] != ["--is-here"]:
 
 if __name__ == "__main__":
     if sys.argv[1:] == ["--is-here"]:
-        from optional import extension
+        from ways import extension
         sys.exit(0 if extension() else 1)
     unittest.main(None, argv=[sys.argv[0], *NAMES])

@@ -1,5 +1,6 @@
 -- The pairs of a dense problem.
-use Rattle.std.proofs.Common.{◌≡◌, ℕ, ℤ, pos, ◌<◌, ◌≤◌, ◌+◌, ◌-◌, ◌*◌, ◌/◌, ◌%◌, zero, suc, List, [], ◌∷◌, Some, length, get_or, take, drop, nat_eq, false, arith, ap, ◌∙◌, add-one, inl, inr, eq-eqb}
+use Rattle.std.proofs.Common.{◌≡◌, ℕ, ℤ, pos, ◌<◌, ◌≤◌, ◌+◌, ◌-◌, ◌*◌, ◌/◌, ◌%◌, zero, suc, List, [], ◌∷◌, Some}
+use Rattle.std.proofs.Common.{length, get_or, take, drop, nat_eq, false, arith, ap, ◌∙◌, add-one, inl, inr, eq-eqb}
 use Rattle.std.specs.List.{All}
 use Rattle.std.proofs.lemmas.List.{length-drop, get_or-take, get_or-drop, drop-drop, length-take-le, get_or_default}
 use Rattle.std.proofs.Math.Nat.{mul-le-mul_right, div-lt_iff_lt-mul}
@@ -18,7 +19,8 @@ row_listed j k [] lt = absurd (omega arith)
 row_listed j zero (c ∷ costs) lt = listed_here (j, c) (row_from (j + 1) costs) (j + 0) (eq-eqb j (j + 0) (omega arith))
 row_listed j (suc k) (c ∷ costs) lt =
     let e : j + suc k ≡ j + 1 + k = omega arith in
-    listed_later (j, c) (row_from (j + 1) costs) (j + suc k) (not_equal j k) ∙ ap (listed_in (row_from (j + 1) costs)) e ∙ row_listed (j + 1) k costs (omega arith)
+    listed_later (j, c) (row_from (j + 1) costs) (j + suc k) (not_equal j k) ∙
+    ap (listed_in (row_from (j + 1) costs)) e ∙ row_listed (j + 1) k costs (omega arith)
 
 -- the row of a person
 pub row_cut : (n m i : ℕ) (costs : List ℤ) → i < m → get_or (rows_cut n m costs) i [] ≡ row_from 1 (take n (drop (i * n) costs))

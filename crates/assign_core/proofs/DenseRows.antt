@@ -1,5 +1,7 @@
 -- Dense problems: rows cut from a list of costs.
-use Rattle.std.proofs.Common.{◌≡◌, ℕ, ℤ, pos, ◌<◌, ◌≤◌, ◌+◌, ◌-◌, ◌*◌, zero, suc, List, [], ◌∷◌, ◌++◌, length, drop, take, get_or, map, refl, arith, sym, ◌∙◌, ap, append_assoc, length-take-le, length-drop, subst}
+use Rattle.std.proofs.Common.{◌≡◌, ℕ, ℤ, pos, ◌<◌, ◌≤◌, ◌+◌, ◌-◌, ◌*◌, zero, suc, List, [], ◌∷◌, ◌++◌, length, drop}
+use Rattle.std.proofs.Common.{take, get_or, map, refl, arith, sym, ◌∙◌, ap, append_assoc, length-take-le}
+use Rattle.std.proofs.Common.{length-drop, subst}
 use Rattle.std.proofs.lemmas.List.{map-append}
 use Rattle.std.specs.List.{All}
 use Rattle.std.proofs.lemmas.List.Elements.{All-nil, All-cons, All-take, All-drop}
@@ -68,7 +70,8 @@ pub rows_cut-step : (w n k : ℕ) (costs : List ℤ) → k < n → rows_cut w (n
 rows_cut-step w n k costs lt = let e : n - k ≡ suc (n - (k + 1)) = omega arith in ap (λ m. rows_cut w m costs) e
 
 -- a row moves from those to come to those that stand
-pub rows_moved : {V : Type 0} (f : V → Listing) (vs : List V) (v : V) (row : Listing) (rest : List Listing) → f v ≡ row → map f (vs ++ v ∷ []) ++ rest ≡ map f vs ++ (row ∷ rest)
+pub rows_moved : {V : Type 0} (f : V → Listing) (vs : List V) (v : V) (row : Listing) (rest : List Listing) →
+    f v ≡ row → map f (vs ++ v ∷ []) ++ rest ≡ map f vs ++ (row ∷ rest)
 rows_moved f vs v row rest e =
     ap (λ l. l ++ rest) (map-append f vs (v ∷ []))
     ∙ append_assoc (map f vs) (f v ∷ []) rest

@@ -1,5 +1,6 @@
 -- Lists of different numbers from 1 to m, and sums over them.
-use Rattle.std.proofs.Common.{◌≡◌, ℕ, ℤ, pos, ◌+ℤ◌, ◌≤ℤ◌, ◌≤◌, ◌+◌, zero, suc, List, [], ◌∷◌, length, nat_eq, cond, true, false, ◌⊎◌, inl, inr, refl, arith, ap, sym, ◌∙◌}
+use Rattle.std.proofs.Common.{◌≡◌, ℕ, ℤ, pos, ◌+ℤ◌, ◌≤ℤ◌, ◌≤◌, ◌+◌, zero, suc, List, [], ◌∷◌, length, nat_eq, cond}
+use Rattle.std.proofs.Common.{true, false, ◌⊎◌, inl, inr, refl, arith, ap, sym, ◌∙◌}
 use Rattle.std.specs.List.{IsDistinct, AllByRecursion}
 use Rattle.std.proofs.lemmas.Bool.{eqb-false, cond-true, cond-false}
 use Rattle.std.proofs.lemmas.Bool.Decides.{eqb_tells}
@@ -114,7 +115,8 @@ counted f (suc m) xs d r = elim (once f (suc m) xs d) [
 ]
 
 -- two lists of the same length, each of different numbers from 1 to that length, have one sum
-pub sums_agree : (f : ℕ → ℤ) (n : ℕ) (xs ys : List ℕ) → IsDistinct nat_eq xs → IsDistinct nat_eq ys → InRange n xs → InRange n ys → length xs ≡ n → length ys ≡ n → sum_z f xs ≡ sum_z f ys
+pub sums_agree : (f : ℕ → ℤ) (n : ℕ) (xs ys : List ℕ) → IsDistinct nat_eq xs → IsDistinct nat_eq ys → InRange n xs →
+    InRange n ys → length xs ≡ n → length ys ≡ n → sum_z f xs ≡ sum_z f ys
 sums_agree f n xs ys dx dy rx ry lx ly =
     let a : sum_z f xs ≡ up_to f n = (counted f n xs dx rx).whole lx in
     let b : sum_z f ys ≡ up_to f n = (counted f n ys dy ry).whole ly in

@@ -1,6 +1,8 @@
 -- Weak duality: no assignment is better than one with slackness eps by more than eps for each
 -- person.
-use Rattle.std.proofs.Common.{◌≡◌, ℕ, ℤ, pos, ◌+ℤ◌, ◌*ℤ◌, ◌≤ℤ◌, ◌<ℤ◌, ◌≤◌, ◌+◌, ◌-◌, ◌*◌, suc, List, [], ◌∷◌, unwrap_or, IsSome, length, map, refl, arith, rules, ap, sym, ◌∙◌, subst, inl, inr, add-one}
+use Rattle.std.proofs.Common.{◌≡◌, ℕ, ℤ, pos, ◌+ℤ◌, ◌*ℤ◌, ◌≤ℤ◌, ◌<ℤ◌, ◌≤◌, ◌+◌, ◌-◌, ◌*◌, suc, List, [], ◌∷◌}
+use Rattle.std.proofs.Common.{unwrap_or, IsSome, length, map, refl, arith, rules, ap, sym, ◌∙◌, subst, inl, inr}
+use Rattle.std.proofs.Common.{add-one}
 use Rattle.std.proofs.lemmas.Int.{ints, by_lt_z}
 use Rattle.std.proofs.lemmas.List.Elements.{All-weaker}
 use Rattle.std.proofs.lemmas.Bool.Decides.{eqb_tells}
@@ -72,7 +74,8 @@ weak eps prices [] (x ∷ xs) ys k g = absurd k
 weak eps prices (row ∷ rows) [] ys k g = absurd k
 weak eps prices (row ∷ rows) (x ∷ xs) [] k g = absurd g
 weak eps prices (row ∷ rows) (x ∷ xs) (y ∷ ys) k g =
-    let h : (listed_or_zero row y +ℤ price_of prices x) ≤ℤ (listed_or_zero row x +ℤ price_of prices y +ℤ eps) = all_listed (IsWorth eps prices row x) row y k.0 g.0 in
+    let h : (listed_or_zero row y +ℤ price_of prices x) ≤ℤ (listed_or_zero row x +ℤ price_of prices y +ℤ eps) =
+    all_listed (IsWorth eps prices row x) row y k.0 g.0 in
     let i = weak eps prices rows xs ys k.1 g.1 in
     omega (arith, ints)
 

@@ -49,7 +49,8 @@ given xs persons = map (λ i. numbered xs i 0) persons
 given_at : (xs persons : List ℕ) (k d : ℕ) → k < length persons → get_or (given xs persons) k d ≡ numbered xs (get_or persons k 0) 0
 given_at xs persons k d lt = get_or-map (λ i. numbered xs i 0) persons k 0 d lt
 
-given_distinct : (n : ℕ) (xs persons : List ℕ) → IsDistinct nat_eq xs → length xs ≡ n → IsStrictlyIncreasing persons → All (IsNumber n) persons → IsDistinct nat_eq (given xs persons)
+given_distinct : (n : ℕ) (xs persons : List ℕ) → IsDistinct nat_eq xs → length xs ≡ n →
+    IsStrictlyIncreasing persons → All (IsNumber n) persons → IsDistinct nat_eq (given xs persons)
 given_distinct n xs persons d long rise within =
     IsDistinct-from_apart nat_eq (given xs persons) (λ i k z lt last.
     let same : length (given xs persons) ≡ length persons = simp length-map in
@@ -62,7 +63,8 @@ given_distinct n xs persons d long rise within =
     let second = within k 0 high in
     rw (a, b) (given_apart xs (get_or persons i 0) (get_or persons k 0) d first.first below (omega arith)))
 
-given_among : (rows : List Listing) (persons objects xs : List ℕ) → IsHallSet rows persons objects → IsAssignment rows xs → (j : ℕ) → Contains (given xs persons) j → Contains objects j
+given_among : (rows : List Listing) (persons objects xs : List ℕ) → IsHallSet rows persons objects →
+    IsAssignment rows xs → (j : ℕ) → Contains (given xs persons) j → Contains objects j
 given_among rows persons objects xs hall a j h =
     let same : length (given xs persons) ≡ length persons = simp length-map in
     let lt : h.0 < length persons = omega arith in

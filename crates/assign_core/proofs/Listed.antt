@@ -1,5 +1,6 @@
 -- What a row lists, and lists of listed objects.
-use Rattle.std.proofs.Common.{◌≡◌, ℕ, ℤ, pos, ◌<◌, zero, suc, List, [], ◌∷◌, Some, IsSome, unwrap_or, length, get_or, nat_eq, refl, rules, arith, sym, subst, ◌∙◌, inl, inr, true, false}
+use Rattle.std.proofs.Common.{◌≡◌, ℕ, ℤ, pos, ◌<◌, zero, suc, List, [], ◌∷◌, Some, IsSome, unwrap_or, length}
+use Rattle.std.proofs.Common.{get_or, nat_eq, refl, rules, arith, sym, subst, ◌∙◌, inl, inr, true, false}
 use Rattle.std.specs.List.{All, AllZip}
 use Rattle.std.proofs.lemmas.List.Elements.{All-head, All-tail}
 use Rattle.std.proofs.lemmas.Slice.Zip.{AllZip-long}
@@ -88,7 +89,8 @@ rising_listed (e ∷ row) (suc k) d rising lt =
     let above : e.0 < (get_or row k d).0 = rising 0 (suc k) d (omega arith) lt in
     elim (eqb_tells e.0 (get_or row k d).0) [
       | inl t ↦ let same = t.1 in absurd (omega arith)
-      | inr t ↦ listed_later e row (get_or row k d).0 t.0 ∙ rising_listed row k d (λ i m f l last. rising (suc i) (suc m) f (omega arith) (omega arith)) (omega arith)
+      | inr t ↦ listed_later e row (get_or row k d).0 t.0 ∙ rising_listed row k d (λ i m f l last. rising (suc i)
+          (suc m) f (omega arith) (omega arith)) (omega arith)
     ]
 
 -- a number whose row lists something is a person

@@ -1,5 +1,6 @@
 -- Matchings: one with a pair more, one that is an assignment; and the order of tables of prices.
-use Rattle.std.proofs.Common.{◌≡◌, ◌≢◌, ℕ, ℤ, ◌<◌, ◌≤◌, ◌⊎◌, zero, suc, List, [], ◌∷◌, Option, None, Some, IsSome, length, get_or, nat_eq, false, refl, arith, ap, sym, subst, ◌∙◌, inl, inr}
+use Rattle.std.proofs.Common.{◌≡◌, ◌≢◌, ℕ, ℤ, ◌<◌, ◌≤◌, ◌⊎◌, zero, suc, List, [], ◌∷◌, Option, None, Some, IsSome}
+use Rattle.std.proofs.Common.{length, get_or, nat_eq, false, refl, arith, ap, sym, subst, ◌∙◌, inl, inr}
 use Rattle.std.specs.List.{AllZip}
 use Rattle.std.proofs.lemmas.Bool.Decides.{eqb_tells}
 use Rattle.std.proofs.lemmas.List.{get_or_default}
@@ -41,7 +42,8 @@ own_apart owners xs own i j d lt within = elim (eqb_tells (get_or xs i d) (get_o
 pub owned_assigned : (rows : List Listing) (owners : List (Option ℕ)) (xs : List ℕ) → IsMatching rows owners → length xs ≡ length rows →
     OwnAll owners xs → IsAssignment rows xs
 owned_assigned rows owners xs m same own = record {
-  listed = zip_from_places (λ row j. IsSome (listed_in row j)) rows xs [] 0 same (λ k lt. m.listed (suc k) (get_or xs k 0) (own (suc k) (omega arith) (omega arith)));
+  listed = zip_from_places (λ row j. IsSome (listed_in row j)) rows xs [] 0 same
+      (λ k lt. m.listed (suc k) (get_or xs k 0) (own (suc k) (omega arith) (omega arith)));
   apart = IsDistinct-from_apart nat_eq xs (own_apart owners xs own);
 }
 
@@ -66,7 +68,8 @@ owner_cases owners j k p i number e = elim (eqb_tells k j) [
 ]
 
 -- what holds of each owned pair, once person p has object j
-pub owners_by : (P : ℕ → ℕ → Type 0) (owners : List (Option ℕ)) (j p : ℕ) → IsNumber (length owners) j → P p j → ((i k : ℕ) → k ≢ j → owner_of owners k ≡ Some i → P i k) →
+pub owners_by : (P : ℕ → ℕ → Type 0) (owners : List (Option ℕ)) (j p : ℕ) → IsNumber (length owners) j → P p j →
+    ((i k : ℕ) → k ≢ j → owner_of owners k ≡ Some i → P i k) →
     (i k : ℕ) → owner_of (renumbered owners j (Some p)) k ≡ Some i → P i k
 owners_by P owners j p number here there i k e = elim (owner_cases owners j k p i number e) [
   | inl t ↦ subst (λ v. P v k) t.1 (subst (P p) (sym t.0) here)
@@ -74,7 +77,8 @@ owners_by P owners j p number here there i k e = elim (owner_cases owners j k p 
 ]
 
 -- a person who owns nothing is given an object that it lists
-pub matching_more : (rows : List Listing) (owners : List (Option ℕ)) (j p : ℕ) → IsNumber (length owners) j → IsMatching rows owners → ((k : ℕ) → owner_of owners k ≡ Some p → ⊥) →
+pub matching_more : (rows : List Listing) (owners : List (Option ℕ)) (j p : ℕ) → IsNumber (length owners) j →
+    IsMatching rows owners → ((k : ℕ) → owner_of owners k ≡ Some p → ⊥) →
     IsListed rows p j → IsMatching rows (renumbered owners j (Some p))
 matching_more rows owners j p number m alone listed = record {
   long = length-renumbered owners j (Some p) ∙ m.long;

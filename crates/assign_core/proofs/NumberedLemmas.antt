@@ -1,5 +1,6 @@
 -- Lists whose elements are numbered from 1: what is read after a write, and where.
-use Rattle.std.proofs.Common.{◌≡◌, ◌≢◌, ℕ, zero, suc, ◌+◌, ◌-◌, ◌<◌, ◌≤◌, List, length, replicate, get_or, set, Option, None, Some, Bool, cond, refl, ap, arith, sym, ◌∙◌, inl, inr, ◌⊎◌, add-one}
+use Rattle.std.proofs.Common.{◌≡◌, ◌≢◌, ℕ, zero, suc, ◌+◌, ◌-◌, ◌<◌, ◌≤◌, List, length, replicate, get_or, set}
+use Rattle.std.proofs.Common.{Option, None, Some, Bool, cond, refl, ap, arith, sym, ◌∙◌, inl, inr, ◌⊎◌, add-one}
 use Rattle.std.specs.List.{All, count_by}
 use Rattle.std.proofs.lemmas.Bool.{cases_lt}
 use Rattle.std.proofs.lemmas.List.{length-set, get_or-set_same, get_or-set_other, get_or_past, get_or_default}
@@ -20,7 +21,8 @@ pub length-renumbered : {A : Type 0} (xs : List A) (j : ℕ) (y : A) → length 
 length-renumbered xs zero y = refl
 length-renumbered xs (suc j) y = length-set xs j y
 
-pub count-renumbered : {A : Type 0} (p : A → Bool) (xs : List A) (j : ℕ) (y d : A) → 0 < j → j ≤ length xs → count_by p (renumbered xs j y) + cond (p (numbered xs j d)) 1 0 ≡ count_by p xs + cond (p y) 1 0
+pub count-renumbered : {A : Type 0} (p : A → Bool) (xs : List A) (j : ℕ) (y d : A) → 0 < j → j ≤ length xs →
+    count_by p (renumbered xs j y) + cond (p (numbered xs j d)) 1 0 ≡ count_by p xs + cond (p y) 1 0
 count-renumbered p xs zero y d h k = absurd (omega arith)
 count-renumbered p xs (suc j) y d h k = sum_by-set (λ x. cond (p x) 1 0) xs j y d (omega arith)
 

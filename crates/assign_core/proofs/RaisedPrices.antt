@@ -25,7 +25,9 @@ entry_rises : (eps own p q a x y : ℤ) → q ≡ p → x ≤ℤ y → (a +ℤ p
 entry_rises eps own p q a x y same up worth = omega (arith, ints)
 
 -- prices that rise keep the slackness of an object whose price stays
-pub slack_rises : (eps : ℤ) (low high : List ℤ) (row : Listing) (j : ℕ) → IsBelow low high → price_of high j ≡ price_of low j → HasSlack eps low row j → HasSlack eps high row j
+pub slack_rises : (eps : ℤ) (low high : List ℤ) (row : Listing) (j : ℕ) → IsBelow low high →
+    price_of high j ≡ price_of low j → HasSlack eps low row j → HasSlack eps high row j
 slack_rises eps low high row j below same slack =
     All-weaker (IsWorth eps low row j) (IsWorth eps high row j)
-    (λ e worth. entry_rises eps (listed_or_zero row j) (price_of low j) (price_of high j) e.1 (price_of low e.0) (price_of high e.0) same (below.each e.0) worth) row slack
+    (λ e worth. entry_rises eps (listed_or_zero row j) (price_of low j) (price_of high j) e.1 (price_of low e.0)
+    (price_of high e.0) same (below.each e.0) worth) row slack

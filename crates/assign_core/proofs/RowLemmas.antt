@@ -22,11 +22,14 @@ row_of-index rows zero h = absurd (omega arith)
 row_of-index rows (suc i) h = ap (λ k. get_or rows k []) (omega arith)
 
 -- a row of the mapped list, as an index and a slice give it
-pub mapped_at : {V : Type 0} (f : V → Listing) (vs : List V) (i : ℕ) (v : V) (row : Listing) → i < length vs → v ≡ get_or vs i v → row ≡ f v → row ≡ get_or (map f vs) i []
+pub mapped_at : {V : Type 0} (f : V → Listing) (vs : List V) (i : ℕ) (v : V) (row : Listing) → i < length vs →
+    v ≡ get_or vs i v → row ≡ f v → row ≡ get_or (map f vs) i []
 mapped_at f vs i v row lt e r = r ∙ ap f e ∙ sym (get_or-map f vs i v [] lt)
 
 -- the same by number, with the rows as a problem shows them
-pub row_of-mapped : {V : Type 0} (f : V → Listing) (vs : List V) (rows : List Listing) (i : ℕ) (v : V) (row : Listing) → map f vs ≡ rows → 0 < i → i ≤ length rows → v ≡ get_or vs (i - 1) v → row ≡ f v → row ≡ row_of rows i
+pub row_of-mapped : {V : Type 0} (f : V → Listing) (vs : List V) (rows : List Listing) (i : ℕ) (v : V)
+    (row : Listing) → map f vs ≡ rows → 0 < i → i ≤ length rows → v ≡ get_or vs (i - 1) v → row ≡ f v →
+    row ≡ row_of rows i
 row_of-mapped f vs rows i v row shown some last e r =
     let long = ap length shown in
     let same : length (map f vs) ≡ length vs = simp length-map in
@@ -54,7 +57,8 @@ pub record IsRead (rows : List Listing) (i : ℕ) (row : Listing) : Type 0 where
   pub here : row ≡ row_of rows i
 
 -- a row that is read at its place is read by number
-pub read_at : {V : Type 0} (f : V → Listing) (vs : List V) (rows : List Listing) (i k : ℕ) (v : V) (row : Listing) → map f vs ≡ rows → 0 < i → k ≡ i - 1 → k < length vs → v ≡ get_or vs k v → row ≡ f v → IsRead rows i row
+pub read_at : {V : Type 0} (f : V → Listing) (vs : List V) (rows : List Listing) (i k : ℕ) (v : V) (row : Listing) →
+    map f vs ≡ rows → 0 < i → k ≡ i - 1 → k < length vs → v ≡ get_or vs k v → row ≡ f v → IsRead rows i row
 read_at f vs rows i k v row shown some place lt e r =
     let long = length-mapped f vs rows shown in
     let last : i ≤ length rows = omega arith in

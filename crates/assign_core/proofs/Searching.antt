@@ -1,5 +1,6 @@
 -- What a binary search for an object finds in a rising row.
-use Rattle.std.proofs.Common.{◌≡◌, ℕ, ℤ, pos, ◌<◌, ◌≤◌, suc, [], ◌∷◌, None, Some, Result, Ok, Err, IfOk, IfErr, length, get_or, refl, arith, sym, ap, ◌∙◌, inl, inr}
+use Rattle.std.proofs.Common.{◌≡◌, ℕ, ℤ, pos, ◌<◌, ◌≤◌, suc, [], ◌∷◌, None, Some, Result, Ok, Err, IfOk, IfErr}
+use Rattle.std.proofs.Common.{length, get_or, refl, arith, sym, ap, ◌∙◌, inl, inr}
 use Rattle.std.specs.List.Sorted.{IsSearchInRange, IsBinarySearchResult, IsNonDecreasingBy}
 use Rattle.std.specs.Ordering.{nat_cmp, ordering_index}
 use Rattle.std.proofs.lemmas.Bool.Decides.{eqb_tells, nat_tests}
@@ -37,7 +38,8 @@ module _ (row : Listing) (rising : IsRising row) (j : ℕ) where
   searched (Err at) le parted = record {
     found = tt;
     absent = not_listed row j (λ k lt same. elim (cases_lt k at) [
-      | inl before ↦ let less : (get_or row k (0, pos 0)).0 < j = ranked _ j _ (sym ((parted comparisons_rise).0 k (0, pos 0) (omega arith) before)) in absurd (omega arith)
+      | inl before ↦ let less : (get_or row k (0, pos 0)).0 < j =
+          ranked _ j _ (sym ((parted comparisons_rise).0 k (0, pos 0) (omega arith) before)) in absurd (omega arith)
       | inr after ↦ let more : j < (get_or row k (0, pos 0)).0 = ranked _ j _ (sym ((parted comparisons_rise).1 k (0, pos 0) after lt)) in absurd (omega arith)
     ]);
   }

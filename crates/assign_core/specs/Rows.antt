@@ -1,5 +1,6 @@
 -- What the persons list.
-use Rattle.std.specs.Prelude.{ℕ, ℤ, pos, neg_ℤ, ◌≤ℤ◌, ◌<◌, ◌≤◌, List, [], ◌∷◌, Option, None, Some, ◌==◌, if◌then◌else◌, IsSome, unwrap_or, length, All, slice_index_or}
+use Rattle.std.specs.Prelude.{ℕ, ℤ, pos, neg_ℤ, ◌≤ℤ◌, ◌<◌, ◌≤◌, List, [], ◌∷◌, Option, None, Some, ◌==◌}
+use Rattle.std.specs.Prelude.{if◌then◌else◌, IsSome, unwrap_or, length, All, slice_index_or}
 use Rattle.assign_core.specs.declared.numbers.TheConstants.{MOST_PERSONS, GREATEST_COST}
 use Rattle.assign_core.specs.Numbered.{IsNumber, numbered}
 

@@ -17,8 +17,11 @@ abbrev pub desk_of : BookData → ScaledProblem → TableId → View → ℕ →
 desk_of b base place view number known = record (new_desk place b number) { base = base; view = view; known = known }
 
 -- one more desk
-pub desks_more : (place p : TableId) (b : BookData) (made : ℕ) (base : ScaledProblem) (view : View) (table : List ℤ) (known : Known) (before between after : List DeskData) →
-    base ≡ b.base → p ≡ place → view ≡ Away (first_session b (made + 1)) → table ≡ prices_of b → (let k : Known = first_known b (made + 1) in known ≡ record k { table = table }) → before ≡ new_desks place b made → between ≡ before →
+pub desks_more : (place p : TableId) (b : BookData) (made : ℕ) (base : ScaledProblem) (view : View) (table : List ℤ)
+    (known : Known) (before between after : List DeskData) →
+    base ≡ b.base → p ≡ place → view ≡ Away (first_session b (made + 1)) → table ≡ prices_of b →
+    (let k : Known = first_known b (made + 1) in known ≡ record k { table = table }) →
+    before ≡ new_desks place b made → between ≡ before →
     after ≡ between ++ desk_of b base p view (made + 1) known ∷ [] → after ≡ new_desks place b (made + 1)
 desks_more place p b made base view table known before between after same_base same_place same_view same_table same_known was kept is =
     let k : Known = first_known b (made + 1) in

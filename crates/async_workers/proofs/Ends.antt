@@ -1,5 +1,6 @@
 -- The answer of a book, and the counts of its workers.
-use Rattle.std.proofs.Common.{◌≡◌, ℕ, ℤ, zero, suc, ◌+◌, List, [], ◌∷◌, ◌++◌, length, get_or, sum, add-one, None, Some, MatchOption, refl, sym, ap, ◌∙◌, subst, arith, true≢false}
+use Rattle.std.proofs.Common.{◌≡◌, ℕ, ℤ, zero, suc, ◌+◌, List, [], ◌∷◌, ◌++◌, length, get_or, sum, add-one, None}
+use Rattle.std.proofs.Common.{Some, MatchOption, refl, sym, ap, ◌∙◌, subst, arith, true≢false}
 use Rattle.std.proofs.lemmas.List.{length-replicate}
 use Rattle.std.proofs.lemmas.List.Sums.{sum_by-cons}
 use Rattle.assign_core.specs.Hall.{HallLists, IsHallSet}
@@ -18,7 +19,8 @@ use Rattle.async_workers.specs.Solving.{IsAnsweredBy, IsEndOf, IsEnough, IsSolve
 
 pub recorded_hall : (b : BookData) (hall copy : HallLists) → IsFree b → b.refuted ≡ Some hall → copy ≡ hall → IsAnsweredBy b (Hall copy)
 recorded_hall b hall copy free is same =
-    let set : IsHallSet b.base.problem hall.persons hall.objects = subst (λ o. MatchOption o (Unit {0}) (λ h. IsHallSet b.base.problem h.persons h.objects)) is free.recorded in
+    let set : IsHallSet b.base.problem hall.persons hall.objects =
+    subst (λ o. MatchOption o (Unit {0}) (λ h. IsHallSet b.base.problem h.persons h.objects)) is free.recorded in
     subst (λ (h : HallLists). (b.refuted ≡ Some h) × IsHallSet b.base.problem h.persons h.objects) (sym same) (is, set)
 
 -- ---- the counts of all workers
@@ -53,7 +55,8 @@ told_in_all b (suc n) =
     in_all_more (tallies b n) (tally_of b (n + 1)) ∙ (λ i. before i + last i)
 
 -- enough bids were accepted for each person to be assigned by one
-pub solved_enough : (s : ScaledProblem) (prices : List ℤ) (workers : ℕ) (outcome : Outcome) (told : List Tally) → IsSolved s prices workers outcome told → IsEnough (length s.problem) outcome told
+pub solved_enough : (s : ScaledProblem) (prices : List ℤ) (workers : ℕ) (outcome : Outcome) (told : List Tally) →
+    IsSolved s prices workers outcome told → IsEnough (length s.problem) outcome told
 solved_enough s prices workers (Hall h) told is = tt
 solved_enough s prices workers (Best c) told is =
     let b = is.book in
@@ -68,7 +71,9 @@ solved_enough s prices workers (Best c) told is =
 
 -- ---- a whole run
 -- the workers' book has an end, and no Hall set was recorded in the opened one
-pub solved : (s : ScaledProblem) (prices : List ℤ) (workers : ℕ) (opening worked : BookData) (outcome : Outcome) (told : List Tally) → opening ≡ opened s prices workers → Extends opening worked → IsEndOf worked (length worked.claims) outcome told → IsSolved s prices workers outcome told
+pub solved : (s : ScaledProblem) (prices : List ℤ) (workers : ℕ) (opening worked : BookData) (outcome : Outcome)
+    (told : List Tally) → opening ≡ opened s prices workers → Extends opening worked →
+    IsEndOf worked (length worked.claims) outcome told → IsSolved s prices workers outcome told
 solved s prices workers opening worked outcome told is extends end =
     let b = opened s prices workers in
     let on : Extends b worked = subst (λ o. Extends o worked) is extends in
@@ -76,7 +81,13 @@ solved s prices workers opening worked outcome told is extends end =
     record {
       book = end.book;
       free = end.free;
-      goes_on = goes_on_through b worked end.book (record { base = on.base; workers = on.workers; below = on.below; log = on.log; refuted = λ h. absurd (true≢false (sym h)) }) end.goes_on;
+      goes_on = goes_on_through b worked end.book (record {
+        base = on.base;
+        workers = on.workers;
+        below = on.below;
+        log = on.log;
+        refuted = λ h. absurd (true≢false (sym h));
+      }) end.goes_on;
       answers = end.answers;
       tallied = end.tallied ∙ ap (tallies end.book) same;
     }

@@ -8,7 +8,7 @@ use Rattle.auction_book.specs.Book.{BookData, prices_of}
 use Rattle.auction_book.specs.Follows.{Follows, GoesOn}
 use Rattle.auction_book.specs.Free.{IsFree}
 use Rattle.auction_book.proofs.Following.{follows_through, goes_on_itself, goes_on_through}
-use Rattle.auction_book.proofs.Runs.{IsOwn}
+use Rattle.auction_book.proofs.WorkerSteps.{IsOwn}
 use Rattle.async_workers.specs.PlaceRule.{Extends, ExtendsBy}
 
 pub extends_on : (a b : BookData) → GoesOn a b → Extends a b
@@ -30,7 +30,8 @@ pub extends_by_through : (a b c : BookData) (worker : ℕ) → ExtendsBy worker 
 extends_by_through a b c worker f g = follows_through (let a' : BookData = record a { refuted = None } in a') b c worker f g
 
 -- a worker's table and its version stay its own
-pub own_extended : (b new : BookData) (table : List ℤ) (version : ℕ) → IsFree b → Extends b new → IsBelow table (prices_of b) → IsEarlier b.log table version → IsOwn new table version
+pub own_extended : (b new : BookData) (table : List ℤ) (version : ℕ) → IsFree b → Extends b new →
+    IsBelow table (prices_of b) → IsEarlier b.log table version → IsOwn new table version
 own_extended b new table version free on below earlier = record {
   long = below_through table (prices_of b) (prices_of new) below on.below;
   earlier = earlier_stays b.log new.log table version free.log_ascends on.log on.below earlier;

@@ -8,7 +8,7 @@ use Rattle.auction_book.specs.Follows.{Follows}
 use Rattle.auction_book.specs.Free.{IsFree}
 use Rattle.auction_book.proofs.Following.{caught_up_follows, follows_itself}
 use Rattle.auction_book.proofs.OtherChanges.{caught_up_free}
-use Rattle.auction_book.proofs.Runs.{IsOwn, caught_up_own, own_kept}
+use Rattle.auction_book.proofs.WorkerSteps.{IsOwn, caught_up_own, own_kept}
 use Rattle.async_workers.specs.declared.rule.Known.{Known}
 use Rattle.async_workers.specs.declared.rule.LastSession.{LastSession}
 use Rattle.async_workers.specs.declared.rule.View.TheVariants.{Away, Holding}
@@ -22,7 +22,8 @@ use Rattle.async_workers.proofs.Extending.{extends_by, extends_by_through, exten
 use Rattle.async_workers.proofs.Steps.{same_held}
 
 -- a take
-pub hand_taken : (d e : DeskData) (b taken put : BookData) → IsAway d taken put → Took d.view b e.view → e ≡ record d { view = e.view; offer = None } → IsInHand e b b
+pub hand_taken : (d e : DeskData) (b taken put : BookData) → IsAway d taken put → Took d.view b e.view →
+    e ≡ record d { view = e.view; offer = None } → IsInHand e b b
 hand_taken d e b taken put away took same =
     let t : LastSession = session_by d taken put in
     let k = took t away in
@@ -47,7 +48,8 @@ pub hand_own : (d : DeskData) (taken b : BookData) → IsInHand d taken b → Is
 hand_own d taken b hand = record { long = hand.may.below; earlier = hand.may.earlier }
 
 -- a change by the desk's worker
-pub hand_follows : (d : DeskData) (taken b new : BookData) → IsInHand d taken b → Follows d.known.number b new → new.stopped ≡ b.stopped → IsFree new → IsInHand d taken new
+pub hand_follows : (d : DeskData) (taken b new : BookData) → IsInHand d taken b → Follows d.known.number b new →
+    new.stopped ≡ b.stopped → IsFree new → IsInHand d taken new
 hand_follows d taken b new hand follows stopped free =
     let own = own_kept b new d.known.table d.known.version hand.may.free follows.goes_on (hand_own d taken b hand) in
     record {
@@ -67,7 +69,8 @@ hand_follows d taken b new hand follows stopped free =
     }
 
 -- the desk catches up
-pub hand_caught : (d : DeskData) (taken b : BookData) → IsInHand d taken b → IsInHand (record d { known = with_table true b d.known }) taken (caught_up b d.known.number)
+pub hand_caught : (d : DeskData) (taken b : BookData) → IsInHand d taken b →
+    IsInHand (record d { known = with_table true b d.known }) taken (caught_up b d.known.number)
 hand_caught d taken b hand =
     let w = d.known.number in
     let new = caught_up b w in
@@ -88,13 +91,17 @@ hand_caught d taken b hand =
       };
     }
 
-pub hand_kept_up : (d e : DeskData) (taken b new : BookData) → IsInHand d taken b → e ≡ record d { known = with_table true b d.known } → new ≡ caught_up b d.known.number → IsInHand e taken new
+pub hand_kept_up : (d e : DeskData) (taken b new : BookData) → IsInHand d taken b →
+    e ≡ record d { known = with_table true b d.known } → new ≡ caught_up b d.known.number → IsInHand e taken new
 hand_kept_up d e taken b new hand is_e is_new =
     subst (λ (z : DeskData × BookData). IsInHand z.0 taken z.1) (λ i. (sym is_e i, sym is_new i)) (hand_caught d taken b hand)
 
 -- a session, from its take to its give
-pub serves : (EndsSo : BookData → Known → BookData → Bool → Type 0) (d e f k : DeskData) (b new : BookData) (caught : Bool) (taken put : BookData) → IsAway d taken put → Took d.view b e.view → e ≡ record d { view = e.view; offer = None } → f ≡ record e { known = f.known } → IsInHand f b new →
-    EndsSo b f.known new caught → Gave f.known f.view new k.view → k ≡ counted caught (record f { view = k.view; known = known_after f.known new }) → Serves d k EndsSo
+pub serves : (EndsSo : BookData → Known → BookData → Bool → Type 0) (d e f k : DeskData) (b new : BookData)
+    (caught : Bool) (taken put : BookData) → IsAway d taken put → Took d.view b e.view →
+    e ≡ record d { view = e.view; offer = None } → f ≡ record e { known = f.known } → IsInHand f b new →
+    EndsSo b f.known new caught → Gave f.known f.view new k.view →
+    k ≡ counted caught (record f { view = k.view; known = known_after f.known new }) → Serves d k EndsSo
 serves EndsSo d e f k b new caught taken put away took same is_f hand ends gave now =
     let t : LastSession = session_by d taken put in
     let takes = took t away in
@@ -111,7 +118,14 @@ serves EndsSo d e f k b new caught taken put away took same is_f hand ends gave 
       may = hand.may;
       ends = ends;
       away = subst (λ (k : DeskData). k.view ≡ Away (session_by k b new)) (sym now)
-          (gave hand.told b hand.holding hand.same_number ∙ (λ i. Away (record { base = sym hand.same_base i; known = known_after f.known new; taken = b; put = new })));
+          (gave hand.told b hand.holding hand.same_number ∙
+          (λ i. Away (record {
+            base = sym hand.same_base i;
+            known = known_after f.known new;
+            taken = b;
+            put =
+                new;
+          })));
       desk = now ∙ ap (λ (f' : DeskData). counted caught (record f' { view = k.view; known = known_after f.known new })) f_is;
     }
 
@@ -125,6 +139,9 @@ serves_on EndsSo d k s = record {
 }
 
 -- the problem of a desk is that of the book in hand, so its table has a price for each object
-pub table_long : (f k : DeskData) (b new : BookData) (caught : Bool) → IsInHand f b new → k ≡ counted caught (record f { view = k.view; known = known_after f.known new }) → length k.known.table ≡ length k.base.problem
+pub table_long : (f k : DeskData) (b new : BookData) (caught : Bool) → IsInHand f b new →
+    k ≡ counted caught (record f { view = k.view; known = known_after f.known new }) →
+    length k.known.table ≡ length k.base.problem
 table_long f k b new caught hand now =
-    ap (λ (d : DeskData). length d.known.table) now ∙ hand.may.below.long ∙ hand.may.free.sizes.priced ∙ ap (λ (s : ScaledProblem). length s.problem) (sym hand.same_base ∙ sym (ap (λ (d : DeskData). d.base) now))
+    ap (λ (d : DeskData). length d.known.table) now ∙ hand.may.below.long ∙ hand.may.free.sizes.priced ∙
+    ap (λ (s : ScaledProblem). length s.problem) (sym hand.same_base ∙ sym (ap (λ (d : DeskData). d.base) now))

@@ -1,5 +1,8 @@
 pub mod Extending
 pub mod Untouched
+pub mod OtherViews
+pub mod Giving
+pub mod Splitting
 pub mod Steps
 pub mod Desks
 pub mod Hands

@@ -1,5 +1,6 @@
 -- One thread goes on with a book as worker 1.
-use Rattle.std.proofs.Common.{◌≡◌, ℕ, ℤ, zero, suc, ◌+◌, ◌<◌, ◌≤◌, inl, inr, List, ◌∷◌, Option, None, Some, Result, Ok, Err, OnOk, OnErr, length, get_or, refl, sym, ap, ◌∙◌, subst, arith, false}
+use Rattle.std.proofs.Common.{◌≡◌, ℕ, ℤ, zero, suc, ◌+◌, ◌<◌, ◌≤◌, inl, inr, List, ◌∷◌, Option, None, Some, Result}
+use Rattle.std.proofs.Common.{Ok, Err, OnOk, OnErr, length, get_or, refl, sym, ap, ◌∙◌, subst, arith, false}
 use Rattle.std.proofs.lemmas.Bool.{cond_both}
 use Rattle.std.proofs.lemmas.Bool.Decides.{eqb_tells}
 use Rattle.assign_core.specs.Numbered.{IsNumber, numbered}
@@ -37,7 +38,8 @@ none_first claims zero le = refl
 none_first claims (suc worker) le = absurd (omega arith)
 
 -- one more worker gives its claim up
-pub one_given_up : (b : BookData) (before : ℕ) → HaveNone b.claims before → HaveNone (given_up b (before + 1) (numbered b.claims (before + 1) None)).claims (before + 1)
+pub one_given_up : (b : BookData) (before : ℕ) → HaveNone b.claims before →
+    HaveNone (given_up b (before + 1) (numbered b.claims (before + 1) None)).claims (before + 1)
 one_given_up b before h worker le = elim (eqb_tells worker (before + 1)) [
   | inl t ↦
       let claims = (given_up b (before + 1) (numbered b.claims (before + 1) None)).claims in
@@ -51,14 +53,20 @@ record IsClaimed (b : BookData) (version : ℕ) (answer : Claim) : Type 0 where
   pub base : (after_claim b 1 answer).base ≡ b.base
   pub prepared : IsPrepared (after_claim b 1 answer) 1 (prices_of b) version (prepared b.base (prices_of b) version answer)
 
-claimed_front : (b : BookData) (version person : ℕ) (rest : List ℕ) → IsFree b → IsNumber (length b.claims) 1 → b.queue ≡ person ∷ rest → IsClaimed b version (claim.Person person b.ask)
+claimed_front : (b : BookData) (version person : ℕ) (rest : List ℕ) → IsFree b → IsNumber (length b.claims) 1 →
+    b.queue ≡ person ∷ rest → IsClaimed b version (claim.Person person b.ask)
 claimed_front b version person rest free number e =
     let p = claimed_person (persons_of b) b.owners b.queue b.claims person rest free.placed_once e in
     let row = benefit_row_is b.base person free.problem p in
     record {
       prices = refl;
       base = refl;
-      prepared = (person, numbered-same b.claims 1 (Some (get_or b.queue 0 0)) None number.first number.last ∙ ap (λ q. Some (get_or q 0 0)) e, offer_is b.base (prices_of b) version b.ask person row.rising);
+      prepared = (
+        person,
+        numbered-same b.claims 1 (Some (get_or b.queue 0 0)) None number.first number.last ∙
+            ap (λ q. Some (get_or q 0 0)) e,
+        offer_is b.base (prices_of b) version b.ask person row.rising,
+      );
     }
 
 claimed_is : (b : BookData) (version : ℕ) → IsFree b → IsNumber (length b.claims) 1 → numbered b.claims 1 None ≡ None → IsClaimed b version (claim_of b)
@@ -71,8 +79,10 @@ claimed_is b version free number none =
     (λ person rest going e. claimed_front b version person rest free number e)
 
 -- the offer made for the claim is prepared
-pub alone_prepared : (b new : BookData) (s : ScaledProblem) (table : List ℤ) (version : ℕ) (answer : Claim) (offer : Option Offer) → IsFree b → IsNumber (length b.claims) 1 → numbered b.claims 1 None ≡ None →
-    answer ≡ claim_of b → new ≡ after_claim b 1 answer → s ≡ new.base → table ≡ prices_of new → offer ≡ prepared s table version answer → IsPrepared new 1 (prices_of new) version offer
+pub alone_prepared : (b new : BookData) (s : ScaledProblem) (table : List ℤ) (version : ℕ) (answer : Claim)
+    (offer : Option Offer) → IsFree b → IsNumber (length b.claims) 1 → numbered b.claims 1 None ≡ None →
+    answer ≡ claim_of b → new ≡ after_claim b 1 answer → s ≡ new.base → table ≡ prices_of new →
+    offer ≡ prepared s table version answer → IsPrepared new 1 (prices_of new) version offer
 alone_prepared b new s table version answer offer free number none is_answer is_new is_base is_table is_offer =
     let c : IsClaimed b version answer = subst (IsClaimed b version) (sym is_answer) (claimed_is b version free number none) in
     let prices : prices_of new ≡ prices_of b = ap prices_of is_new ∙ c.prices in
@@ -95,7 +105,8 @@ pub alone_claimed : (b new : BookData) (answer : Claim) → new ≡ after_claim 
 alone_claimed b new answer is = subst (Follows 1 b) (sym is) (answered_follows 1 b answer)
 
 -- the next phase, if this one is over
-pub alone_next : (b mid new : BookData) → GoesOn b mid → IsFree mid → numbered mid.claims 1 None ≡ None → new ≡ next_if_over mid → GoesOn b new × (numbered new.claims 1 None ≡ None)
+pub alone_next : (b mid new : BookData) → GoesOn b mid → IsFree mid → numbered mid.claims 1 None ≡ None →
+    new ≡ next_if_over mid → GoesOn b new × (numbered new.claims 1 None ≡ None)
 alone_next b mid new on free none is = subst (λ (n : BookData). GoesOn b n × (numbered n.claims 1 None ≡ None)) (sym is)
     (cond_both (is_over mid) (phased mid) mid (λ (n : BookData). GoesOn b n × (numbered n.claims 1 None ≡ None))
     (λ h. (goes_on_through b mid (phased mid) on (phased_follows mid 1 free h).goes_on, none)) (λ h. (on, none)))

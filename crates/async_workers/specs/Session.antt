@@ -44,7 +44,8 @@ caught_in refresh since told = catches_up refresh (is_too_low told) since
 
 -- the session of a desk that knew k and took the book b with an offer, if no growth is refused: the
 -- book and what the desk knows at its end
-pub record EndsWell (refresh since : ℕ) (k : Known) (offer : Option Offer) (told : Note) (answer : Claim) (b : BookData) (left : Known) (new : BookData) (caught : Bool) : Type 0 where
+pub record EndsWell (refresh since : ℕ) (k : Known) (offer : Option Offer) (told : Note) (answer : Claim)
+    (b : BookData) (left : Known) (new : BookData) (caught : Bool) : Type 0 where
   pub submitted : BookData
   pub noted : IsNoted b k.number offer submitted told
   pub caught_up : caught ≡ caught_in refresh since told
@@ -65,7 +66,8 @@ IsCutShort refresh since worker (Some (made.Below below)) told b new caught =
     Holds b worker below.person × (new ≡ released b worker below.person) × (told ≡ note.Nothing) × (caught ≡ false)
 
 -- the session if a growth is refused: the worker has no claim
-pub record EndsUndone (refresh since : ℕ) (k : Known) (offer : Option Offer) (told : Note) (b : BookData) (left : Known) (new : BookData) (caught : Bool) : Type 0 where
+pub record EndsUndone (refresh since : ℕ) (k : Known) (offer : Option Offer) (told : Note) (b : BookData)
+    (left : Known) (new : BookData) (caught : Bool) : Type 0 where
   pub submitted : BookData
   pub leaves : IsCutShort refresh since k.number offer told b submitted caught
   pub none : numbered new.claims k.number None ≡ None

@@ -96,7 +96,8 @@ IsMemory met = MatchOption met (Unit {0}) (λ f. f ≡ fault.Memory)
 
 -- the turn that ends a worker's run: one with this answer, or one with a fault
 abbrev pub IsLastTurn : ℕ → DeskData → DeskData → Option SolveFault → Type 0
-IsLastTurn refresh before after met = MatchOption met ((answer : Turn) × Turned refresh before after answer × EndsRun answer) (λ f. Faulted refresh before after)
+IsLastTurn refresh before after met = MatchOption met ((answer : Turn) × Turned refresh before after answer ×
+    EndsRun answer) (λ f. Faulted refresh before after)
 
 -- a session keeps a desk's place and problem, and the book that it puts back extends the one that
 -- it put back before
@@ -104,7 +105,8 @@ pub record WorksOn (d after : DeskData) : Type 0 where
   pub place : after.place ≡ d.place
   pub base : after.base ≡ d.base
   pub number : after.known.number ≡ d.known.number
-  pub extends : (taken put : BookData) → IsAway d taken put → (taken_next : BookData) × (put_next : BookData) × IsAway after taken_next put_next × Extends put put_next
+  pub extends : (taken put : BookData) → IsAway d taken put → (taken_next : BookData) × (put_next : BookData) ×
+      IsAway after taken_next put_next × Extends put put_next
 
 -- the book, stopped if `stopping` is true
 abbrev pub stopped_if : Bool → BookData → BookData

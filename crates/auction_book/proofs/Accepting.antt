@@ -1,5 +1,7 @@
 -- An accepted bid keeps the invariant, and so does a refused one.
-use Rattle.std.proofs.Common.{◌≡◌, ℕ, ℤ, pos, zero, suc, ◌+ℤ◌, ◌*ℤ◌, ◌≤ℤ◌, ◌<ℤ◌, ◌+◌, ◌-◌, ◌<◌, ◌≤◌, List, [], ◌∷◌, ◌++◌, length, get_or, refl, ap, arith, sym, ◌∙◌, subst, Option, None, Some, inl, inr, sum, is_some}
+use Rattle.std.proofs.Common.{◌≡◌, ℕ, ℤ, pos, zero, suc, ◌+ℤ◌, ◌*ℤ◌, ◌≤ℤ◌, ◌<ℤ◌, ◌+◌, ◌-◌, ◌<◌, ◌≤◌, List, [], ◌∷◌}
+use Rattle.std.proofs.Common.{◌++◌, length, get_or, refl, ap, arith, sym, ◌∙◌, subst, Option, None, Some, inl, inr}
+use Rattle.std.proofs.Common.{sum, is_some}
 use Rattle.std.specs.List.{All}
 use Rattle.std.proofs.lemmas.Int.{ints}
 use Rattle.std.proofs.lemmas.List.Sums.{sum_by-set}
@@ -27,7 +29,11 @@ use Rattle.auction_book.specs.Follows.{Follows}
 use Rattle.auction_book.specs.Free.{IsFree, IsPriced, IsProgress}
 use Rattle.auction_book.specs.Submissions.{IsFitting, IsHigh}
 use Rattle.price_log.specs.History.{sum_of}
-use Rattle.price_log.proofs.Histories.{after_raise_is, continues-kept_raise, continues-refl, sum-renumbered, today-after_raise, today_is_table, version-after_raise}
+use Rattle.price_log.proofs.Versions.{sum-renumbered}
+use Rattle.price_log.proofs.Trims.{continues-kept_raise, continues-refl}
+use Rattle.price_log.proofs.Histories.{after_raise_is}
+use Rattle.price_log.proofs.Versions.{today_is_table}
+use Rattle.price_log.proofs.Histories.{today-after_raise, version-after_raise}
 use Rattle.auction_book.proofs.Listings.{listed_problem}
 use Rattle.auction_book.proofs.Places.{accepted_places, released_places, unowned}
 use Rattle.auction_book.proofs.PhaseBounds.{top_fits}
@@ -37,7 +43,8 @@ first_low : (eps first now : ℤ) (o : Option ℕ) → pos 1 ≤ℤ eps → IsPr
 first_low eps first now None h p = omega (arith, ints, ap (λ (z : ℤ). z) p)
 first_low eps first now (Some i) h p = omega (arith, ints)
 
-priced_accepted : (eps level : ℤ) (start p : List ℤ) (owners : List (Option ℕ)) (j i : ℕ) → pos 1 ≤ℤ eps → 0 < j → j ≤ length p → j ≤ length owners → (price_of p j +ℤ eps) ≤ℤ level →
+priced_accepted : (eps level : ℤ) (start p : List ℤ) (owners : List (Option ℕ)) (j i : ℕ) → pos 1 ≤ℤ eps → 0 < j →
+    j ≤ length p → j ≤ length owners → (price_of p j +ℤ eps) ≤ℤ level →
     ((k : ℕ) → IsPriced eps (price_of start k) (price_of p k) (owner_of owners k)) →
     (k : ℕ) → IsPriced eps (price_of start k) (price_of (renumbered p j level) k) (owner_of (renumbered owners j (Some i)) k)
 priced_accepted eps level start p owners j i pe h l m up was k = elim (eqb_tells k j) [
@@ -47,7 +54,8 @@ priced_accepted eps level start p owners j i pe h l m up was k = elim (eqb_tells
   | inr t ↦ rw (numbered-other p j k level (pos 0) t.1, numbered-other owners j k (Some i) None t.1) (was k)
 ]
 
-topped_accepted : (top level : ℤ) (p : List ℤ) (j : ℕ) → 0 < j → j ≤ length p → level ≤ℤ top → ((k : ℕ) → price_of p k ≤ℤ top) → (k : ℕ) → price_of (renumbered p j level) k ≤ℤ top
+topped_accepted : (top level : ℤ) (p : List ℤ) (j : ℕ) → 0 < j → j ≤ length p → level ≤ℤ top →
+    ((k : ℕ) → price_of p k ≤ℤ top) → (k : ℕ) → price_of (renumbered p j level) k ≤ℤ top
 topped_accepted top level p j h l le was k = elim (eqb_tells k j) [
   | inl t ↦ rw (t.1, numbered-same p j level (pos 0) h l) le
   | inr t ↦ rw (numbered-other p j k level (pos 0) t.1) (was k)
@@ -60,7 +68,8 @@ counted_more counts (suc k) v h l e = let s = sum_by-set (λ (x : ℕ). x) count
 more_risen : (a eps t m x y : ℤ) (n : ℕ) → (a +ℤ (pos n *ℤ eps)) ≤ℤ t → (m +ℤ x) ≡ (t +ℤ y) → (x +ℤ eps) ≤ℤ y → (a +ℤ (pos (suc n) *ℤ eps)) ≤ℤ m
 more_risen a eps t m x y n h e g = let s : pos (suc n) *ℤ eps ≡ (pos n *ℤ eps) +ℤ eps = suc_ℤ-*ℤ (pos n) eps in omega (arith, ints)
 
-progress_more : (eps level : ℤ) (start p : List ℤ) (first now j i : ℕ) (owners : List (Option ℕ)) → 0 < j → j ≤ length p → j ≤ length owners → (price_of p j +ℤ eps) ≤ℤ level →
+progress_more : (eps level : ℤ) (start p : List ℤ) (first now j i : ℕ) (owners : List (Option ℕ)) → 0 < j →
+    j ≤ length p → j ≤ length owners → (price_of p j +ℤ eps) ≤ℤ level →
     IsProgress eps start p first now owners → IsProgress eps start (renumbered p j level) first (now + 1) (renumbered owners j (Some i))
 progress_more eps level start p first now j i owners h l m high was =
     let begun : first ≤ now = was.begun in
@@ -71,7 +80,8 @@ progress_more eps level start p first now j i owners h l m high was =
       begun = omega arith;
       owned = omega arith;
       risen = subst (λ m. (sum_of start +ℤ (pos m *ℤ eps)) ≤ℤ sum_of (renumbered p j level)) (sym since)
-          (more_risen (sum_of start) eps (sum_of p) (sum_of (renumbered p j level)) (price_of p j) level (now - first) was.risen (sum-renumbered p j level h l) high);
+          (more_risen (sum_of start) eps (sum_of p) (sum_of (renumbered p j level)) (price_of p j) level
+          (now - first) was.risen (sum-renumbered p j level h l) high);
     }
 
 -- eps is at least 1
@@ -94,7 +104,8 @@ pub price_in : (p : List ℤ) (j : ℕ) → All IsPrice p → 0 < j → j ≤ le
 price_in p zero a h l = absurd (omega arith)
 price_in p (suc k) a h l = a k (pos 0) (omega arith)
 
-pub accepted_free : (b : BookData) (worker : ℕ) (bid : Bid) → IsFree b → IsSound b.base b.ask (prices_of b) bid → IsHigh b bid → Holds b worker bid.person → IsFree (accepted b worker bid)
+pub accepted_free : (b : BookData) (worker : ℕ) (bid : Bid) → IsFree b → IsSound b.base b.ask (prices_of b) bid →
+    IsHigh b bid → Holds b worker bid.person → IsFree (accepted b worker bid)
 accepted_free b worker bid free sound high held =
     let p = prices_of b in
     let j = bid.object in
@@ -122,19 +133,26 @@ accepted_free b worker bid free sound high held =
         counted = length-renumbered b.counts worker (numbered b.counts worker 0 + 1) ∙ free.sizes.counted ∙ sym (length-renumbered b.claims worker None);
         noted = free.sizes.noted ∙ sym (length-renumbered b.claims worker None);
       };
-      owners_match = matching_more b.base.problem b.owners j bid.person (record { first = h; last = ino }) free.owners_match (λ k. unowned n b.owners b.queue b.claims worker bid.person k free.placed_once held) listed;
-      owners_slack = subst (λ z. (i k : ℕ) → owner_of (renumbered b.owners j (Some bid.person)) k ≡ Some i → HasSlack b.ask.eps z (benefits_at b.base i) k) (sym now)
+      owners_match = matching_more b.base.problem b.owners j bid.person (record { first = h; last = ino })
+          free.owners_match (λ k. unowned n b.owners b.queue b.claims worker bid.person k free.placed_once held) listed;
+      owners_slack = subst (λ z. (i k : ℕ) → owner_of (renumbered b.owners j (Some bid.person)) k ≡ Some i →
+          HasSlack b.ask.eps z (benefits_at b.base i) k) (sym now)
           (owners_by (λ i k. HasSlack b.ask.eps (renumbered p j bid.level) (benefits_at b.base i) k) b.owners j bid.person (record { first = h; last = ino })
           (slack_raised b.ask.eps p (benefits_at b.base bid.person) j bid.level (omega (arith, ints)) row.rising (record { first = h; last = inp }) sound.near)
-          (λ i k ne e. slack_rises b.ask.eps p (renumbered p j bid.level) (benefits_at b.base i) k (rise p j bid.level up (record { first = h; last = inp })) (numbered-other p j k bid.level (pos 0) ne) (free.owners_slack i k e)));
+          (λ i k ne e. slack_rises b.ask.eps p (renumbered p j bid.level) (benefits_at b.base i) k
+          (rise p j bid.level up (record { first = h; last = inp })) (numbered-other p j k bid.level (pos 0) ne)
+          (free.owners_slack i k e)));
       placed_once = λ i. accepted_places b.owners b.queue b.claims worker bid.person j i h ino held ∙ free.placed_once i;
-      log_ascends = after_raise_is b.log j bid.level free.log_ascends (record { first = h; last = inp }) (omega (arith, ints)) (record { least = omega (arith, ints); below = omega (arith, ints) });
+      log_ascends = after_raise_is b.log j bid.level free.log_ascends (record { first = h; last = inp })
+          (omega (arith, ints)) (record { least = omega (arith, ints); below = omega (arith, ints) });
       priced = subst (λ z. (k : ℕ) → IsPriced b.ask.eps (price_of b.start k) (price_of z k) (owner_of (renumbered b.owners j (Some bid.person)) k)) (sym now)
           (priced_accepted b.ask.eps bid.level b.start p b.owners j bid.person pe h inp ino high free.priced);
-      topped = subst (λ z. (k : ℕ) → price_of z k ≤ℤ top_of b.base (greatest_of b.start) b.ask.eps) (sym now) (topped_accepted (top_of b.base (greatest_of b.start) b.ask.eps) bid.level p j h inp top free.topped);
+      topped = subst (λ z. (k : ℕ) → price_of z k ≤ℤ top_of b.base (greatest_of b.start) b.ask.eps) (sym now)
+          (topped_accepted (top_of b.base (greatest_of b.start) b.ask.eps) bid.level p j h inp top free.topped);
       in_phase = free.in_phase;
       counts_total = counted_more b.counts worker (version_of b) w.0 inc free.counts_total ∙ sym next;
-      progress = subst (λ z. IsProgress b.ask.eps b.start z b.start_version (version_of (accepted b worker bid)) (renumbered b.owners j (Some bid.person))) (sym now)
+      progress = subst (λ z. IsProgress b.ask.eps b.start z b.start_version (version_of (accepted b worker bid))
+          (renumbered b.owners j (Some bid.person))) (sym now)
           (subst (λ v. IsProgress b.ask.eps b.start (renumbered p j bid.level) b.start_version v (renumbered b.owners j (Some bid.person))) (sym next)
           (progress_more b.ask.eps bid.level b.start p b.start_version (version_of b) j bid.person b.owners h inp ino high free.progress));
       recorded = free.recorded;
@@ -146,7 +164,8 @@ released_free b worker person free held =
     moved_free b (b.queue ++ person ∷ []) over b.refuted free (length-renumbered b.claims worker None)
     (λ i. released_places b.owners b.queue b.claims worker person i held) free.recorded
 
-pub accepted_follows : (b : BookData) (worker : ℕ) (bid : Bid) (q : List ℤ) → IsFree b → IsBelow q (prices_of b) → IsSound b.base b.ask q bid → IsHigh b bid → Follows worker b (accepted b worker bid)
+pub accepted_follows : (b : BookData) (worker : ℕ) (bid : Bid) (q : List ℤ) → IsFree b → IsBelow q (prices_of b) →
+    IsSound b.base b.ask q bid → IsHigh b bid → Follows worker b (accepted b worker bid)
 accepted_follows b worker bid q free below sound high =
     let p = prices_of b in
     let range = bid_range b q bid free sound in
@@ -187,7 +206,8 @@ pub record IsAcceptable (b : BookData) (bid : Bid) : Type 0 where
   pub above : price_of (prices_of b) bid.object <ℤ bid.level
   pub price : IsPrice bid.level
 
-pub acceptable : (s b : BookData) (bid : Bid) → s ≡ b → IsFree s → (q : List ℤ) × IsBelow q (prices_of b) × IsSound b.base b.ask q bid → IsHigh b bid → IsAcceptable s bid
+pub acceptable : (s b : BookData) (bid : Bid) → s ≡ b → IsFree s → (q : List ℤ) × IsBelow q (prices_of b) ×
+    IsSound b.base b.ask q bid → IsHigh b bid → IsAcceptable s bid
 acceptable s b bid e free sound high =
     let q = sound.0 in
     let near = subst (λ (x : BookData). IsSound x.base x.ask q bid) (sym e) sound.2 in

@@ -1,5 +1,7 @@
 -- If everybody is assigned in the last phase, the owners and the prices are a certificate.
-use Rattle.std.proofs.Common.{◌≡◌, ◌≢◌, ℕ, ℤ, pos, suc, ◌+◌, ◌<◌, ◌≤◌, List, [], ◌∷◌, length, get_or, nat_eq, true, not, cond, refl, ap, arith, sym, ◌∙◌, subst, Option, None, Some, inl, inr, ◌⊎◌, is_some}
+use Rattle.std.proofs.Common.{◌≡◌, ◌≢◌, ℕ, ℤ, pos, suc, ◌+◌, ◌<◌, ◌≤◌, List, [], ◌∷◌, length, get_or, nat_eq, true}
+use Rattle.std.proofs.Common.{not, cond, refl, ap, arith, sym, ◌∙◌, subst, Option, None, Some, inl, inr, ◌⊎◌}
+use Rattle.std.proofs.Common.{is_some}
 use Rattle.std.specs.List.{count_by}
 use Rattle.std.specs.Ordering.{int_eq}
 use Rattle.std.specs.Cmp.{signed_Decides}
@@ -13,7 +15,7 @@ use Rattle.assign_core.specs.Slackness.{HasSlack, IsCertificate}
 use Rattle.assign_core.proofs.BenefitRows.{length-benefit_rows}
 use Rattle.assign_core.proofs.Matchings.{owned_assigned, zip_from_places}
 use Rattle.assign_core.proofs.NumberedLemmas.{numbered-other, numbered-same}
-use Rattle.price_log.proofs.Histories.{today_is_table}
+use Rattle.price_log.proofs.Versions.{today_is_table}
 use Rattle.scaled_values.specs.Scaled.{benefits_of}
 use Rattle.bidder.specs.Offers.{benefits_at}
 use Rattle.std.proofs.lemmas.List.{get_or_default}
@@ -37,7 +39,8 @@ last_or_before j n h = elim (eqb_tells j (n + 1)) [
 ]
 
 -- one more owner
-pub inverse_more : (owners : List (Option ℕ)) (objects : List ℕ) (n p : ℕ) → OwnsOne owners → IsNumber (length objects) p → owner_of owners (n + 1) ≡ Some p → IsInverse owners objects n →
+pub inverse_more : (owners : List (Option ℕ)) (objects : List ℕ) (n p : ℕ) → OwnsOne owners →
+    IsNumber (length objects) p → owner_of owners (n + 1) ≡ Some p → IsInverse owners objects n →
     IsInverse owners (renumbered objects p (n + 1)) (n + 1)
 inverse_more owners objects n p apart number own was i j h e = elim (last_or_before j n h) [
   | inl last ↦
@@ -49,7 +52,8 @@ inverse_more owners objects n p apart number own was i j h e = elim (last_or_bef
 ]
 
 -- one more unowned object
-pub inverse_on : (owners : List (Option ℕ)) (objects : List ℕ) (n : ℕ) → owner_of owners (n + 1) ≡ None → IsInverse owners objects n → IsInverse owners objects (n + 1)
+pub inverse_on : (owners : List (Option ℕ)) (objects : List ℕ) (n : ℕ) → owner_of owners (n + 1) ≡ None →
+    IsInverse owners objects n → IsInverse owners objects (n + 1)
 inverse_on owners objects n none was i j h e = elim (last_or_before j n h) [
   | inl last ↦ absurd (let f : owner_of owners j ≡ None = ap (owner_of owners) last ∙ none in cc)
   | inr before ↦ was i j before e
@@ -124,7 +128,9 @@ certified b objects free complete long own = record {
   slack =
       let rows = benefits_of b.base in
       let same : length rows ≡ persons_of b = length-benefit_rows b.base.sense b.base.problem in
-      zip_from_places (HasSlack (pos 1) (prices_of b)) rows objects [] 0 (long ∙ sym same) (λ k lt. subst (λ eps. HasSlack eps (prices_of b) (benefits_at b.base (suc k)) (get_or objects k 0)) complete.last
+      zip_from_places (HasSlack (pos 1) (prices_of b)) rows objects [] 0 (long ∙ sym same)
+      (λ k lt. subst (λ eps. HasSlack eps (prices_of b) (benefits_at b.base (suc k)) (get_or objects k 0))
+      complete.last
       (free.owners_slack (suc k) (get_or objects k 0) (own (suc k) (record { first = omega arith; last = omega arith }))));
 }
 
@@ -134,9 +140,16 @@ read_owner owners place d o lt e =
     let one : place + 1 ≡ suc place = omega arith in
     ap (owner_of owners) one ∙ get_or_default owners place None d lt ∙ e
 
-pub answered : (b : BookData) (objects xs : List ℕ) (prices : List ℤ) → IsFree b → IsComplete b → xs ≡ objects → prices ≡ prices_of b → length objects ≡ persons_of b →
+pub answered : (b : BookData) (objects xs : List ℕ) (prices : List ℤ) → IsFree b → IsComplete b → xs ≡ objects →
+    prices ≡ prices_of b → length objects ≡ persons_of b →
     ((i j : ℕ) → owner_of b.owners j ≡ Some i → numbered objects i 0 ≡ j) → IsAnswer b (record { assignment = xs; prices = prices })
 answered b objects xs prices free complete e f long inverse =
     subst (λ ys. IsAnswer b (record { assignment = ys; prices = prices })) (sym e)
     (subst (λ p. IsAnswer b (record { assignment = objects; prices = p })) (sym f)
-    (let own = all_own b objects free complete inverse in record { long = long; owned = own; priced = refl; proves = certified b objects free complete long own }))
+    (let own = all_own b objects free complete inverse in record {
+      long = long;
+      owned = own;
+      priced = refl;
+      proves =
+          certified b objects free complete long own;
+    }))

@@ -19,14 +19,16 @@ use Rattle.auction_book.proofs.Claiming.{after_claim_by}
 use Rattle.auction_book.proofs.Following.{claimed_follows, follows_itself, recorded_follows}
 use Rattle.auction_book.proofs.Places.{held_person, unowned}
 
-pub submitted_follows : (w : ℕ) (b new : BookData) (bid : Bid) (answer : Result Accepted Refused) → IsFree b → IsFitting b bid → IsSubmitted b w bid answer new → Follows w b new
+pub submitted_follows : (w : ℕ) (b new : BookData) (bid : Bid) (answer : Result Accepted Refused) → IsFree b →
+    IsFitting b bid → IsSubmitted b w bid answer new → Follows w b new
 submitted_follows w b new bid (Ok a) free fitting s = let f = fitting s.1 in subst (Follows w b) (sym s.4) (accepted_follows b w bid f.0 free f.1 f.2 s.2)
 submitted_follows w b new bid (Err NotClaimed) free fitting s = subst (Follows w b) (sym s.1) (follows_itself b w)
 submitted_follows w b new bid (Err WrongPhase) free fitting s = subst (Follows w b) (sym s.2) (released_follows b w bid.person)
 submitted_follows w b new bid (Err (TooLow price)) free fitting s = subst (Follows w b) (sym s.4) (released_follows b w bid.person)
 submitted_follows w b new bid (Err Memory) free fitting s = subst (Follows w b) (sym s.3) (released_follows b w bid.person)
 
-pub set_follows : (w : ℕ) (b new : BookData) (below : BelowFloor) (lists : HallLists) (answer : Result (Unit {0}) Refused) → IsRecorded b w below lists answer new → Follows w b new
+pub set_follows : (w : ℕ) (b new : BookData) (below : BelowFloor) (lists : HallLists) (answer : Result (Unit {0})
+    Refused) → IsRecorded b w below lists answer new → Follows w b new
 set_follows w b new below lists (Ok done) s = subst (Follows w b) (sym s.2) (recorded_follows b w below.person lists)
 set_follows w b new below lists (Err NotClaimed) s = subst (Follows w b) (sym s.1) (follows_itself b w)
 set_follows w b new below lists (Err WrongPhase) s = subst (Follows w b) (sym s.2) (released_follows b w below.person)

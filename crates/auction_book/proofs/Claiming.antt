@@ -14,7 +14,9 @@ use Rattle.auction_book.proofs.Opening.{greatest_is_price}
 use Rattle.auction_book.proofs.PhaseBounds.{is_eps}
 
 -- the answer to a claim, by cases
-pub claim_by : (P : Claim → Type 0) (b : BookData) → (is_some b.refuted ≡ true → P claim.Refuted) → (is_done b ≡ true → P claim.Done) → (b.stopped ≡ true → P claim.Stopped) → (b.stopped ≡ false → b.queue ≡ [] → P claim.Wait) →
+pub claim_by : (P : Claim → Type 0) (b : BookData) → (is_some b.refuted ≡ true → P claim.Refuted) →
+    (is_done b ≡ true → P claim.Done) → (b.stopped ≡ true → P claim.Stopped) → (b.stopped ≡ false → b.queue ≡ [] →
+    P claim.Wait) →
     ((person : ℕ) (rest : List ℕ) → b.stopped ≡ false → b.queue ≡ person ∷ rest → P (claim.Person person b.ask)) → P (claim_of b)
 claim_by P b refuted done stopped wait person =
     cond_both (is_some b.refuted) claim.Refuted (cond (is_done b) claim.Done (cond b.stopped claim.Stopped (claim_front b b.queue))) P refuted
@@ -35,4 +37,10 @@ after_claim_by P b worker claim.Wait same some = same
 
 -- what the book asks belongs to a phase
 pub ask_is : (b : BookData) → IsFree b → IsAsk b.base b.ask
-ask_is b free = let i = free.in_phase in record { slackness = is_eps b.base b.ask b.start i; start = greatest_of b.start; price = greatest_is_price b.start i.start_prices; floor = i.floor_is }
+ask_is b free = let i = free.in_phase in record {
+  slackness = is_eps b.base b.ask b.start i;
+  start =
+      greatest_of b.start;
+  price = greatest_is_price b.start i.start_prices;
+  floor = i.floor_is;
+}

@@ -1,5 +1,7 @@
 -- If a person's offer is below the floor, each object that it reaches is owned.
-use Rattle.std.proofs.Common.{◌≡◌, ℕ, ℤ, pos, negsuc, suc, ◌+◌, ◌*◌, ◌/◌, ◌+ℤ◌, ◌-ℤ◌, ◌*ℤ◌, ◌≤ℤ◌, ◌<ℤ◌, ◌-◌, ◌≤◌, List, [], ◌∷◌, length, get_or, drop, drop-cons, ◌<◌, int_div, refl, ap, ◌∙◌, arith, sym, subst, inl, inr, ◌⊎◌, Option, None, Some, IsSome}
+use Rattle.std.proofs.Common.{◌≡◌, ℕ, ℤ, pos, negsuc, suc, ◌+◌, ◌*◌, ◌/◌, ◌+ℤ◌, ◌-ℤ◌, ◌*ℤ◌, ◌≤ℤ◌, ◌<ℤ◌, ◌-◌, ◌≤◌}
+use Rattle.std.proofs.Common.{List, [], ◌∷◌, length, get_or, drop, drop-cons, ◌<◌, int_div, refl, ap, ◌∙◌, arith}
+use Rattle.std.proofs.Common.{sym, subst, inl, inr, ◌⊎◌, Option, None, Some, IsSome}
 use Rattle.std.proofs.lemmas.Int.{ints}
 use Rattle.std.proofs.Math.IntN.{suc_ℤ-*ℤ, pos-*ℤ-pos}
 use Rattle.std.proofs.lemmas.Nat.{le-div}
@@ -35,39 +37,49 @@ step_in b = spread b.base +ℤ b.ask.eps
 abbrev start_top : BookData → ℤ
 start_top b = greatest_of b.start
 
-bounds_listed : (b : BookData) (i k : ℕ) → IsListed b.base.problem i k → (least_benefit b.base ≤ℤ listed_or_zero (benefits_at b.base i) k) × (listed_or_zero (benefits_at b.base i) k ≤ℤ greatest_benefit b.base)
-bounds_listed b i k l = all_listed (λ e. (least_benefit b.base ≤ℤ e.1) × (e.1 ≤ℤ greatest_benefit b.base)) (benefits_at b.base i) k (benefits_between b.base i) (listed_benefits b.base i k l)
+bounds_listed : (b : BookData) (i k : ℕ) → IsListed b.base.problem i k →
+    (least_benefit b.base ≤ℤ listed_or_zero (benefits_at b.base i) k) ×
+    (listed_or_zero (benefits_at b.base i) k ≤ℤ greatest_benefit b.base)
+bounds_listed b i k l = all_listed (λ e. (least_benefit b.base ≤ℤ e.1) × (e.1 ≤ℤ greatest_benefit b.base))
+    (benefits_at b.base i) k (benefits_between b.base i) (listed_benefits b.base i k l)
 
 -- the first person lists an object
-lists_one : (rows : List Listing) (owners : List (Option ℕ)) (i : ℕ) (js : List ℕ) (x j : ℕ) → Walks rows owners i js x → IsListed rows x j → (k : ℕ) × IsListed rows i k
+lists_one : (rows : List Listing) (owners : List (Option ℕ)) (i : ℕ) (js : List ℕ) (x j : ℕ) →
+    Walks rows owners i js x → IsListed rows x j → (k : ℕ) × IsListed rows i k
 lists_one rows owners i [] x j w l = (j, subst (λ u. IsListed rows u j) (sym w) l)
 lists_one rows owners i (k ∷ js) x j w l = (k, w.0)
 
 -- an object of a person whose offer is below the floor has a high price
-first_high : (b : BookData) (q : List ℤ) (i k : ℕ) → IsFree b → IsBelow q (prices_of b) → IsUnder (benefits_at b.base i) q b.ask.floor → IsListed b.base.problem i k →
+first_high : (b : BookData) (q : List ℤ) (i k : ℕ) → IsFree b → IsBelow q (prices_of b) →
+    IsUnder (benefits_at b.base i) q b.ask.floor → IsListed b.base.problem i k →
     rung (start_top b) (step_in b) (persons_of b - 1) <ℤ price_of (prices_of b) k
 first_high b q i k free below under l =
     let floor : b.ask.floor ≡ floor_of b.base (greatest_of b.start) b.ask.eps = free.in_phase.floor_is in
     let a = bounds_listed b i k l in
-    let u : listed_or_zero (benefits_at b.base i) k <ℤ (b.ask.floor +ℤ price_of q k) = all_listed (λ e. e.1 <ℤ (b.ask.floor +ℤ price_of q e.0)) (benefits_at b.base i) k under (listed_benefits b.base i k l) in
+    let u : listed_or_zero (benefits_at b.base i) k <ℤ (b.ask.floor +ℤ price_of q k) =
+    all_listed (λ e. e.1 <ℤ (b.ask.floor +ℤ price_of q e.0)) (benefits_at b.base i) k under
+    (listed_benefits b.base i k l) in
     let c : price_of q k ≤ℤ price_of (prices_of b) k = below.each k in
     omega (arith, ints)
 
 -- the owner of an object lists objects whose prices are at most one step lower
-next_high : (b : BookData) (v j k : ℕ) → IsFree b → owner_of b.owners j ≡ Some v → IsListed b.base.problem v k → price_of (prices_of b) j ≤ℤ (price_of (prices_of b) k +ℤ step_in b)
+next_high : (b : BookData) (v j k : ℕ) → IsFree b → owner_of b.owners j ≡ Some v → IsListed b.base.problem v k →
+    price_of (prices_of b) j ≤ℤ (price_of (prices_of b) k +ℤ step_in b)
 next_high b v j k free o lk =
     let row = benefits_at b.base v in
     let p = prices_of b in
     let a = bounds_listed b v j (free.owners_match.listed v j o) in
     let c = bounds_listed b v k lk in
-    let s : (listed_or_zero row k +ℤ price_of p j) ≤ℤ (listed_or_zero row j +ℤ price_of p k +ℤ b.ask.eps) = all_listed (IsWorth b.ask.eps p row j) row k (free.owners_slack v j o) (listed_benefits b.base v k lk) in
+    let s : (listed_or_zero row k +ℤ price_of p j) ≤ℤ (listed_or_zero row j +ℤ price_of p k +ℤ b.ask.eps) =
+    all_listed (IsWorth b.ask.eps p row j) row k (free.owners_slack v j o) (listed_benefits b.base v k lk) in
     omega (arith, ints)
 
 some_or_none : (o : Option ℕ) → (IsSome o) ⊎ (o ≡ None)
 some_or_none None = inr refl
 some_or_none (Some i) = inl refl
 
-pub blocked : (b : BookData) (q : List ℤ) (i : ℕ) → IsFree b → IsBelow q (prices_of b) → IsUnder (benefits_at b.base i) q b.ask.floor → IsBlocked b.base.problem b.owners i
+pub blocked : (b : BookData) (q : List ℤ) (i : ℕ) → IsFree b → IsBelow q (prices_of b) →
+    IsUnder (benefits_at b.base i) q b.ask.floor → IsBlocked b.base.problem b.owners i
 blocked b q i free below under = λ x j reach l. elim (some_or_none (owner_of b.owners j)) [
   | inl s ↦ s
   | inr free_one ↦ absurd (broken x j reach l free_one)
@@ -80,13 +92,18 @@ blocked b q i free below under = λ x j reach l. elim (some_or_none (owner_of b.
       let step = IsStep-spread b.base b.ask.eps (IsSpread-spread b.base free.problem) (is_eps b.base b.ask b.start free.in_phase) in
       let positive = step.least in
       let least = start_least b free in
-      let first : price_of (prices_of b) j ≡ price_of b.start j = subst (λ o. IsPriced b.ask.eps (price_of b.start j) (price_of (prices_of b) j) o) free_one (free.priced j) in
+      let first : price_of (prices_of b) j ≡ price_of b.start j =
+      subst (λ o. IsPriced b.ask.eps (price_of b.start j) (price_of (prices_of b) j) o) free_one (free.priced j) in
       let most : price_of b.start j ≤ℤ start_top b = price_greatest b.start j least in
       let one = lists_one b.base.problem b.owners i reach.0 x j reach.1 l in
-      let s = empty_step (start_top b) (step_in b) (prices_of b) m j one.0 least positive (let e = free.sizes.priced in omega arith) range.object.first (subst (λ k. j ≤ k) (sym free.sizes.priced) range.object.last) (omega (arith, ints))
+      let s = empty_step (start_top b) (step_in b) (prices_of b) m j one.0 least positive (let e =
+      free.sizes.priced in omega arith) range.object.first (subst (λ k. j ≤ k) (sym free.sizes.priced)
+      range.object.last) (omega (arith, ints))
       (first_high b q i one.0 free below under one.1) in
       let dear : (u : ℕ) → Type 0 = λ u. (k : ℕ) → IsListed b.base.problem u k → rung (start_top b) (step_in b) (suc s.0) <ℤ price_of (prices_of b) k in
-      let start : dear i = λ k lk. let f = first_high b q i k free below under lk in let g = rung_rises (start_top b) (step_in b) (suc s.0) m positive (let h = s.1.before in omega arith) in omega (arith, ints) in
+      let start : dear i = λ k lk. let f = first_high b q i k free below under lk in let g =
+      rung_rises (start_top b) (step_in b) (suc s.0) m positive (let h = s.1.before in omega arith) in
+      omega (arith, ints) in
       let next : (u k v : ℕ) → dear u → IsListed b.base.problem u k → owner_of b.owners k ≡ Some v → dear v = λ u k v d lk o h lh.
       let c = next_high b v k h free o lh in
       let e = d k lk in
@@ -98,7 +115,8 @@ blocked b q i free below under = λ x j reach l. elim (some_or_none (owner_of b.
       omega (arith, ints)
 
 -- no path to an unowned object follows an offer below the floor
-pub no_path : (b : BookData) (q : List ℤ) (i : ℕ) (js : List ℕ) → IsFree b → IsBelow q (prices_of b) → IsUnder (benefits_at b.base i) q b.ask.floor → IsPath b.base.problem b.owners i js → ⊥
+pub no_path : (b : BookData) (q : List ℤ) (i : ℕ) (js : List ℕ) → IsFree b → IsBelow q (prices_of b) →
+    IsUnder (benefits_at b.base i) q b.ask.floor → IsPath b.base.problem b.owners i js → ⊥
 no_path b q i js free below under path = path_open b.base.problem b.owners i js path (blocked b q i free below under)
 
 sum_most : (p : List ℤ) (top : ℤ) → ((k : ℕ) → get_or p k (pos 0) ≤ℤ top) → sum_of p ≤ℤ (pos (length p) *ℤ top)
@@ -110,7 +128,8 @@ sum_most (x ∷ p) top h =
     omega (arith, ints)
 
 -- the bids accepted in a phase, times eps, are at most the sum of top less price at the phase's start
-raised_bound : (b : BookData) → IsFree b → (pos (phase_accepted b) *ℤ b.ask.eps) ≤ℤ ((pos (persons_of b) *ℤ top_of b.base (greatest_of b.start) b.ask.eps) -ℤ sum_of b.start)
+raised_bound : (b : BookData) → IsFree b → (pos (phase_accepted b) *ℤ b.ask.eps) ≤ℤ
+    ((pos (persons_of b) *ℤ top_of b.base (greatest_of b.start) b.ask.eps) -ℤ sum_of b.start)
 raised_bound b free =
     let top = top_of b.base (greatest_of b.start) b.ask.eps in
     let t = sum_most (prices_of b) top (λ k. free.topped (suc k)) in
@@ -147,13 +166,16 @@ accepted_bound b free =
 pub start_under : (b : BookData) → IsFree b → All (λ p. p ≤ℤ top_of b.base (greatest_of b.start) b.ask.eps) b.start
 start_under b free =
     let room = (span b.base b.ask.eps free.problem (is_eps b.base b.ask b.start free.in_phase)).least in
-    All-weaker (λ p. p ≤ℤ greatest_of b.start) (λ p. p ≤ℤ top_of b.base (greatest_of b.start) b.ask.eps) (λ p h. omega (arith, ints)) b.start (greatest_bounds b.start)
+    All-weaker (λ p. p ≤ℤ greatest_of b.start) (λ p. p ≤ℤ top_of b.base (greatest_of b.start) b.ask.eps)
+    (λ p h. omega (arith, ints)) b.start (greatest_bounds b.start)
 
 -- the room under the top with one more price
-pub room_more : (top : ℤ) (ps : List ℤ) (i room gap : ℕ) (whole : ℤ) → i < length ps → pos gap ≡ top -ℤ get_or ps i (pos 0) → (pos room +ℤ room_under top (drop i ps)) ≡ whole →
+pub room_more : (top : ℤ) (ps : List ℤ) (i room gap : ℕ) (whole : ℤ) → i < length ps →
+    pos gap ≡ top -ℤ get_or ps i (pos 0) → (pos room +ℤ room_under top (drop i ps)) ≡ whole →
     (pos (room + gap) +ℤ room_under top (drop (i + 1) ps)) ≡ whole
 room_more top ps i room gap whole lt e h =
     let d : drop i ps ≡ get_or ps i (pos 0) ∷ drop (suc i) ps = drop-cons ps i (pos 0) lt in
     let r : room_under top (drop i ps) ≡ (top -ℤ get_or ps i (pos 0)) +ℤ room_under top (drop (suc i) ps) = ap (room_under top) d in
-    let s : room_under top (drop (i + 1) ps) ≡ room_under top (drop (suc i) ps) = let one : i + 1 ≡ suc i = omega arith in ap (λ m. room_under top (drop m ps)) one in
+    let s : room_under top (drop (i + 1) ps) ≡ room_under top (drop (suc i) ps) = let one : i + 1 ≡ suc i =
+    omega arith in ap (λ m. room_under top (drop m ps)) one in
     omega (arith, ints)

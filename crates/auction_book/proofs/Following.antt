@@ -5,7 +5,7 @@ use Rattle.assign_core.specs.Numbered.{numbered}
 use Rattle.assign_core.specs.Prices.{IsBelow}
 use Rattle.assign_core.proofs.Matchings.{below_itself, below_through}
 use Rattle.assign_core.proofs.NumberedLemmas.{length-renumbered, numbered-other, numbered_in}
-use Rattle.price_log.proofs.Histories.{continues-refl, continues-trans}
+use Rattle.price_log.proofs.Trims.{continues-refl, continues-trans}
 use Rattle.auction_book.specs.Book.{BookData, Holds, persons_of, prices_of}
 use Rattle.auction_book.specs.Phases.{is_over}
 use Rattle.auction_book.specs.Changes.{caught_up, claimed, given_up, phased, recorded}

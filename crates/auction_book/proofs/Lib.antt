@@ -11,5 +11,6 @@ pub mod Claiming
 pub mod Answering
 pub mod Gap
 pub mod Floor
+pub mod WorkerSteps
 pub mod Runs
 pub mod Calling

@@ -6,7 +6,10 @@ use Rattle.assign_core.proofs.Duality.{benefit_listed}
 use Rattle.scaled_values.specs.Scaled.{ScaledProblem, benefits_of}
 
 pub listed_problem : (s : ScaledProblem) (i j : ℕ) → IsListed (benefits_of s) i j → IsListed s.problem i j
-listed_problem s i j h = cost_listed s.sense (length s.problem) (row_of s.problem i) j (subst (λ row. IsSome (listed_in row j)) (row_of-benefits s.sense (length s.problem) s.problem i) h)
+listed_problem s i j h = cost_listed s.sense (length s.problem) (row_of s.problem i) j
+    (subst (λ row. IsSome (listed_in row j)) (row_of-benefits s.sense (length s.problem) s.problem i) h)
 
 pub listed_benefits : (s : ScaledProblem) (i j : ℕ) → IsListed s.problem i j → IsListed (benefits_of s) i j
-listed_benefits s i j h = subst (λ row. IsSome (listed_in row j)) (sym (row_of-benefits s.sense (length s.problem) s.problem i)) (benefit_listed s.sense (length s.problem) (row_of s.problem i) j h)
+listed_benefits s i j h = subst (λ row. IsSome (listed_in row j))
+    (sym (row_of-benefits s.sense (length s.problem) s.problem i)) (benefit_listed s.sense (length s.problem)
+    (row_of s.problem i) j h)

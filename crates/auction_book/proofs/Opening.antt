@@ -1,5 +1,7 @@
 -- A book at the start of a run, and at the start of a phase.
-use Rattle.std.proofs.Common.{◌≡◌, ℕ, ℤ, pos, zero, suc, ◌+ℤ◌, ◌*ℤ◌, ◌≤ℤ◌, ◌+◌, ◌-◌, ◌<◌, ◌≤◌, List, [], ◌∷◌, ◌++◌, length, replicate, nat_eq, sum, Bool, true, false, cond, refl, ap, arith, sym, ◌∙◌, subst, Option, None, Some, is_some}
+use Rattle.std.proofs.Common.{◌≡◌, ℕ, ℤ, pos, zero, suc, ◌+ℤ◌, ◌*ℤ◌, ◌≤ℤ◌, ◌+◌, ◌-◌, ◌<◌, ◌≤◌, List, [], ◌∷◌, ◌++◌}
+use Rattle.std.proofs.Common.{length, replicate, nat_eq, sum, Bool, true, false, cond, refl, ap, arith, sym, ◌∙◌}
+use Rattle.std.proofs.Common.{subst, Option, None, Some, is_some}
 use Rattle.std.specs.List.{All, count_by}
 use Rattle.std.specs.Option.{option_and_then}
 use Rattle.std.proofs.lemmas.Int.{ints}
@@ -22,15 +24,17 @@ use Rattle.auction_book.specs.Changes.{phased}
 use Rattle.auction_book.specs.Free.{IsFree, IsPriced}
 use Rattle.auction_book.specs.Phases.{is_over, opened, persons}
 use Rattle.price_log.specs.History.{sum_of}
-use Rattle.price_log.proofs.Histories.{started_is, today_is_table}
+use Rattle.price_log.proofs.Versions.{today_is_table}
+use Rattle.price_log.proofs.Histories.{started_is}
 use Rattle.auction_book.proofs.Answering.{over_is}
 use Rattle.auction_book.proofs.Places.{everyone, person_is_some}
 use Rattle.auction_book.proofs.PhaseBounds.{greatest_most, is_eps, price_greatest, span}
 
 one_next : (n i : ℕ) → one_if_person (suc n) i ≡ one_if_person n i + cond (nat_eq i (suc n)) 1 0
-one_next n zero = let e : cond {A = ℕ} (nat_eq 0 (suc n)) 1 0 ≡ 0 = apart n in let o : one_if_person n 0 ≡ 0 = refl in let p : one_if_person (suc n) 0 ≡ 0 = refl in omega arith where
-  apart : (n : ℕ) → cond {A = ℕ} (nat_eq 0 (suc n)) 1 0 ≡ 0
-  apart n = grind (arith, nat_tests)
+one_next n zero = let e : cond {A = ℕ} (nat_eq 0 (suc n)) 1 0 ≡ 0 = apart n in let o : one_if_person n 0 ≡ 0 =
+    refl in let p : one_if_person (suc n) 0 ≡ 0 = refl in omega arith where
+      apart : (n : ℕ) → cond {A = ℕ} (nat_eq 0 (suc n)) 1 0 ≡ 0
+      apart n = grind (arith, nat_tests)
 one_next n (suc i) = grind (arith, nat_tests)
 
 one_none : (i : ℕ) → one_if_person 0 i ≡ 0
@@ -68,7 +72,8 @@ least_price : (p : List ℤ) → All IsPrice p → pos 0 ≤ℤ greatest_of p
 least_price p h = greatest_holds (λ x. pos 0 ≤ℤ x) p (omega (arith, ints)) (λ k d lt. (h k d lt).least)
 
 -- the first prices are at most 10^21
-pub opened_free : (s : ScaledProblem) (prices : List ℤ) (workers : ℕ) → IsProblem s.problem → IsTable prices → length prices ≡ length s.problem → greatest_of prices ≤ℤ GREATEST_FIRST_PRICE → IsFree (opened s prices workers)
+pub opened_free : (s : ScaledProblem) (prices : List ℤ) (workers : ℕ) → IsProblem s.problem → IsTable prices →
+    length prices ≡ length s.problem → greatest_of prices ≤ℤ GREATEST_FIRST_PRICE → IsFree (opened s prices workers)
 opened_free s prices workers problem table long low =
     let n = length s.problem in
     let eps = first_eps s in
@@ -79,7 +84,14 @@ opened_free s prices workers problem table long low =
     let y = zero-*ℤ eps in
     record {
       problem = problem;
-      sizes = record { priced = long; started = long; counted = length-replicate workers 0 ∙ sym (length-replicate workers None); noted = length-replicate workers 0 ∙ sym (length-replicate workers None) };
+      sizes = record {
+        priced = long;
+        started = long;
+        counted = length-replicate workers 0 ∙
+            sym (length-replicate workers None);
+        noted = length-replicate workers 0 ∙
+            sym (length-replicate workers None);
+      };
       owners_match = nothing_matched s.problem;
       owners_slack = λ i j h. absurd (let o = numbered-replicate {A = Option ℕ} n j None in cc);
       placed_once = λ i.
@@ -114,7 +126,8 @@ phased_free b free over =
     let least = least_price (prices_of b) table.each in
     let low = free.in_phase.start_low in
     let bottom = free.topped 0 in
-    let top : greatest_of (prices_of b) ≤ℤ top_of s (greatest_of b.start) b.ask.eps = greatest_most (prices_of b) (top_of s (greatest_of b.start) b.ask.eps) bottom free.topped in
+    let top : greatest_of (prices_of b) ≤ℤ top_of s (greatest_of b.start) b.ask.eps =
+    greatest_most (prices_of b) (top_of s (greatest_of b.start) b.ask.eps) bottom free.topped in
     let more : pos (suc (b.ask.phase - 1)) *ℤ rise ≡ (pos (b.ask.phase - 1) *ℤ rise) +ℤ rise = suc_ℤ-*ℤ (pos (b.ask.phase - 1)) rise in
     let whole = everyone n b.owners b.queue b.claims free.placed_once in
     let all = (over_is b over).assigned in
@@ -155,7 +168,8 @@ start_least b free = least_price b.start free.in_phase.start_prices.each
 
 pub length-persons : (n : ℕ) → length (persons n) ≡ n
 length-persons zero = refl
-length-persons (suc n) = let i = length-persons n in let a : length (persons n ++ suc n ∷ []) ≡ length (persons n) + 1 = length_push (persons n) (suc n) in omega arith
+length-persons (suc n) = let i = length-persons n in let a : length (persons n ++ suc n ∷ []) ≡ length (persons n)
+    + 1 = length_push (persons n) (suc n) in omega arith
 
 -- the greatest of a table is a price
 pub greatest_is_price : (p : List ℤ) → IsTable p → IsPrice (greatest_of p)

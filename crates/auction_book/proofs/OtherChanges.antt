@@ -10,12 +10,13 @@ use Rattle.auction_book.specs.Changes.{caught_up, claimed, least_taken, released
 use Rattle.auction_book.specs.Free.{IsFree}
 use Rattle.price_log.specs.Changes.{trimmed}
 use Rattle.price_log.specs.History.{Continues, History, IsHistory, last_version, today}
-use Rattle.price_log.proofs.Histories.{continues-refl, continues-trim, today-trim, trim_version, trimmed_is}
+use Rattle.price_log.proofs.Trims.{continues-refl, continues-trim, today-trim, trim_version, trimmed_is}
 use Rattle.auction_book.proofs.Places.{claimed_places}
 use Rattle.auction_book.proofs.Accepting.{released_free}
 use Rattle.auction_book.proofs.Moving.{moved_free}
 
-pub claimed_free : (b : BookData) (worker : ℕ) → IsFree b → 0 < worker → worker ≤ length b.claims → numbered b.claims worker None ≡ None → 0 < length b.queue → IsFree (claimed b worker)
+pub claimed_free : (b : BookData) (worker : ℕ) → IsFree b → 0 < worker → worker ≤ length b.claims →
+    numbered b.claims worker None ≡ None → 0 < length b.queue → IsFree (claimed b worker)
 claimed_free b worker free first last none some =
     let front : Option ℕ = Some (get_or b.queue 0 0) in
     moved_free b (drop 1 b.queue) (renumbered b.claims worker front) b.refuted free (length-renumbered b.claims worker front)
@@ -24,7 +25,8 @@ claimed_free b worker free first last none some =
 pub set_free : (b : BookData) (lists : HallLists) → IsFree b → IsHallSet b.base.problem lists.persons lists.objects → IsFree (with_set b lists)
 set_free b lists free hall = moved_free b b.queue b.claims (Some lists) free refl (λ i. refl) hall
 
-pub recorded_free : (b : BookData) (worker person : ℕ) (lists : HallLists) → IsFree b → Holds b worker person → IsHallSet b.base.problem lists.persons lists.objects → IsFree (recorded b worker person lists)
+pub recorded_free : (b : BookData) (worker person : ℕ) (lists : HallLists) → IsFree b → Holds b worker person →
+    IsHallSet b.base.problem lists.persons lists.objects → IsFree (recorded b worker person lists)
 recorded_free b worker person lists free held hall = set_free (released b worker person) lists (released_free b worker person free held) hall
 
 pub least_le : (taken : List ℕ) (now : ℕ) → fold min now taken ≤ now
@@ -76,4 +78,5 @@ caught_up_free b worker free =
     }
 
 pub caught_up_trimmed : (b : BookData) (worker : ℕ) → IsFree b → IsTrimmed b.log (caught_up b worker).log
-caught_up_trimmed b worker free = let taken = renumbered b.taken worker (version_of b) in trimmed_to_is b.log (least_taken taken (version_of b)) free.log_ascends (least_le taken (version_of b))
+caught_up_trimmed b worker free = let taken = renumbered b.taken worker (version_of b) in
+    trimmed_to_is b.log (least_taken taken (version_of b)) free.log_ascends (least_le taken (version_of b))

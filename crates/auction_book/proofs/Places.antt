@@ -1,5 +1,7 @@
 -- Each person has one place, so there are as many places as persons.
-use Rattle.std.proofs.Common.{◌≡◌, ◌≢◌, ℕ, zero, suc, ◌+◌, ◌<◌, ◌≤◌, List, [], ◌∷◌, ◌++◌, length, map, drop, set, ◌-◌, get_or, nat_eq, cond, refl, ap, arith, sym, ◌∙◌, subst, inl, inr, Option, None, Some, is_some}
+use Rattle.std.proofs.Common.{◌≡◌, ◌≢◌, ℕ, zero, suc, ◌+◌, ◌<◌, ◌≤◌, List, [], ◌∷◌, ◌++◌, length, map, drop, set}
+use Rattle.std.proofs.Common.{◌-◌, get_or, nat_eq, cond, refl, ap, arith, sym, ◌∙◌, subst, inl, inr, Option, None}
+use Rattle.std.proofs.Common.{Some, is_some}
 use Rattle.std.specs.List.{count_by}
 use Rattle.std.proofs.lemmas.List.Sums.{sum_by-cons, sum_by_push, get_or-le-sum_by}
 use Rattle.std.proofs.lemmas.Bool.{cond-true, cond-false}
@@ -76,7 +78,8 @@ up_to_at n (Some k) = up_to_one n k
 up_to_count : (n : ℕ) (xs : List (Option ℕ)) → up_to (λ i. count_by (is_person i) xs) n ≡ in_all n xs
 up_to_count n [] = up_to_zero n
 up_to_count n (x ∷ xs) =
-    let a = up_to_same (λ i. count_by (is_person i) (x ∷ xs)) (λ i. cond (is_person i x) 1 0 + count_by (is_person i) xs) n (λ i. sum_by-cons (λ y. cond (is_person i y) 1 0) x xs) in
+    let a = up_to_same (λ i. count_by (is_person i) (x ∷ xs)) (λ i. cond (is_person i x) 1 0 + count_by
+    (is_person i) xs) n (λ i. sum_by-cons (λ y. cond (is_person i y) 1 0) x xs) in
     let c = up_to_sum (λ i. cond (is_person i x) 1 0) (λ i. count_by (is_person i) xs) n in
     let d = up_to_at n x in
     let e = up_to_count n xs in
@@ -85,7 +88,9 @@ up_to_count n (x ∷ xs) =
 -- if nobody else is in the list, its elements are persons
 all_persons : (n : ℕ) (xs : List (Option ℕ)) → ((i : ℕ) → count_by (is_person i) xs ≤ one_if_person n i) → in_all n xs ≡ count_by is_some xs
 all_persons n [] h = refl
-all_persons n (None ∷ xs) h = let i = all_persons n xs (λ i. let a = h i in let e = sum_by-cons (λ y. cond (is_person i y) 1 0) None xs in omega arith) in let f = sum_by-cons (λ y. cond (is_some y) 1 0) None xs in omega arith
+all_persons n (None ∷ xs) h = let i = all_persons n xs (λ i. let a = h i in let e =
+    sum_by-cons (λ y. cond (is_person i y) 1 0) None xs in omega arith) in let f =
+    sum_by-cons (λ y. cond (is_some y) 1 0) None xs in omega arith
 all_persons n (Some k ∷ xs) h =
     let i = all_persons n xs (λ i. let a = h i in let e = sum_by-cons (λ y. cond (is_person i y) 1 0) (Some k) xs in omega arith) in
     let f = sum_by-cons (λ y. cond (is_some y) 1 0) (Some k) xs in
@@ -97,7 +102,8 @@ all_persons n (Some k ∷ xs) h =
 
 queue_count : (i : ℕ) (q : List ℕ) → count_by (nat_eq i) q ≡ count_by (is_person i) (map Some q)
 queue_count i [] = refl
-queue_count i (x ∷ q) = let a = sum_by-cons (λ y. cond (nat_eq i y) 1 0) x q in let c = sum_by-cons (λ y. cond (is_person i y) 1 0) (Some x) (map Some q) in let h = queue_count i q in omega arith
+queue_count i (x ∷ q) = let a = sum_by-cons (λ y. cond (nat_eq i y) 1 0) x q in let c =
+    sum_by-cons (λ y. cond (is_person i y) 1 0) (Some x) (map Some q) in let h = queue_count i q in omega arith
 
 queue_length : (q : List ℕ) → count_by is_some (map Some q) ≡ length q
 queue_length [] = refl
@@ -112,7 +118,8 @@ abbrev pub IsPlaced : ℕ → List (Option ℕ) → List ℕ → List (Option �
 IsPlaced n owners queue claims = (i : ℕ) → places owners queue claims i ≡ one_if_person n i
 
 -- owners, queue and claims are together as many as the persons
-pub everyone : (n : ℕ) (owners : List (Option ℕ)) (queue : List ℕ) (claims : List (Option ℕ)) → IsPlaced n owners queue claims → count_by is_some owners + length queue + count_by is_some claims ≡ n
+pub everyone : (n : ℕ) (owners : List (Option ℕ)) (queue : List ℕ) (claims : List (Option ℕ)) →
+    IsPlaced n owners queue claims → count_by is_some owners + length queue + count_by is_some claims ≡ n
 everyone n owners queue claims placed =
     let whole = one_sum n n (omega arith) in
     let each = up_to_same (places owners queue claims) (one_if_person n) n placed in
@@ -138,13 +145,16 @@ some_there xs (suc k) i e h l =
 person_there : (xs : List (Option ℕ)) (j i : ℕ) → numbered xs j None ≡ Some i → 0 < j → j ≤ length xs → 0 < count_by (is_person i) xs
 person_there xs zero i e h l = absurd (omega arith)
 person_there xs (suc k) i e h l =
-    let c : cond {A = ℕ} (is_person i (get_or xs k None)) 1 0 ≤ count_by (is_person i) xs = get_or-le-sum_by (λ x. cond (is_person i x) 1 0) xs k None (omega arith) in
-    let f : cond {A = ℕ} (is_person i (get_or xs k None)) 1 0 ≡ cond {A = ℕ} (is_person i (Some i)) 1 0 = ap (λ (x : Option ℕ). cond {A = ℕ} (is_person i x) 1 0) e in
+    let c : cond {A = ℕ} (is_person i (get_or xs k None)) 1 0 ≤ count_by (is_person i) xs =
+    get_or-le-sum_by (λ x. cond (is_person i x) 1 0) xs k None (omega arith) in
+    let f : cond {A = ℕ} (is_person i (get_or xs k None)) 1 0 ≡ cond {A = ℕ} (is_person i (Some i)) 1 0 =
+    ap (λ (x : Option ℕ). cond {A = ℕ} (is_person i x) 1 0) e in
     let g : cond {A = ℕ} (is_person i (Some i)) 1 0 ≡ 1 = one_self i in
     omega arith
 
 -- while a person is claimed the queue has room
-pub has_room : (n : ℕ) (owners : List (Option ℕ)) (queue : List ℕ) (claims : List (Option ℕ)) (worker person : ℕ) → IsPlaced n owners queue claims → numbered claims worker None ≡ Some person → length queue < n
+pub has_room : (n : ℕ) (owners : List (Option ℕ)) (queue : List ℕ) (claims : List (Option ℕ)) (worker person : ℕ) →
+    IsPlaced n owners queue claims → numbered claims worker None ≡ Some person → length queue < n
 has_room n owners queue claims worker person placed held =
     let w = numbered_in claims worker person held in
     let s = some_there claims worker person held w.0 w.1 in
@@ -152,7 +162,8 @@ has_room n owners queue claims worker person placed held =
     omega arith
 
 -- a claimed person owns nothing
-pub unowned : (n : ℕ) (owners : List (Option ℕ)) (queue : List ℕ) (claims : List (Option ℕ)) (worker person j : ℕ) → IsPlaced n owners queue claims → numbered claims worker None ≡ Some person → owner_of owners j ≡ Some person → ⊥
+pub unowned : (n : ℕ) (owners : List (Option ℕ)) (queue : List ℕ) (claims : List (Option ℕ)) (worker person j : ℕ) →
+    IsPlaced n owners queue claims → numbered claims worker None ≡ Some person → owner_of owners j ≡ Some person → ⊥
 unowned n owners queue claims worker person j placed held own =
     let w = numbered_in claims worker person held in
     let c = person_there claims worker person held w.0 w.1 in
@@ -170,22 +181,28 @@ shifted : (o1 o2 q1 q2 c1 c2 x y : ℕ) → o2 + x ≡ o1 + y → q2 ≡ q1 + x 
 shifted o1 o2 q1 q2 c1 c2 x y f g h = omega arith
 
 -- a claim ends
-claim_over : (i : ℕ) (claims : List (Option ℕ)) (worker person : ℕ) → numbered claims worker None ≡ Some person → count_by (is_person i) (renumbered claims worker None) + cond (is_person i (Some person)) 1 0 ≡ count_by (is_person i) claims + 0
+claim_over : (i : ℕ) (claims : List (Option ℕ)) (worker person : ℕ) → numbered claims worker None ≡ Some person →
+    count_by (is_person i) (renumbered claims worker None) + cond (is_person i (Some person)) 1 0 ≡ count_by
+    (is_person i) claims + 0
 claim_over i claims worker person e =
     let w = numbered_in claims worker person e in
-    subst (λ o. count_by (is_person i) (renumbered claims worker None) + cond (is_person i o) 1 0 ≡ count_by (is_person i) claims + 0) e (count-renumbered (is_person i) claims worker None None w.0 w.1)
+    subst (λ o. count_by (is_person i) (renumbered claims worker None) + cond (is_person i o) 1 0 ≡ count_by
+    (is_person i) claims + 0) e (count-renumbered (is_person i) claims worker None None w.0 w.1)
 
 -- the claimed person gets the object, and its owner waits
-pub accepted_places : (owners : List (Option ℕ)) (queue : List ℕ) (claims : List (Option ℕ)) (worker person j i : ℕ) → 0 < j → j ≤ length owners → numbered claims worker None ≡ Some person →
+pub accepted_places : (owners : List (Option ℕ)) (queue : List ℕ) (claims : List (Option ℕ)) (worker person j i : ℕ)
+    → 0 < j → j ≤ length owners → numbered claims worker None ≡ Some person →
     places (renumbered owners j (Some person)) (requeued queue (owner_of owners j)) (renumbered claims worker None) i ≡ places owners queue claims i
 accepted_places owners queue claims worker person j i h l e =
-    shifted _ _ _ _ _ _ _ _ (count-renumbered (is_person i) owners j (Some person) None h l) (requeued_count i queue (owner_of owners j)) (claim_over i claims worker person e)
+    shifted _ _ _ _ _ _ _ _ (count-renumbered (is_person i) owners j (Some person) None h l)
+    (requeued_count i queue (owner_of owners j)) (claim_over i claims worker person e)
 
 -- the claimed person waits again
 pub released_places : (owners : List (Option ℕ)) (queue : List ℕ) (claims : List (Option ℕ)) (worker person i : ℕ) → numbered claims worker None ≡ Some person →
     places owners (queue ++ person ∷ []) (renumbered claims worker None) i ≡ places owners queue claims i
 released_places owners queue claims worker person i e =
-    shifted (count_by (is_person i) owners) (count_by (is_person i) owners) (count_by (nat_eq i) queue) _ (count_by (is_person i) claims) _ (cond (nat_eq i person) 1 0) (cond (nat_eq i person) 1 0) refl
+    shifted (count_by (is_person i) owners) (count_by (is_person i) owners) (count_by (nat_eq i) queue) _
+    (count_by (is_person i) claims) _ (cond (nat_eq i person) 1 0) (cond (nat_eq i person) 1 0) refl
     (sum_by_push (λ x. cond (nat_eq i x) 1 0) queue person)
     (claim_over i claims worker person e)
 
@@ -197,7 +214,8 @@ person_is_some i (Some k) = elim (eqb_tells i k) [
 ]
 
 -- the front of the queue goes to the claims
-pub claimed_places : (owners : List (Option ℕ)) (queue : List ℕ) (claims : List (Option ℕ)) (worker i : ℕ) → 0 < worker → worker ≤ length claims → numbered claims worker None ≡ None → 0 < length queue →
+pub claimed_places : (owners : List (Option ℕ)) (queue : List ℕ) (claims : List (Option ℕ)) (worker i : ℕ) →
+    0 < worker → worker ≤ length claims → numbered claims worker None ≡ None → 0 < length queue →
     places owners (drop 1 queue) (renumbered claims worker (Some (get_or queue 0 0))) i ≡ places owners queue claims i
 claimed_places owners queue claims worker i h l free some =
     let c = count-renumbered (is_person i) claims worker (Some (get_or queue 0 0)) None h l in
@@ -215,7 +233,8 @@ one_at_least : (n k : ℕ) → 0 < one_if_person n k → IsNumber n k
 one_at_least n k h = record { first = grind (arith, nat_tests); last = grind (arith, nat_tests) }
 
 -- a claimed person is one of the problem
-pub held_person : (n : ℕ) (owners : List (Option ℕ)) (queue : List ℕ) (claims : List (Option ℕ)) (worker person : ℕ) → IsPlaced n owners queue claims → numbered claims worker None ≡ Some person → IsNumber n person
+pub held_person : (n : ℕ) (owners : List (Option ℕ)) (queue : List ℕ) (claims : List (Option ℕ)) (worker person : ℕ)
+    → IsPlaced n owners queue claims → numbered claims worker None ≡ Some person → IsNumber n person
 held_person n owners queue claims worker person placed held =
     let w = numbered_in claims worker person held in
     let c = person_there claims worker person held w.0 w.1 in
@@ -223,18 +242,24 @@ held_person n owners queue claims worker person placed held =
     one_at_least n person (omega arith)
 
 -- the person who waits first is one of the problem
-pub claimed_person : (n : ℕ) (owners : List (Option ℕ)) (queue : List ℕ) (claims : List (Option ℕ)) (person : ℕ) (rest : List ℕ) → IsPlaced n owners queue claims → queue ≡ person ∷ rest → IsNumber n person
+pub claimed_person : (n : ℕ) (owners : List (Option ℕ)) (queue : List ℕ) (claims : List (Option ℕ)) (person : ℕ)
+    (rest : List ℕ) → IsPlaced n owners queue claims → queue ≡ person ∷ rest → IsNumber n person
 claimed_person n owners queue claims person rest placed e =
     let p = placed person in
-    let c : count_by (nat_eq person) queue ≡ cond (nat_eq person person) 1 0 + count_by (nat_eq person) rest = ap (count_by (nat_eq person)) e ∙ sum_by-cons (λ y. cond (nat_eq person y) 1 0) person rest in
+    let c : count_by (nat_eq person) queue ≡ cond (nat_eq person person) 1 0 + count_by (nat_eq person) rest =
+    ap (count_by (nat_eq person)) e ∙ sum_by-cons (λ y. cond (nat_eq person y) 1 0) person rest in
     let s = one_self person in
     one_at_least n person (omega arith)
 
 -- the number of owned objects, after one more got an owner
-pub owned_more : (owners : List (Option ℕ)) (j p k was more : ℕ) (old : Option ℕ) → k ≡ j - 1 → 0 < j → j ≤ length owners → was ≡ count_by is_some owners → old ≡ numbered owners j None → more + cond (is_some old) 1 0 ≡ 1 →
+pub owned_more : (owners : List (Option ℕ)) (j p k was more : ℕ) (old : Option ℕ) → k ≡ j - 1 → 0 < j →
+    j ≤ length owners → was ≡ count_by is_some owners → old ≡ numbered owners j None →
+    more + cond (is_some old) 1 0 ≡ 1 →
     was + more ≡ count_by is_some (set owners k (Some p))
 owned_more owners j p k was more old e h l w o m =
     let c = count-renumbered is_some owners j (Some p) None h l in
-    let s : count_by is_some (set owners k (Some p)) ≡ count_by is_some (renumbered owners j (Some p)) = ap (λ x. count_by is_some (set owners x (Some p))) e ∙ ap (count_by is_some) (sym (renumber-set owners j (Some p) h)) in
+    let s : count_by is_some (set owners k (Some p)) ≡ count_by is_some (renumbered owners j (Some p)) =
+    ap (λ x. count_by is_some (set owners x (Some p))) e ∙
+    ap (count_by is_some) (sym (renumber-set owners j (Some p) h)) in
     let d : cond {A = ℕ} (is_some old) 1 0 ≡ cond {A = ℕ} (is_some (numbered owners j None)) 1 0 = ap (λ (x : Option ℕ). cond {A = ℕ} (is_some x) 1 0) o in
     omega arith

@@ -1,5 +1,6 @@
 -- How a contract sees a book.
-use Rattle.std.specs.Prelude.{◌≡◌, ℕ, ℤ, pos, ◌+◌, ◌-◌, ◌+ℤ◌, ◌-ℤ◌, List, [], ◌∷◌, Option, None, Some, Bool, false, cond, nat_eq, nat_le, ◌&&◌, count_by, length, int_div}
+use Rattle.std.specs.Prelude.{◌≡◌, ℕ, ℤ, pos, ◌+◌, ◌-◌, ◌+ℤ◌, ◌-ℤ◌, List, [], ◌∷◌, Option, None, Some, Bool, false}
+use Rattle.std.specs.Prelude.{cond, nat_eq, nat_le, ◌&&◌, count_by, length, int_div}
 use Rattle.assign_core.specs.Hall.{HallLists}
 use Rattle.assign_core.specs.Numbered.{numbered}
 use Rattle.scaled_values.specs.Scaled.{ScaledProblem, greatest_of, top_of}

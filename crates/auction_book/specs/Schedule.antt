@@ -31,7 +31,8 @@ abbrev pub state_next : Event → BookData → WorkerState → WorkerState
 state_next e b state = record {
   table = table_kept_up e.catch_up b state.table;
   version = version_kept_up e.catch_up b state.version;
-  offer = prepared (book_next e.catch_up b e.worker).base (table_kept_up e.catch_up b state.table) (version_kept_up e.catch_up b state.version) (claim_of (book_next e.catch_up b e.worker));
+  offer = prepared (book_next e.catch_up b e.worker).base (table_kept_up e.catch_up b state.table)
+      (version_kept_up e.catch_up b state.version) (claim_of (book_next e.catch_up b e.worker));
   accepted = numbered b.counts e.worker 0;
 }
 

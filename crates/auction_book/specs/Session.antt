@@ -38,7 +38,8 @@ note_of (Err r) = note.Refused r
 -- the note on an offer that was submitted, or searched and recorded, without a refused growth
 abbrev pub IsNoted : BookData → ℕ → Option Offer → BookData → Note → Type 0
 IsNoted b worker None new told = (new ≡ b) × (told ≡ note.Nothing)
-IsNoted b worker (Some (made.Bid bid)) new told = (answer : Result Accepted Refused) × (answer ≢ Err Memory) × IsSubmitted b worker bid answer new × (told ≡ note_of answer)
+IsNoted b worker (Some (made.Bid bid)) new told = (answer : Result Accepted Refused) × (answer ≢ Err Memory) ×
+    IsSubmitted b worker bid answer new × (told ≡ note_of answer)
 IsNoted b worker (Some (made.Below below)) new told = IsReachRecorded b worker below.person new × (told ≡ note.Nothing)
 
 -- the note on an offer that met a refused growth: the bid is refused, or the claim is given up

@@ -25,4 +25,5 @@ book_of b = record {
 
 -- the queue has its room, the owned objects and the workers are counted, and the book is free
 abbrev pub IsKept : Inside → Type 0
-IsKept b = (length b.owners.items ≤ deque_capacity b.queue) × (b.owned ≡ count_by is_some b.owners.items) × (b.workers ≡ length b.claims.items) × IsFree (book_of b)
+IsKept b = (length b.owners.items ≤ deque_capacity b.queue) × (b.owned ≡ count_by is_some b.owners.items) ×
+    (b.workers ≡ length b.claims.items) × IsFree (book_of b)

@@ -25,9 +25,12 @@ IsHigh b bid = (price_of (prices_of b) bid.object +ℤ b.ask.eps) ≤ℤ bid.lev
 abbrev pub IsSubmitted : BookData → ℕ → Bid → Result Accepted Refused → BookData → Type 0
 IsSubmitted b worker bid (Err NotClaimed) new = (Holds b worker bid.person → ⊥) × (new ≡ b)
 IsSubmitted b worker bid (Err WrongPhase) new = Holds b worker bid.person × (bid.phase ≡ b.ask.phase → ⊥) × (new ≡ released b worker bid.person)
-IsSubmitted b worker bid (Err (TooLow price)) new = Holds b worker bid.person × (bid.phase ≡ b.ask.phase) × (bid.level <ℤ (price +ℤ b.ask.eps)) × (price ≡ price_of (prices_of b) bid.object) × (new ≡ released b worker bid.person)
+IsSubmitted b worker bid (Err (TooLow price)) new = Holds b worker bid.person × (bid.phase ≡ b.ask.phase) ×
+    (bid.level <ℤ (price +ℤ b.ask.eps)) × (price ≡ price_of (prices_of b) bid.object) ×
+    (new ≡ released b worker bid.person)
 IsSubmitted b worker bid (Err Memory) new = Holds b worker bid.person × (bid.phase ≡ b.ask.phase) × IsHigh b bid × (new ≡ released b worker bid.person)
-IsSubmitted b worker bid (Ok a) new = Holds b worker bid.person × (bid.phase ≡ b.ask.phase) × IsHigh b bid × (a.evicted ≡ owner_of b.owners bid.object) × (new ≡ accepted b worker bid)
+IsSubmitted b worker bid (Ok a) new = Holds b worker bid.person × (bid.phase ≡ b.ask.phase) × IsHigh b bid ×
+    (a.evicted ≡ owner_of b.owners bid.object) × (new ≡ accepted b worker bid)
 
 -- whether the set was recorded or why it was refused, and the book afterwards
 abbrev pub IsRecorded : BookData → ℕ → BelowFloor → HallLists → Result (Unit {0}) Refused → BookData → Type 0

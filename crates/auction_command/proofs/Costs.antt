@@ -1,5 +1,6 @@
 -- The costs that a report gives, one person at a time.
-use Rattle.std.proofs.Common.{◌≡◌, ℕ, ℤ, pos, zero, suc, ◌+◌, ◌<◌, ◌≤◌, ◌+ℤ◌, List, [], ◌∷◌, IsSome, length, drop, get_or, unwrap_or, arith, sym, ap, ◌∙◌, subst, refl, add-one}
+use Rattle.std.proofs.Common.{◌≡◌, ℕ, ℤ, pos, zero, suc, ◌+◌, ◌<◌, ◌≤◌, ◌+ℤ◌, List, [], ◌∷◌, IsSome, length, drop}
+use Rattle.std.proofs.Common.{get_or, unwrap_or, arith, sym, ap, ◌∙◌, subst, refl, add-one}
 use Rattle.std.proofs.lemmas.List.{length-map}
 use Rattle.assign_core.specs.Rows.{Listing, IsCost, IsProblem, listed_in}
 use Rattle.assign_core.specs.Assignment.{AreListed, total}
@@ -8,7 +9,8 @@ use Rattle.assign_core.proofs.Zips.{zip_at}
 use Rattle.auction_command.specs.Findings.{HasCost, HaveCosts, objects_of}
 
 -- a cost that a pair has is in range
-pub cost_at : (rows : List Listing) (pairs : List (ℕ × ℤ)) (i : ℕ) (e : ℕ × ℤ) → IsProblem rows → HaveCosts rows pairs → i < length pairs → e ≡ get_or pairs i e → IsCost e.1
+pub cost_at : (rows : List Listing) (pairs : List (ℕ × ℤ)) (i : ℕ) (e : ℕ × ℤ) → IsProblem rows →
+    HaveCosts rows pairs → i < length pairs → e ≡ get_or pairs i e → IsCost e.1
 cost_at rows pairs i e problem have lt is =
     let long = length_zip HasCost rows pairs have in
     let at = zip_at HasCost rows pairs i [] e have (omega arith) in
@@ -25,7 +27,8 @@ total_suc (row ∷ rows) (e ∷ pairs) (suc i) d have lt = total_suc rows pairs 
 -- the cost of a pair and the total after it
 pub total_more : (rows : List Listing) (pairs : List (ℕ × ℤ)) (i : ℕ) (e : ℕ × ℤ) → HaveCosts rows pairs → i < length pairs → e ≡ get_or pairs i e →
     total (drop i rows) (drop i (objects_of pairs)) ≡ e.1 +ℤ total (drop (i + 1) rows) (drop (i + 1) (objects_of pairs))
-total_more rows pairs i e have lt is = subst (λ f. total (drop i rows) (drop i (objects_of pairs)) ≡ f.1 +ℤ total (drop (i + 1) rows) (drop (i + 1) (objects_of pairs))) (sym is) (rw add-one (total_suc rows pairs i e have lt))
+total_more rows pairs i e have lt is = subst (λ f. total (drop i rows) (drop i (objects_of pairs)) ≡ f.1 +ℤ total
+    (drop (i + 1) rows) (drop (i + 1) (objects_of pairs))) (sym is) (rw add-one (total_suc rows pairs i e have lt))
 
 no_objects : (rows : List Listing) → total rows [] ≡ pos 0
 no_objects [] = refl

@@ -23,7 +23,8 @@ use Rattle.command_line.specs.declared.words.Words.{Words}
 use Rattle.command_line.specs.declared.words.Words.TheVariants.{Solve, Verify}
 
 -- nothing is done if the input can't be read after the report
-pub no_input_done : (asked : Words) (standard : Option (List ℕ)) (files : Openings) (text : Option (Option (List ℕ))) (old : Option (List ℕ)) (why : NoFile) (end : ProgramEnd) →
+pub no_input_done : (asked : Words) (standard : Option (List ℕ)) (files : Openings)
+    (text : Option (Option (List ℕ))) (old : Option (List ℕ)) (why : NoFile) (end : ProgramEnd) →
     FailsToOpen files (input_name asked) why → EndsAbsent named_for.Input why end → Opens files (report_name asked) text → Does asked standard files old old end
 no_input_done asked standard files text old no_file.Unopened end f e o = rw e.1 ((text, o), f, Keeps-refl old)
 no_input_done asked standard files text old no_file.Memory end f e o = rw e.1 (Keeps-refl old)
@@ -35,18 +36,25 @@ line_cut_off old fault =
     (line_of fault, omega arith, ([], Appends-nil old, refl))
 
 -- the problem is the text of the named file
-pub file_text : {X : Type 0} (files : Openings) (name : Option Text) (standard : Option (List ℕ)) (remaining : X → Option (List ℕ)) (x : X) → Opens files name (option_map remaining (Some x)) → IsProblemText files name standard (remaining x)
+pub file_text : {X : Type 0} (files : Openings) (name : Option Text) (standard : Option (List ℕ)) (remaining : X →
+    Option (List ℕ)) (x : X) → Opens files name (option_map remaining (Some x)) → IsProblemText files name standard
+    (remaining x)
 file_text files (Some name) standard remaining x o = o
 file_text files None standard remaining x o = absurd o
 
 -- the problem is that of standard input
-pub standard_text : {X : Type 0} (files : Openings) (name : Option Text) (standard : Option (List ℕ)) (remaining : X → Option (List ℕ)) → Opens files name (option_map remaining None) → IsProblemText files name standard standard
+pub standard_text : {X : Type 0} (files : Openings) (name : Option Text) (standard : Option (List ℕ))
+    (remaining : X → Option (List ℕ)) → Opens files name (option_map remaining None) →
+    IsProblemText files name standard standard
 standard_text files (Some name) standard remaining o = absurd o
 standard_text files None standard remaining o = refl
 
 -- a run of `solve` on opened files is done
-pub solve_done : (solver : Solver) (start input : Option (String Global)) (progress : Bool) (standard problem : Option (List ℕ)) (files : Openings) (text : Option (Option (List ℕ))) (old new : Option (List ℕ)) (end : ProgramEnd) →
-    Opens files (option_map string_bytes start) text → IsProblemText files (option_map string_bytes input) standard problem → SolveEnd solver problem text old new end →
+pub solve_done : (solver : Solver) (start input : Option (String Global)) (progress : Bool)
+    (standard problem : Option (List ℕ)) (files : Openings) (text : Option (Option (List ℕ)))
+    (old new : Option (List ℕ)) (end : ProgramEnd) →
+    Opens files (option_map string_bytes start) text → IsProblemText files (option_map string_bytes input)
+    standard problem → SolveEnd solver problem text old new end →
     Does (Solve solver.options start solver.method input progress) standard files old new end
 solve_done solver start input progress standard problem files text old new (Reported ended) o p h = (text, o, problem, p, h)
 solve_done solver start input progress standard problem files text old new (Checked verified) o p h = absurd h
@@ -61,7 +69,8 @@ solve_done solver start input progress standard problem files text old new (Fail
 solve_done solver start input progress standard problem files text old new (Failed (faults.Stuck person) written) o p h = (text, o, problem, p, h)
 
 -- a run of `verify` on opened files is done
-pub verify_done : (verifier : Verifier) (name : String Global) (input : Option (String Global)) (standard problem : Option (List ℕ)) (files : Openings) (text old new : Option (List ℕ)) (end : ProgramEnd) →
+pub verify_done : (verifier : Verifier) (name : String Global) (input : Option (String Global))
+    (standard problem : Option (List ℕ)) (files : Openings) (text old new : Option (List ℕ)) (end : ProgramEnd) →
     files (string_bytes name) (Ok text) → IsProblemText files (option_map string_bytes input) standard problem → VerifyEnd verifier problem text old new end →
     Does (Verify verifier.sparse verifier.sense name input) standard files old new end
 verify_done verifier name input standard problem files text old new (Reported ended) o p h = absurd h

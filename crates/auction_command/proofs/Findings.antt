@@ -20,7 +20,9 @@ use Rattle.report.specs.Reports.{Report, best, hall}
 use Rattle.auction_command.specs.declared.finding.Finding.{Finding}
 use Rattle.auction_command.specs.declared.finding.Finding.TheVariants.{Hall, OtherCost}
 use Rattle.auction_command.specs.declared.verify.Verified.TheVariants.{Yes, No}
-use Rattle.auction_command.specs.Findings.{HaveOneFinding, Follows, HasCost, HasOtherCost, HaveCosts, IsFoundInReport, IsFoundInCosts, IsFoundUnder, IsSo, objects_of, sense_of, verdict_of}
+use Rattle.auction_command.specs.Findings.{HaveOneFinding, Follows, HasCost, HasOtherCost, HaveCosts}
+use Rattle.auction_command.specs.Findings.{IsFoundInReport, IsFoundInCosts, IsFoundUnder, IsSo, objects_of}
+use Rattle.auction_command.specs.Findings.{sense_of, verdict_of}
 
 no_is_yes : No ≡ Yes → ⊥
 no_is_yes e = cc
@@ -47,7 +49,8 @@ one_follows : (IsBeyond : Finding → Type 0) (v : Verdict) (first second : Find
 one_follows IsBeyond verdicts.Yes first second one a b = one first second a b
 one_follows IsBeyond fault first second one a b = a ∙ sym b
 
-reports_differ : (rows : List Listing) (report : Report) (first second : Finding) → IsProblem rows → IsFoundInReport rows report first → IsFoundInReport rows report second → first ≡ second
+reports_differ : (rows : List Listing) (report : Report) (first second : Finding) → IsProblem rows →
+    IsFoundInReport rows report first → IsFoundInReport rows report second → first ≡ second
 reports_differ rows (best sense cost pairs None) first second problem a b = a ∙ sym b
 reports_differ rows (best sense cost pairs (Some prices)) first second problem a b =
     let v = differ _ rows _ prices a.0 b.0 a.1 b.1 in
@@ -62,14 +65,16 @@ findings_differ wanted rows report first second problem (inr a) (inl b) = absurd
 findings_differ wanted rows report first second problem (inr a) (inr b) = reports_differ rows report first second problem a.1 b.1
 
 -- an assignment with prices that prove it optimal, and its costs with their sum
-costs_are_so : (sense : Sense) (rows : List Listing) (cost : ℤ) (pairs : List (ℕ × ℤ)) (finding : Finding) → IsFoundInCosts sense rows cost pairs finding → verdict_of finding ≡ Yes →
+costs_are_so : (sense : Sense) (rows : List Listing) (cost : ℤ) (pairs : List (ℕ × ℤ)) (finding : Finding) →
+    IsFoundInCosts sense rows cost pairs finding → verdict_of finding ≡ Yes →
     HaveCosts rows pairs × (cost ≡ total rows (objects_of pairs))
 costs_are_so sense rows cost pairs finding (inl a) y = absurd (no_is_yes (sym (ap verdict_of a.2) ∙ y))
 costs_are_so sense rows cost pairs finding (inr (inl a)) y = absurd (no_is_yes (sym (ap verdict_of a.2) ∙ y))
 costs_are_so sense rows cost pairs finding (inr (inr a)) y = (a.0, a.1)
 
 -- a fault of the checker isn't its Yes
-follows_yes : (IsBeyond : Finding → Type 0) (v : Verdict) (finding : Finding) → Follows IsBeyond v finding → verdict_of finding ≡ Yes → (v ≡ verdicts.Yes) × IsBeyond finding
+follows_yes : (IsBeyond : Finding → Type 0) (v : Verdict) (finding : Finding) → Follows IsBeyond v finding →
+    verdict_of finding ≡ Yes → (v ≡ verdicts.Yes) × IsBeyond finding
 follows_yes IsBeyond verdicts.Yes finding f y = (refl, f)
 follows_yes IsBeyond fault finding f y = absurd (no_is_yes (sym (ap verdict_of f) ∙ y))
 
@@ -78,7 +83,8 @@ hall_yes halls.Yes y = refl
 hall_yes fault y = absurd (no_is_yes y)
 
 -- if there is no fault, the report is right
-found_in_is_so : (rows : List Listing) (report : Report) (finding : Finding) → IsProblem rows → IsFoundInReport rows report finding → verdict_of finding ≡ Yes → IsSo rows report
+found_in_is_so : (rows : List Listing) (report : Report) (finding : Finding) → IsProblem rows →
+    IsFoundInReport rows report finding → verdict_of finding ≡ Yes → IsSo rows report
 found_in_is_so rows (best sense cost pairs None) finding problem found y = absurd (no_is_yes (sym (ap verdict_of found) ∙ y))
 found_in_is_so rows (best sense cost pairs (Some prices)) finding problem found y =
     let beyond = follows_yes _ found.0 finding found.2 y in
@@ -90,6 +96,7 @@ found_in_is_so rows (hall sense persons objects) finding problem found y =
     let set = subst (IsHallVerdict (length rows) rows persons objects) v found.1 in
     (set, λ xs a. no_assignment rows persons objects xs set a)
 
-pub found_is_so : (wanted : Option Sense) (rows : List Listing) (report : Report) (finding : Finding) → IsProblem rows → IsFoundUnder wanted rows report finding → verdict_of finding ≡ Yes → IsSo rows report
+pub found_is_so : (wanted : Option Sense) (rows : List Listing) (report : Report) (finding : Finding) →
+    IsProblem rows → IsFoundUnder wanted rows report finding → verdict_of finding ≡ Yes → IsSo rows report
 found_is_so wanted rows report finding problem (inl other) y = absurd (no_is_yes (sym (ap verdict_of other.1) ∙ y))
 found_is_so wanted rows report finding problem (inr found) y = found_in_is_so rows report finding problem found.1 y

@@ -25,7 +25,8 @@ settled sense rows (Hall h) problem proof = λ xs a. no_assignment rows h.person
 
 -- what a method comes to, where it is a proof
 pub solution_of : (solver : Solver) (rows : List Listing) (prices : List ℤ) (outcome : Outcome) → IsProblem rows →
-    IsOutcomeBy solver.method solver.options (problem_under solver.options.sense rows) prices outcome → IsProof (problem_under solver.options.sense rows) outcome →
+    IsOutcomeBy solver.method solver.options (problem_under solver.options.sense rows) prices outcome →
+    IsProof (problem_under solver.options.sense rows) outcome →
     IsSolution solver rows prices outcome
 solution_of solver rows prices outcome problem reached proof =
     record { reached = reached; proof = proof; settled = settled solver.options.sense rows outcome problem proof }
@@ -47,7 +48,8 @@ reports solver rows prices outcome old new (Err Write) s p = (
 reports solver rows prices outcome old new (Err fault) s p = absurd p
 
 -- the same of a problem with benefits
-pub reports_on : (solver : Solver) (rows : List Listing) (prices : List ℤ) (s : ScaledProblem) (outcome : Outcome) (old new : Option (List ℕ)) (result : Result Ended CliFault) →
+pub reports_on : (solver : Solver) (rows : List Listing) (prices : List ℤ) (s : ScaledProblem) (outcome : Outcome)
+    (old new : Option (List ℕ)) (result : Result Ended CliFault) →
     s ≡ problem_under solver.options.sense rows → IsProblem s.problem → IsOutcomeBy solver.method solver.options s prices outcome → IsProof s outcome →
     Puts solver.options s.problem outcome old new result → Reports solver rows prices old new result
 reports_on solver rows prices s outcome old new result is problem reached proof puts =

@@ -18,8 +18,10 @@ pub low_greatest : (prices : List ℤ) → All IsFirstPrice prices → greatest_
 low_greatest prices h = greatest_holds IsFirstPrice prices (omega (arith, ints)) h
 
 -- the result of a run over a problem and first prices is the outcome of the whole run
-pub reports_outcome : (solver : Solver) (input : Option (List ℕ)) (start : Option (Option (List ℕ))) (rows : List Listing) (prices : List ℤ) (old new : Option (List ℕ)) (result : Result Ended CliFault) →
-    IfSome input (λ bytes. Reads solver.options.sparse bytes (Ok rows)) → BeginsAt start rows prices → Reports solver rows prices old new result → SolveOutcome solver input start old new result
+pub reports_outcome : (solver : Solver) (input : Option (List ℕ)) (start : Option (Option (List ℕ)))
+    (rows : List Listing) (prices : List ℤ) (old new : Option (List ℕ)) (result : Result Ended CliFault) →
+    IfSome input (λ bytes. Reads solver.options.sparse bytes (Ok rows)) → BeginsAt start rows prices →
+    Reports solver rows prices old new result → SolveOutcome solver input start old new result
 reports_outcome solver input start rows prices old new (Ok ended) i b r = (r.0, (rows, prices, i, b, r.1), r.2)
 reports_outcome solver input start rows prices old new (Err Write) i b r = (r.0, r.1, (rows, prices, i, b, r.2), r.3)
 reports_outcome solver input start rows prices old new (Err Memory) i b r = r

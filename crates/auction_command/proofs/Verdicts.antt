@@ -12,7 +12,8 @@ use Rattle.auction_command.specs.Verify.{IsFinding}
 use Rattle.auction_command.proofs.Findings.{found_is_so}
 
 pub finding_is : (verifier : Verifier) (input text : Option (List ℕ)) (rows : List Listing) (report : Report) (finding : Finding) → IsProblem rows →
-    IfSome input (λ bytes. Reads verifier.sparse bytes (Ok rows)) → IfSome text (λ bytes. Answers bytes (Ok report)) → IsFoundUnder verifier.sense rows report finding → IsFinding verifier input text finding
+    IfSome input (λ bytes. Reads verifier.sparse bytes (Ok rows)) → IfSome text (λ bytes. Answers bytes (Ok report))
+    → IsFoundUnder verifier.sense rows report finding → IsFinding verifier input text finding
 finding_is verifier input text rows report finding problem read said found = record {
   rows = rows;
   report = report;

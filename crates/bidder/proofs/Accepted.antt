@@ -24,7 +24,8 @@ pub record IsPlaced (s : ScaledProblem) (bid : Bid) : Type 0 where
 pub sound_placed : (s : ScaledProblem) (ask : Ask) (q : List ℤ) (bid : Bid) → IsProblem s.problem → IsSound s ask q bid → IsPlaced s bid
 sound_placed s ask q bid problem sound =
     let long = length-benefit_rows s.sense s.problem in
-    let person : IsNumber (length s.problem) bid.person = subst (λ n. IsNumber n bid.person) long (listing_within (benefits_of s) bid.person bid.object sound.listed) in
+    let person : IsNumber (length s.problem) bid.person = subst (λ n. IsNumber n bid.person) long
+    (listing_within (benefits_of s) bid.person bid.object sound.listed) in
     record {
       person = person;
       object = object_within (length s.problem) (benefits_at s bid.person) bid.object (benefit_row_is s bid.person problem person).within sound.listed;
@@ -47,7 +48,8 @@ slack_raised eps p row j level least up number near = λ k d lt.
       | inl t ↦
           let found : listed_in row j ≡ Some e.1 = subst (λ i. listed_in row i ≡ Some e.1) t.1 (rising_listed row k d up lt) in
           let mine : e.1 ≡ listed_or_zero row j = sym (ap (λ o. unwrap_or o (pos 0)) found) in
-          own_entry eps (listed_or_zero row j) e.1 (price_of (renumbered p j level) j) level (price_of (renumbered p j level) e.0) least mine same (ap (price_of (renumbered p j level)) t.1 ∙ same)
+          own_entry eps (listed_or_zero row j) e.1 (price_of (renumbered p j level) j) level
+          (price_of (renumbered p j level) e.0) least mine same (ap (price_of (renumbered p j level)) t.1 ∙ same)
       | inr t ↦
           let at : price_of (renumbered p j level) e.0 ≡ price_of p e.0 = numbered-other p j e.0 level (pos 0) t.1 in
           other_entry eps (listed_or_zero row j) e.1 (price_of (renumbered p j level) j) level (price_of (renumbered p j level) e.0) same
@@ -55,7 +57,8 @@ slack_raised eps p row j level least up number near = λ k d lt.
     ]
 
 -- a sound bid gives slackness once it is accepted
-pub accepted_slack : (s : ScaledProblem) (ask : Ask) (p : List ℤ) (bid : Bid) → IsProblem s.problem → pos 0 ≤ℤ ask.eps → length p ≡ length s.problem → IsSound s ask p bid →
+pub accepted_slack : (s : ScaledProblem) (ask : Ask) (p : List ℤ) (bid : Bid) → IsProblem s.problem →
+    pos 0 ≤ℤ ask.eps → length p ≡ length s.problem → IsSound s ask p bid →
     HasSlack ask.eps (renumbered p bid.object bid.level) (benefits_at s bid.person) bid.object
 accepted_slack s ask p bid problem least long sound =
     let placed = sound_placed s ask p bid problem sound in

@@ -1,5 +1,7 @@
 -- Lanes of benefits less narrow prices, compared with a limit.
-use Rattle.std.proofs.Common.{◌≡◌, ℕ, ℤ, pos, ◌-ℤ◌, ◌≤ℤ◌, ◌+◌, ◌-◌, ◌≤◌, ◌<◌, ◌%◌, ◌^◌, Bool, true, false, not, cond, eqb, List, length, map, replicate, get_or, to_z, of_z, w64, refl, sym, ap, ap₂, ◌∙◌, arith, inl, inr, ◌⊎◌, SFits}
+use Rattle.std.proofs.Common.{◌≡◌, ℕ, ℤ, pos, ◌-ℤ◌, ◌≤ℤ◌, ◌+◌, ◌-◌, ◌≤◌, ◌<◌, ◌%◌, ◌^◌, Bool, true, false, not}
+use Rattle.std.proofs.Common.{cond, eqb, List, length, map, replicate, get_or, to_z, of_z, w64, refl, sym, ap, ap₂}
+use Rattle.std.proofs.Common.{◌∙◌, arith, inl, inr, ◌⊎◌, SFits}
 use Rattle.std.specs.List.{All}
 use Rattle.std.specs.Int.Signed.{lt_z}
 use Rattle.std.proofs.lemmas.Int.{ints, to_z-of_z, wrapping_sub_is, int_wrap_fits}
@@ -28,8 +30,10 @@ lane_clear limit value lane is clear = elim (either (lt_z limit value)) [
 wrapped_is : (b n : ℤ) → SFits w64 b → SFits w64 n → SFits w64 (b -ℤ n) → to_z w64 ((of_z w64 b + (2 ^ 64 - of_z w64 n)) % 2 ^ 64) ≡ b -ℤ n
 wrapped_is b n f g h = wrapping_sub_is w64 b n f g ∙ int_wrap_fits w64 (b -ℤ n) h
 
-pub lanes_none : (bs ns : List ℤ) (from : ℕ) (limit : ℤ) (less sub : ℕ → ℕ → ℕ) → from + 16 ≤ length bs → length bs ≡ length ns → All IsBenefit bs → All IsNarrow ns → SFits w64 limit
-    → eqb (mask_l (map (top 63) (zip2 less (replicate 16 (of_z w64 limit)) (zip2 sub (map (of_z w64) (chunk from 16 bs)) (map (of_z w64) (chunk from 16 ns))))) % 2 ^ 64) 0 ≡ true
+pub lanes_none : (bs ns : List ℤ) (from : ℕ) (limit : ℤ) (less sub : ℕ → ℕ → ℕ) → from + 16 ≤ length bs →
+    length bs ≡ length ns → All IsBenefit bs → All IsNarrow ns → SFits w64 limit
+    → eqb (mask_l (map (top 63) (zip2 less (replicate 16 (of_z w64 limit))
+    (zip2 sub (map (of_z w64) (chunk from 16 bs)) (map (of_z w64) (chunk from 16 ns))))) % 2 ^ 64) 0 ≡ true
     → ((a b : ℕ) → less a b ≡ cond (lt_z (to_z w64 a) (to_z w64 b)) (2 ^ 64 - 1) 0)
     → ((a b : ℕ) → sub a b ≡ (a + (2 ^ 64 - b)) % 2 ^ 64)
     → (k : ℕ) (d : ℤ) → from ≤ k → k < from + 16 → (get_or bs k d -ℤ get_or ns k d) ≤ℤ limit
@@ -47,7 +51,8 @@ lanes_none bs ns from limit less sub room long benefits narrow fits none is_less
     let l = of_z w64 limit in
     let z = map (less l) v in
     let long_z = length-map v (less l) ∙ long_v in
-    let mask = ap (λ w. mask_l (map (top 63) w) % 2 ^ 64) (zip2_splat_left less l 16 v long_v) ∙ mask_l-mod (map (top 63) z) 64 (omega (arith, length-map z (top 63))) in
+    let mask = ap (λ w. mask_l (map (top 63) w) % 2 ^ 64) (zip2_splat_left less l 16 v long_v) ∙
+    mask_l-mod (map (top 63) z) 64 (omega (arith, length-map z (top 63))) in
     let whole = leading_from_mask_l (top 63) z (sym mask ∙ eqb-true _ 0 none) in
     let j = k - from in
     let back : from + j ≡ k = omega arith in
@@ -61,7 +66,8 @@ lanes_none bs ns from limit less sub room long benefits narrow fits none is_less
     let fb : SFits w64 b = benefit_fits b benefit in
     let fn : SFits w64 n = narrow_fits n price in
     let left = get_or-map (of_z w64) cb j (pos 0) 0 (omega arith) ∙ ap (of_z w64) (get_or-chunk from 16 bs j (pos 0) at ∙ ap (λ i. get_or bs i (pos 0)) back) in
-    let right = get_or-map (of_z w64) cn j (pos 0) 0 (omega arith) ∙ ap (of_z w64) (get_or-chunk from 16 ns j (pos 0) at ∙ ap (λ i. get_or ns i (pos 0)) back) in
+    let right = get_or-map (of_z w64) cn j (pos 0) 0 (omega arith) ∙
+    ap (of_z w64) (get_or-chunk from 16 ns j (pos 0) at ∙ ap (λ i. get_or ns i (pos 0)) back) in
     let lane = get_or-map (less l) v j 0 0 (omega arith) ∙ ap (less l) (get_or-zip2 sub mb mn j 0 0 0 (omega arith) (omega arith) ∙ ap₂ sub left right) in
     let value = ap (to_z w64) (is_sub (of_z w64 b) (of_z w64 n)) ∙ wrapped_is b n fb fn (difference_fits b n benefit price) in
     let told = lane ∙ is_less l (sub (of_z w64 b) (of_z w64 n)) ∙ ap₂ (λ x y. cond (lt_z x y) (2 ^ 64 - 1) 0) (to_z-of_z w64 limit fits) value in

@@ -1,5 +1,6 @@
 -- Objects that change nothing, since none is above the limit by its narrow price.
-use Rattle.std.proofs.Common.{◌≡◌, ℕ, zero, suc, ℤ, pos, neg_ℤ, ◌-ℤ◌, ◌+ℤ◌, ◌≤ℤ◌, ◌<ℤ◌, ◌+◌, ◌<◌, ◌≤◌, List, [], ◌∷◌, ◌++◌, length, take, get_or, arith, subst, SFits, w64}
+use Rattle.std.proofs.Common.{◌≡◌, ℕ, zero, suc, ℤ, pos, neg_ℤ, ◌-ℤ◌, ◌+ℤ◌, ◌≤ℤ◌, ◌<ℤ◌, ◌+◌, ◌<◌, ◌≤◌, List, []}
+use Rattle.std.proofs.Common.{◌∷◌, ◌++◌, length, take, get_or, arith, subst, SFits, w64}
 use Rattle.std.specs.List.{All}
 use Rattle.std.proofs.lemmas.Int.{ints}
 use Rattle.assign_core.specs.Rows.{Listing}
@@ -21,7 +22,8 @@ difference_fits a n benefit narrow =
     record { sfits = grind (arith, ints) }
 
 -- an object that isn't above the limit at a price that is at most its own
-pub bounded : (row : Listing) (q : List ℤ) (b : BestTwo) (limit : ℤ) (j : ℕ) (a n : ℤ) → IsLimit b.second limit → IsBenefit a → IsNarrow n → n ≤ℤ price_of q j → (a -ℤ n) ≤ℤ limit
+pub bounded : (row : Listing) (q : List ℤ) (b : BestTwo) (limit : ℤ) (j : ℕ) (a n : ℤ) → IsLimit b.second limit →
+    IsBenefit a → IsNarrow n → n ≤ℤ price_of q j → (a -ℤ n) ≤ℤ limit
     → IsBestTwo row q b → All (λ e. e.0 < j) row → IsBestTwo (row ++ (j, a) ∷ []) q b
 bounded row q b limit j a n bound benefit narrow below le is up =
     let w = bound (a -ℤ n) (above a n benefit narrow) le in
@@ -43,7 +45,8 @@ passed benefits narrow q b limit i bound benefit small long lt le is =
     let same = small.below.long in
     let next : i + 1 ≡ suc i = omega arith in
     full_on benefits q b i (pos 0) lt
-    (bounded (row_from 1 (take i benefits)) q b limit (i + 1) (get_or benefits i (pos 0)) (get_or narrow i (pos 0)) bound (benefit i (pos 0) lt) (small.each i (pos 0) (omega arith))
+    (bounded (row_from 1 (take i benefits)) q b limit (i + 1) (get_or benefits i (pos 0)) (get_or narrow i (pos 0))
+    bound (benefit i (pos 0) lt) (small.each i (pos 0) (omega arith))
     (rw next (small.below.each (suc i))) le is (full_below benefits i (omega arith)))
 
 -- n objects from a place on

@@ -1,5 +1,7 @@
 -- Offers are sound for their tables, and each person has only one.
-use Rattle.std.proofs.Common.{◌≡◌, ◌≢◌, ℕ, ℤ, pos, suc, zero, ◌+ℤ◌, ◌-ℤ◌, ◌*ℤ◌, ◌≤ℤ◌, ◌<ℤ◌, ◌<◌, ◌-◌, List, [], length, get_or, Option, None, Some, IsSome, MatchOption, unwrap_or, refl, ap, sym, ◌∙◌, subst, arith}
+use Rattle.std.proofs.Common.{◌≡◌, ◌≢◌, ℕ, ℤ, pos, suc, zero, ◌+ℤ◌, ◌-ℤ◌, ◌*ℤ◌, ◌≤ℤ◌, ◌<ℤ◌, ◌<◌, ◌-◌, List, []}
+use Rattle.std.proofs.Common.{length, get_or, Option, None, Some, IsSome, MatchOption, unwrap_or, refl, ap, sym}
+use Rattle.std.proofs.Common.{◌∙◌, subst, arith}
 use Rattle.std.specs.List.{All}
 use Rattle.std.proofs.lemmas.Int.{ints, clamps, by_lt_z}
 use Rattle.std.proofs.lemmas.List.Elements.{All-nil}
@@ -32,7 +34,8 @@ amount : (row : Listing) (q : List ℤ) (b : BestTwo) (j : ℕ) → j ≡ b.obje
 amount row q b j same is = ap (λ o. unwrap_or o (pos 0)) (worth row q b j same is)
 
 -- the values of the other objects are at most the bar
-under_bar : (row : Listing) (q : List ℤ) (floor : ℤ) (j : ℕ) (s : Option ℤ) → IsSecond row q j s → All (λ e. e.0 ≢ j → e.1 ≤ℤ (bar floor s +ℤ price_of q e.0)) row
+under_bar : (row : Listing) (q : List ℤ) (floor : ℤ) (j : ℕ) (s : Option ℤ) → IsSecond row q j s →
+    All (λ e. e.0 ≢ j → e.1 ≤ℤ (bar floor s +ℤ price_of q e.0)) row
 under_bar row q floor j None is = λ k d lt ne. absurd (ne (is k d lt))
 under_bar row q floor j (Some w) is = λ k d lt ne. let h = is.0 k d lt ne in omega (arith, ints, clamps)
 
@@ -90,12 +93,15 @@ one_step (suc n) step some =
     let back : suc n - 1 ≡ n = omega arith in
     more ∙ ap (λ m. (pos m *ℤ step) +ℤ step) (sym back)
 
-pub sound_topped : (s : ScaledProblem) (start : ℤ) (ask : Ask) (q : List ℤ) (bid : Bid) → 0 < length s.problem → ask.floor ≡ floor_of s start ask.eps → IsSound s ask q bid → bid.level ≤ℤ top_of s start ask.eps
+pub sound_topped : (s : ScaledProblem) (start : ℤ) (ask : Ask) (q : List ℤ) (bid : Bid) → 0 < length s.problem →
+    ask.floor ≡ floor_of s start ask.eps → IsSound s ask q bid → bid.level ≤ℤ top_of s start ask.eps
 sound_topped s start ask q bid some floor sound =
     let steps = one_step (length s.problem) (spread s +ℤ ask.eps) some in
     let topped = sound.topped in
-    within bid.level ask.floor (greatest_benefit s) (least_benefit s) start ask.eps (pos (length s.problem - 1) *ℤ (spread s +ℤ ask.eps)) (pos (length s.problem) *ℤ (spread s +ℤ ask.eps)) steps floor topped where
-      within : (level floor high low start eps fewer all : ℤ) → all ≡ fewer +ℤ ((high -ℤ low) +ℤ eps) → floor ≡ (low -ℤ start) -ℤ fewer → (level +ℤ floor) ≤ℤ (high +ℤ eps) → level ≤ℤ (start +ℤ all)
+    within bid.level ask.floor (greatest_benefit s) (least_benefit s) start ask.eps (pos (length s.problem - 1) *ℤ
+    (spread s +ℤ ask.eps)) (pos (length s.problem) *ℤ (spread s +ℤ ask.eps)) steps floor topped where
+      within : (level floor high low start eps fewer all : ℤ) → all ≡ fewer +ℤ ((high -ℤ low) +ℤ eps) →
+          floor ≡ (low -ℤ start) -ℤ fewer → (level +ℤ floor) ≤ℤ (high +ℤ eps) → level ≤ℤ (start +ℤ all)
       within level floor high low start eps fewer all a b c = omega (arith, ints)
 
 -- a bid and Below exclude each other
@@ -118,7 +124,8 @@ same_below a b e f =
     ap (λ x. let y : BelowFloor = record { person = x; phase = a.phase } in y) e
     ∙ ap (λ x. let y : BelowFloor = record { person = b.person; phase = x } in y) f
 
-bid_once : (s : ScaledProblem) (q : List ℤ) (ask : Ask) (a b : Bid) → a.person ≡ b.person → a.phase ≡ b.phase → a.version ≡ b.version → IsBid s q ask a → IsBid s q ask b → a ≡ b
+bid_once : (s : ScaledProblem) (q : List ℤ) (ask : Ask) (a b : Bid) → a.person ≡ b.person → a.phase ≡ b.phase →
+    a.version ≡ b.version → IsBid s q ask a → IsBid s q ask b → a ≡ b
 bid_once s q ask a b person phase version x y =
     let two = best_two_once (benefits_at s b.person) q x.two y.two (subst (λ i. IsBestTwo (benefits_at s i) q x.two) person x.best) y.best in
     let object = x.object ∙ ap (λ t. t.object) two ∙ sym y.object in
@@ -131,28 +138,36 @@ bid_once s q ask a b person phase version x y =
       level v w bar_v bar_w c d eps e f g h = omega (arith, ints)
 
 -- a person has only one offer
-pub offer_once : (s : ScaledProblem) (q : List ℤ) (version : ℕ) (ask : Ask) (i : ℕ) (a b : Offer) → IsOffer s q version ask i a → IsOffer s q version ask i b → a ≡ b
+pub offer_once : (s : ScaledProblem) (q : List ℤ) (version : ℕ) (ask : Ask) (i : ℕ) (a b : Offer) →
+    IsOffer s q version ask i a → IsOffer s q version ask i b → a ≡ b
 offer_once s q version ask i (made.Bid a) (made.Bid b) x y = ap made.Bid (bid_once s q ask a b (x.0 ∙ sym y.0) (x.1 ∙ sym y.1) (x.2 ∙ sym y.2) x.3 y.3)
-offer_once s q version ask i (made.Bid a) (made.Below b) x y = absurd (exclusive s q ask a x.3 (subst (λ k. IsUnder (benefits_at s k) q ask.floor) (sym x.0) y.2))
-offer_once s q version ask i (made.Below a) (made.Bid b) x y = absurd (exclusive s q ask b y.3 (subst (λ k. IsUnder (benefits_at s k) q ask.floor) (sym y.0) x.2))
+offer_once s q version ask i (made.Bid a) (made.Below b) x y =
+    absurd (exclusive s q ask a x.3 (subst (λ k. IsUnder (benefits_at s k) q ask.floor) (sym x.0) y.2))
+offer_once s q version ask i (made.Below a) (made.Bid b) x y =
+    absurd (exclusive s q ask b y.3 (subst (λ k. IsUnder (benefits_at s k) q ask.floor) (sym y.0) x.2))
 offer_once s q version ask i (made.Below a) (made.Below b) x y = ap made.Below (same_below a b (x.0 ∙ sym y.0) (x.1 ∙ sym y.1))
 
 under_all : (row : Listing) (q : List ℤ) (floor : ℤ) (b : BestTwo) → IsBestTwo row q b → b.best <ℤ floor → IsUnder row q floor
 under_all row q floor b is lt = λ k d in_row. let le = is.greatest k d in_row in omega (arith, ints)
 
 -- the bid at the level at which the object's value is the bar less eps
-pub made_is : (s : ScaledProblem) (q : List ℤ) (version : ℕ) (ask : Ask) (i : ℕ) (b : BestTwo) (level : ℤ) → IsBestTwo (benefits_at s i) q b → ask.floor ≤ℤ b.best → level ≡ ((b.best +ℤ price_of q b.object) -ℤ bar ask.floor b.second) +ℤ ask.eps →
+pub made_is : (s : ScaledProblem) (q : List ℤ) (version : ℕ) (ask : Ask) (i : ℕ) (b : BestTwo) (level : ℤ) →
+    IsBestTwo (benefits_at s i) q b → ask.floor ≤ℤ b.best →
+    level ≡ ((b.best +ℤ price_of q b.object) -ℤ bar ask.floor b.second) +ℤ ask.eps →
     IsBid s q ask (record { person = i; object = b.object; level = level; phase = ask.phase; version = version })
 made_is s q version ask i b level is enough h =
     let benefit = amount (benefits_at s i) q b b.object refl is in
     record { two = b; best = is; object = refl; enough = enough; level = omega (arith, ints) }
 
-from_best : (s : ScaledProblem) (q : List ℤ) (version : ℕ) (ask : Ask) (i : ℕ) (o : Option BestTwo) → MatchOption o (benefits_at s i ≡ []) (IsBestTwo (benefits_at s i) q) → IsOffer s q version ask i (offer_from q version ask i o)
+from_best : (s : ScaledProblem) (q : List ℤ) (version : ℕ) (ask : Ask) (i : ℕ) (o : Option BestTwo) →
+    MatchOption o (benefits_at s i ≡ []) (IsBestTwo (benefits_at s i) q) →
+    IsOffer s q version ask i (offer_from q version ask i o)
 from_best s q version ask i None is = (refl, refl, subst (λ row. IsUnder row q ask.floor) (sym is) (All-nil (λ e. e.1 <ℤ (ask.floor +ℤ price_of q e.0))))
 from_best s q version ask i (Some b) is = by_lt_z {P = IsOffer s q version ask i (offer_from q version ask i (Some b))} b.best ask.floor
     (λ lt. rw (less b.best ask.floor lt) (refl, refl, under_all (benefits_at s i) q ask.floor b is lt))
     (λ le. rw (not_less b.best ask.floor le) (refl, refl, refl, made_is s q version ask i b _ is le refl))
 
 -- the computed offer is the person's
-pub offer_is : (s : ScaledProblem) (q : List ℤ) (version : ℕ) (ask : Ask) (i : ℕ) → IsRising (benefits_at s i) → IsOffer s q version ask i (offer_of s q version ask i)
+pub offer_is : (s : ScaledProblem) (q : List ℤ) (version : ℕ) (ask : Ask) (i : ℕ) → IsRising (benefits_at s i) →
+    IsOffer s q version ask i (offer_of s q version ask i)
 offer_is s q version ask i up = from_best s q version ask i (best_two (benefits_at s i) q) (best_two_is (benefits_at s i) q up)

@@ -1,18 +1,24 @@
 -- What clap finds in words, and given command lines.
-use Rattle.std.proofs.Common.{arith, ◌≡◌, ◌≢◌, ◌∙◌, ◌≤◌, ℕ, refl, sym, ap, ap₂, subst, inl, inr, codes, map, Bool, true, false, List, [], ◌∷◌, Option, Some, None, option_map, unwrap_or}
+use Rattle.std.proofs.Common.{arith, ◌≡◌, ◌≢◌, ◌∙◌, ◌≤◌, ℕ, refl, sym, ap, ap₂, subst, inl, inr, codes, map, Bool}
+use Rattle.std.proofs.Common.{true, false, List, [], ◌∷◌, Option, Some, None, option_map, unwrap_or}
 use Rattle.std.specs.Borrow.{Bor}
 use Rattle.std.specs.Prelude.{Err, IfOk, Ok, Result}
-use Rattle.clap.specs.Words.{App, HasKind, HasMatchesOf, IsAmong, Row, Text, fault_of, first_of, found_of, is_simple, is_simple_and_free, kind_of, one_of, one_text, rows_of, subcommand_of, subcommand_rows_of, takes}
+use Rattle.clap.specs.Words.{App, HasKind, HasMatchesOf, IsAmong, Row, Text, fault_of, first_of, found_of}
+use Rattle.clap.specs.Words.{is_simple, is_simple_and_free, kind_of, one_of, one_text, rows_of, subcommand_of}
+use Rattle.clap.specs.Words.{subcommand_rows_of}
 use Rattle.clap.specs.declared.parser.matches.ArgMatches.{ArgMatches}
 use Rattle.clap.proofs.WalkLemmas.{one_text-rows}
 use Rattle.clap.specs.declared.error.Error.{Error}
 use Rattle.clap.specs.declared.error.kind.ErrorKind.TheVariants.{DisplayVersion, OutOfMemory}
-use Rattle.clap.proofs.OnLiterals.{clap_on_literals}
 use Rattle.std.specs.Str.Parse.{digits_value, without_leading_plus}
 use Rattle.std.proofs.lemmas.Option.{same_Some}
 use Rattle.assign_core.specs.declared.sense.Sense.{Sense}
 use Rattle.assign_core.specs.declared.sense.Sense.TheVariants.{Min, Max}
-use Rattle.command_line.specs.Words.{AskForNoModeAt, AskForNoSenseAt, AsksForVersion, Chooses, ChoosesSolving, IsFlag, IsInRanges, IsNumberFor, NamesMethod, NamesNoMode, NamesNoSense, Places, SolvesFrom, VerifiesFrom, WordsOutcome, full_line, full_options, full_verify_line, input_line, input_verify_line, is_max, lying, method_names, mode_name, program, sense_name, usual_options}
+use Rattle.command_line.specs.Words.{AskForNoModeAt, AskForNoSenseAt, AsksForVersion, Chooses, ChoosesSolving}
+use Rattle.command_line.specs.Words.{IsFlag, IsInRanges, IsNumberFor, NamesMethod, NamesNoMode, NamesNoSense}
+use Rattle.command_line.specs.Words.{Places, SolvesFrom, VerifiesFrom, WordsOutcome}
+use Rattle.command_line.specs.Words.{is_max, lying, method_names}
+use Rattle.command_line.specs.Words.{mode_name, program, sense_name}
 use Rattle.command_line.specs.inside.Words.{IsFaultOf}
 use Rattle.command_line.specs.declared.words.Method.{Method}
 use Rattle.command_line.specs.declared.words.Method.TheVariants.{Auction, Paths}
@@ -24,172 +30,13 @@ use Rattle.command_line.specs.declared.words.Words.{Words}
 use Rattle.command_line.specs.declared.words.Words.TheVariants.{Solve, Verify}
 use Rattle.command_line.specs.declared.words.WordsFault.{WordsFault}
 use Rattle.command_line.specs.declared.words.WordsFault.TheVariants.{Clap, Memory}
-
--- the words of each given line after the program's name
-abbrev pub plain_line : List Text
-plain_line = codes "solve" ∷ []
-
-abbrev pub paths_line : List Text
-paths_line = codes "solve" ∷ codes "--method" ∷ codes "paths" ∷ []
-
-abbrev pub file_line : List Text
-file_line = codes "verify" ∷ codes "--sparse" ∷ codes "report" ∷ []
-
-pub plain_is_taken : (at : Places) (name : Text) → takes (program at) (name ∷ plain_line) ≡ true
-unfolding clap_on_literals
-plain_is_taken at name = refl
-
-pub full_is_taken : (at : Places) (name : Text) → takes (program at) (name ∷ full_line) ≡ true
-unfolding clap_on_literals
-full_is_taken at name = refl
-
-pub paths_is_taken : (at : Places) (name : Text) → takes (program at) (name ∷ paths_line) ≡ true
-unfolding clap_on_literals
-paths_is_taken at name = refl
-
-pub file_is_taken : (at : Places) (name : Text) → takes (program at) (name ∷ file_line) ≡ true
-unfolding clap_on_literals
-file_is_taken at name = refl
-
-pub input_is_taken : (at : Places) (name : Text) → takes (program at) (name ∷ input_line) ≡ true
-unfolding clap_on_literals
-input_is_taken at name = refl
-
-pub input_file_is_taken : (at : Places) (name : Text) → takes (program at) (name ∷ input_verify_line) ≡ true
-unfolding clap_on_literals
-input_file_is_taken at name = refl
-
-pub full_file_is_taken : (at : Places) (name : Text) → takes (program at) (name ∷ full_verify_line) ≡ true
-unfolding clap_on_literals
-full_file_is_taken at name = refl
-
-pub version_is_asked : (at : Places) (name : Text) → fault_of (program at) (name ∷ codes "--version" ∷ []) ≡ DisplayVersion ∷ []
-unfolding clap_on_literals
-version_is_asked at name = refl
-
-simple_program : (at : Places) → is_simple (program at) ≡ true
-unfolding clap_on_literals
-simple_program at = refl
-
-free_program : (at : Places) → is_simple_and_free (program at) ≡ true
-unfolding clap_on_literals
-free_program at = refl
-
--- the values of the options of `solve`, and its files
-pub record Flags : Type 0 where
-  pub name : Text
-  pub sparse : Option Text
-  pub max : Option Text
-  pub prices : Option Text
-  pub start : Option Text
-  pub method : Option Text
-  pub mode : Option Text
-  pub workers : Option Text
-  pub refresh : Option Text
-  pub input : Option Text
-
--- a subcommand, and the values of its options of `solve`
-abbrev pub flags_of : Option (Text × List Row) → Option Flags
-flags_of = option_map (λ f. record {
-  name = f.0;
-  sparse = one_of (codes "sparse") f.1;
-  max = one_of (codes "max") f.1;
-  prices = one_of (codes "prices") f.1;
-  start = first_of (codes "start") f.1;
-  method = first_of (codes "method") f.1;
-  mode = first_of (codes "mode") f.1;
-  workers = one_of (codes "workers") f.1;
-  refresh = one_of (codes "refresh") f.1;
-  input = first_of (codes "input") f.1;
-})
-
--- the values of the options and the files of `verify`
-pub record File : Type 0 where
-  pub name : Text
-  pub sparse : Option Text
-  pub sense : Option Text
-  pub report : Option Text
-  pub input : Option Text
-
--- a subcommand, and the values of its options of `verify`
-abbrev pub file_of : Option (Text × List Row) → Option File
-file_of = option_map (λ f. record {
-  name = f.0;
-  sparse = one_of (codes "sparse") f.1;
-  sense = first_of (codes "sense") f.1;
-  report = first_of (codes "REPORT") f.1;
-  input = first_of (codes "input") f.1;
-})
-
-abbrev pub flag_word : Bool → Text
-flag_word true = codes "true"
-flag_word false = codes "false"
-
-abbrev pub method_word : Method → Text
-method_word Auction = codes "auction"
-method_word Paths = codes "paths"
-
--- the values of the options, with the digits of both numbers
-abbrev pub solve_flags : Method → SolveOpts → Text → Text → Option Text → Option Text → Flags
-solve_flags method o workers refresh start input = record {
-  name = codes "solve";
-  sparse = Some (flag_word o.sparse);
-  max = Some (flag_word (is_max o.sense));
-  prices = Some (flag_word o.prices);
-  start = start;
-  method = Some (method_word method);
-  mode = Some (mode_name o.mode);
-  workers = Some workers;
-  refresh = Some refresh;
-  input = input;
-}
-
-pub plain_flags : (at : Places) (name : Text) → flags_of (subcommand_of (program at) (name ∷ plain_line)) ≡ Some (solve_flags Auction usual_options (codes "4") (codes "1") None None)
-unfolding clap_on_literals
-plain_flags at name = refl
-
-pub paths_flags : (at : Places) (name : Text) → flags_of (subcommand_of (program at) (name ∷ paths_line)) ≡ Some (solve_flags Paths usual_options (codes "4") (codes "1") None None)
-unfolding clap_on_literals
-paths_flags at name = refl
-
-pub full_flags : (at : Places) (name : Text) → flags_of (subcommand_of (program at) (name ∷ full_line)) ≡ Some (solve_flags Auction full_options (codes "64") (codes "0") (Some (codes "report")) None)
-unfolding clap_on_literals
-full_flags at name = refl
-
-pub input_flags : (at : Places) (name : Text) → flags_of (subcommand_of (program at) (name ∷ input_line)) ≡ Some (solve_flags Auction usual_options (codes "4") (codes "1") None (Some (codes "problem")))
-unfolding clap_on_literals
-input_flags at name = refl
-
-abbrev pub verify_file : Bool → Option Sense → Text → Option Text → File
-verify_file sparse wanted report input = record {
-  name = codes "verify";
-  sparse = Some (flag_word sparse);
-  sense = option_map sense_name wanted;
-  report = Some report;
-  input = input;
-}
-
-pub file_words : (at : Places) (name : Text) → file_of (subcommand_of (program at) (name ∷ file_line)) ≡ Some (verify_file true None (codes "report") None)
-unfolding clap_on_literals
-file_words at name = refl
-
-pub full_file_words : (at : Places) (name : Text) → file_of (subcommand_of (program at) (name ∷ full_verify_line)) ≡ Some (verify_file true (Some Max) (codes "report") None)
-unfolding clap_on_literals
-full_file_words at name = refl
-
-pub input_file_words : (at : Places) (name : Text) → file_of (subcommand_of (program at) (name ∷ input_verify_line)) ≡ Some (verify_file false None (codes "report") (Some (codes "problem")))
-unfolding clap_on_literals
-input_file_words at name = refl
-
-flag_is : (text : Option Text) (flag b : Bool) → IsFlag text flag → text ≡ Some (flag_word b) → flag ≡ b
-flag_is text flag true f e = f.set e
-flag_is text flag false f e = f.unset e
-
-pub other_command : codes "verify" ≡ codes "solve" → ⊥
-other_command e = cc
+use Rattle.command_line.proofs.GivenLines.{File, Flags, file_of, flag_is, flags_of, free_program, method_word}
+use Rattle.command_line.proofs.GivenLines.{other_command, simple_program, solve_flags, verify_file}
+use Rattle.command_line.proofs.GivenLines.{version_is_asked}
 
 -- the number of a known text
-number_is : (text : Option Text) (least most : ℕ) {number : ℕ} (digits : Text) → IsNumberFor text least most number → text ≡ Some digits → number ≡ digits_value 10 (without_leading_plus digits)
+number_is : (text : Option Text) (least most : ℕ) {number : ℕ} (digits : Text) →
+    IsNumberFor text least most number → text ≡ Some digits → number ≡ digits_value 10 (without_leading_plus digits)
 number_is text least most digits h e = h.value ∙ ap (λ (d : Text). digits_value 10 (without_leading_plus d)) (same_Some _ _ (sym h.told ∙ e))
 
 same_sense : (a b : Sense) → is_max a ≡ is_max b → a ≡ b
@@ -241,7 +88,11 @@ in_ranges found (Ok (Verify sparse sense report input)) h = tt
 in_ranges found (Err fault) h = tt
 
 -- the options that belong to the values of a line
-pub options_are : (rows : List Row) (method : Method) (o wanted : SolveOpts) (workers refresh : Text) (start input : Option Text) → flags_of (Some (codes "solve", rows)) ≡ Some (solve_flags method wanted workers refresh start input) → ChoosesSolving rows o → wanted.workers ≡ digits_value 10 (without_leading_plus workers) → wanted.refresh ≡ digits_value 10 (without_leading_plus refresh) → o ≡ wanted
+pub options_are : (rows : List Row) (method : Method) (o wanted : SolveOpts) (workers refresh : Text)
+    (start input : Option Text) → flags_of (Some (codes "solve", rows)) ≡ Some
+    (solve_flags method wanted workers refresh start input) → ChoosesSolving rows o →
+    wanted.workers ≡ digits_value 10 (without_leading_plus workers) →
+    wanted.refresh ≡ digits_value 10 (without_leading_plus refresh) → o ≡ wanted
 options_are rows method o wanted workers refresh start input e h w r =
     let all = same_Some _ _ e in
     let sparse : o.sparse ≡ wanted.sparse = flag_is _ _ wanted.sparse h.sparse (ap (λ (q : Flags). q.sparse) all) in
@@ -259,7 +110,9 @@ same_method rows Paths Auction h e =
     let other : codes "auction" ≡ codes "paths" = same_Some _ _ (sym e ∙ h.0 refl) in
     cc
 
-pub solves : (found : Option (Text × List Row)) (asked : Words) (method : Method) (wanted : SolveOpts) (workers refresh : Text) (start input : Option Text) → flags_of found ≡ Some (solve_flags method wanted workers refresh start input) →
+pub solves : (found : Option (Text × List Row)) (asked : Words) (method : Method) (wanted : SolveOpts)
+    (workers refresh : Text) (start input : Option Text) →
+    flags_of found ≡ Some (solve_flags method wanted workers refresh start input) →
     wanted.workers ≡ digits_value 10 (without_leading_plus workers) → wanted.refresh ≡ digits_value 10 (without_leading_plus refresh) →
     Chooses found asked → SolvesFrom input method wanted start asked
 solves found (Solve options file by problem progress) method wanted workers refresh start input e w r h =
@@ -273,18 +126,24 @@ solves found (Verify sparse sense report file) method wanted workers refresh sta
     absurd (other_command (ap (λ (q : Flags). q.name) (same_Some _ _ (ap flags_of (sym h.1) ∙ e))))
 
 -- a line that names its mode is refused for no mode
-pub mode_is_named : (found : Option (Text × List Row)) (method : Method) (wanted : SolveOpts) (workers refresh : Text) (start input : Option Text) → flags_of found ≡ Some (solve_flags method wanted workers refresh start input) → NamesNoMode found → ⊥
+pub mode_is_named : (found : Option (Text × List Row)) (method : Method) (wanted : SolveOpts)
+    (workers refresh : Text) (start input : Option Text) →
+    flags_of found ≡ Some (solve_flags method wanted workers refresh start input) → NamesNoMode found → ⊥
 mode_is_named found method wanted workers refresh start input e h =
     let told : flags_of (Some (codes "solve", h.0)) ≡ Some (solve_flags method wanted workers refresh start input) = ap flags_of (sym h.1) ∙ e in
     h.2 wanted.mode (ap (λ (q : Flags). q.mode) (same_Some _ _ told))
 
 -- a line of `solve` is refused for no sense
-pub no_solve_sense : (found : Option (Text × List Row)) (method : Method) (wanted : SolveOpts) (workers refresh : Text) (start input : Option Text) → flags_of found ≡ Some (solve_flags method wanted workers refresh start input) → NamesNoSense found → ⊥
+pub no_solve_sense : (found : Option (Text × List Row)) (method : Method) (wanted : SolveOpts)
+    (workers refresh : Text) (start input : Option Text) →
+    flags_of found ≡ Some (solve_flags method wanted workers refresh start input) → NamesNoSense found → ⊥
 no_solve_sense found method wanted workers refresh start input e h = other_command (ap (λ (q : Flags). q.name) (same_Some _ _ (ap flags_of (sym h.1) ∙ e)))
 
-pub verifies : (found : Option (Text × List Row)) (asked : Words) (s : Bool) (wanted : Option Sense) (name : Text) (problem : Option Text) → file_of found ≡ Some (verify_file s wanted name problem) →
+pub verifies : (found : Option (Text × List Row)) (asked : Words) (s : Bool) (wanted : Option Sense) (name : Text)
+    (problem : Option Text) → file_of found ≡ Some (verify_file s wanted name problem) →
     Chooses found asked → VerifiesFrom problem s wanted name asked
-verifies found (Solve options start method input progress) s wanted name problem e h = absurd (other_command (sym (ap (λ (q : File). q.name) (same_Some _ _ (ap file_of (sym h.1) ∙ e)))))
+verifies found (Solve options start method input progress) s wanted name problem e h =
+    absurd (other_command (sym (ap (λ (q : File). q.name) (same_Some _ _ (ap file_of (sym h.1) ∙ e)))))
 verifies found (Verify sparse sense report input) s wanted name problem e h =
     let all = same_Some _ _ (ap file_of (sym h.1) ∙ e) in (
       flag_is _ _ s h.2.sparse (ap (λ (q : File). q.sparse) all),
@@ -294,11 +153,13 @@ verifies found (Verify sparse sense report input) s wanted name problem e h =
     )
 
 -- a line of `verify` is refused for no mode
-pub no_file_mode : (found : Option (Text × List Row)) (s : Bool) (wanted : Option Sense) (name : Text) (problem : Option Text) → file_of found ≡ Some (verify_file s wanted name problem) → NamesNoMode found → ⊥
+pub no_file_mode : (found : Option (Text × List Row)) (s : Bool) (wanted : Option Sense) (name : Text)
+    (problem : Option Text) → file_of found ≡ Some (verify_file s wanted name problem) → NamesNoMode found → ⊥
 no_file_mode found s wanted name problem e h = other_command (sym (ap (λ (q : File). q.name) (same_Some _ _ (ap file_of (sym h.1) ∙ e))))
 
 -- one that names its sense, or none, is refused for no sense
-pub sense_is_named : (found : Option (Text × List Row)) (s : Bool) (wanted : Option Sense) (name : Text) (problem : Option Text) → file_of found ≡ Some (verify_file s wanted name problem) → NamesNoSense found → ⊥
+pub sense_is_named : (found : Option (Text × List Row)) (s : Bool) (wanted : Option Sense) (name : Text)
+    (problem : Option Text) → file_of found ≡ Some (verify_file s wanted name problem) → NamesNoSense found → ⊥
 sense_is_named found s wanted name problem e h = h.2 wanted (ap (λ (q : File). q.sense) (same_Some _ _ (ap file_of (sym h.1) ∙ e)))
 
 -- words that name no mode are different from those that name no sense
@@ -306,7 +167,8 @@ pub no_mode_or_sense : (at : Places) (words : List Text) → AskForNoModeAt at w
 no_mode_or_sense at words m s = other_command (ap (λ (q : Text × List Row). q.0) (same_Some _ _ (sym s.1.1 ∙ m.1.1)))
 
 -- accepted words have no fault, and the subcommand of the matches
-pub taken_words : (at : Places) (app : App) (words : List Text) (m : ArgMatches) → app ≡ program at → (is_simple_and_free app ≡ true → fault_of app words ≡ []) → HasMatchesOf app words m →
+pub taken_words : (at : Places) (app : App) (words : List Text) (m : ArgMatches) → app ≡ program at →
+    (is_simple_and_free app ≡ true → fault_of app words ≡ []) → HasMatchesOf app words m →
     (fault_of (program at) words ≡ []) × (subcommand_rows_of m ≡ subcommand_of (program at) words)
 taken_words at app words m a none h = (
   subst (λ x. fault_of x words ≡ []) a (none (ap is_simple_and_free a ∙ free_program at)),
@@ -314,7 +176,8 @@ taken_words at app words m a none h = (
 )
 
 -- the result of words in which clap finds a fault
-pub told_outcome : (at : Places) (app : App) (words : List Text) (error : Error) (fault : WordsFault) → app ≡ program at → (is_simple_and_free app ≡ true → HasKind (fault_of app words) error) → IsFaultOf error fault →
+pub told_outcome : (at : Places) (app : App) (words : List Text) (error : Error) (fault : WordsFault) →
+    app ≡ program at → (is_simple_and_free app ≡ true → HasKind (fault_of app words) error) → IsFaultOf error fault →
     WordsOutcome words (Err fault)
 told_outcome at app words error Memory a kinds f = tt
 told_outcome at app words error wrong.Mode a kinds f = absurd f
@@ -323,10 +186,15 @@ told_outcome at app words error (Clap told) a kinds f = go (subst (λ x. HasKind
   where
     go : HasKind (fault_of (program at) words) error → WordsOutcome words (Err (Clap told))
     go (inl memory) = absurd (f.1 memory)
-    go (inr among) = (at, subst (λ (e : Error). IsAmong (kind_of e) (fault_of (program at) words)) (sym f.0) among, subst (λ (e : Error). kind_of e ≢ OutOfMemory) (sym f.0) f.1)
+    go (inr among) = (
+      at,
+      subst (λ (e : Error). IsAmong (kind_of e) (fault_of (program at) words)) (sym f.0) among,
+      subst (λ (e : Error). kind_of e ≢ OutOfMemory) (sym f.0) f.1,
+    )
 
 -- a flag of the matches is that of their rows
-pub flag_told : (m : ArgMatches) (name : Text) (flag : Bool) → (one_text (found_of m) name ≡ None → flag ≡ false) → (one_text (found_of m) name ≡ Some (codes "true") → flag ≡ true) →
+pub flag_told : (m : ArgMatches) (name : Text) (flag : Bool) → (one_text (found_of m) name ≡ None → flag ≡ false) →
+    (one_text (found_of m) name ≡ Some (codes "true") → flag ≡ true) →
     (one_text (found_of m) name ≡ Some (codes "false") → flag ≡ false) → IsFlag (one_of name (rows_of (found_of m))) flag
 flag_told m name flag absent set unset =
     let same = one_text-rows (found_of m) name in
@@ -363,12 +231,15 @@ version_is_fault at words name e none =
     let bad : DisplayVersion ∷ [] ≡ [] = sym (version_is_asked at name) ∙ sym (ap (fault_of (program at)) e) ∙ none in
     cc
 
-pub version_told : (at : Places) (app : App) (words : List Text) (name : Text) (error : Error) (fault : WordsFault) → app ≡ program at → words ≡ name ∷ codes "--version" ∷ [] →
+pub version_told : (at : Places) (app : App) (words : List Text) (name : Text) (error : Error) (fault : WordsFault)
+    → app ≡ program at → words ≡ name ∷ codes "--version" ∷ [] →
     (is_simple_and_free app ≡ true → HasKind (fault_of app words) error) → IsFaultOf error fault → AsksForVersion (Err fault)
 version_told at app words name error Memory a e h f = refl
 version_told at app words name error wrong.Mode a e h f = absurd f
 version_told at app words name error wrong.Sense a e h f = absurd f
-version_told at app words name error (Clap told) a e h f = go (subst (λ k. HasKind k error) (ap₂ fault_of a e ∙ version_is_asked at name) (h (ap is_simple_and_free a ∙ free_program at)))
+version_told at app words name error (Clap told) a e h f =
+    go (subst (λ k. HasKind k error) (ap₂ fault_of a e ∙ version_is_asked at name)
+    (h (ap is_simple_and_free a ∙ free_program at)))
   where
     go : HasKind (DisplayVersion ∷ []) error → kind_of told ≡ DisplayVersion
     go (inl memory) = absurd (f.1 memory)
@@ -376,6 +247,7 @@ version_told at app words name error (Clap told) a e h f = go (subst (λ k. HasK
     go (inr (inr none)) = absurd none
 
 -- the text of a reference, or none
-pub text_or_none : (o : Option (Bor Text)) (d : Bor Text) (found : Option Text) → option_map (λ s. s.now) o ≡ found → d.now ≡ [] → (unwrap_or o d).now ≡ unwrap_or found []
+pub text_or_none : (o : Option (Bor Text)) (d : Bor Text) (found : Option Text) →
+    option_map (λ s. s.now) o ≡ found → d.now ≡ [] → (unwrap_or o d).now ≡ unwrap_or found []
 text_or_none None d found e n = n ∙ ap (λ (x : Option Text). unwrap_or x []) e
 text_or_none (Some s) d found e n = ap (λ (x : Option Text). unwrap_or x []) e

@@ -1,3 +1,4 @@
+pub mod GivenLines
 pub mod CommandLines
 pub mod Choices
 pub mod Subcommands

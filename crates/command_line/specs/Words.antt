@@ -4,7 +4,8 @@ use Rattle.std.specs.Borrow.{Bor}
 use Rattle.std.specs.Option.{option_map}
 use Rattle.std.specs.String.{string_bytes}
 use Rattle.std.specs.Str.Parse.{digits_value, without_leading_plus}
-use Rattle.clap.specs.Words.{App, IsUnsignedIn, Row, Rule, Text, fault_of, first_of, IsAmong, kind_of, new_app, new_rule, one_of, subcommand_of, with_rule, with_subcommand}
+use Rattle.clap.specs.Words.{App, IsUnsignedIn, Row, Rule, Text, fault_of, first_of, IsAmong, kind_of, new_app}
+use Rattle.clap.specs.Words.{new_rule, one_of, subcommand_of, with_rule, with_subcommand}
 use Rattle.clap.specs.declared.builder.action.ArgAction.TheVariants.{SetTrue, Version}
 use Rattle.clap.specs.declared.builder.value_parser.ValueParser.TheVariants.{Names, Unsigned}
 use Rattle.clap.specs.declared.error.kind.ErrorKind.TheVariants.{DisplayVersion, OutOfMemory}
@@ -70,11 +71,15 @@ method_rule at = named_rule (codes "method") (codes "auction") (method_names at)
 
 -- `solve`, except for the options for its method and mode
 abbrev pub plain_solve_app : App
-plain_solve_app = with_rule (with_rule (with_rule (with_rule (with_rule (new_app (codes "solve")) (flag_rule (codes "sparse"))) input_rule) (flag_rule (codes "max"))) (flag_rule (codes "prices"))) start_rule
+plain_solve_app =
+    with_rule (with_rule (with_rule (with_rule (with_rule (new_app (codes "solve")) (flag_rule (codes "sparse")))
+    input_rule) (flag_rule (codes "max"))) (flag_rule (codes "prices"))) start_rule
 
 -- `solve` with all its options
 abbrev pub solve_app : Places → App
-solve_app at = with_rule (with_rule (with_rule (with_rule (with_rule plain_solve_app (method_rule at)) (valued_rule (codes "mode") (codes "rounds"))) (numbered_rule (codes "workers") (codes "4") 1 MOST_WORKERS)) (numbered_rule (codes "refresh") (codes "1") 0 MOST_REFRESH)) (flag_rule (codes "progress"))
+solve_app at = with_rule (with_rule (with_rule (with_rule (with_rule plain_solve_app (method_rule at))
+    (valued_rule (codes "mode") (codes "rounds"))) (numbered_rule (codes "workers") (codes "4") 1 MOST_WORKERS))
+    (numbered_rule (codes "refresh") (codes "1") 0 MOST_REFRESH)) (flag_rule (codes "progress"))
 
 -- a required name of a file
 abbrev pub report_rule : Rule
@@ -82,7 +87,8 @@ report_rule = record (new_rule (codes "REPORT")) { required = true }
 
 -- `verify` with its options and its report
 abbrev pub verify_app : App
-verify_app = with_rule (with_rule (with_rule (with_rule (new_app (codes "verify")) (flag_rule (codes "sparse"))) input_rule) (optional_rule (codes "sense"))) report_rule
+verify_app = with_rule (with_rule (with_rule (with_rule (new_app (codes "verify")) (flag_rule (codes "sparse")))
+    input_rule) (optional_rule (codes "sense"))) report_rule
 
 -- the option for the version, without a short name
 abbrev pub version_rule : Rule
@@ -90,7 +96,14 @@ version_rule = record (new_rule (codes "version")) { long = Some (codes "version
 
 -- a subcommand is required, and clap adds no option for the version
 abbrev pub plain_program : App
-plain_program = let plain = new_app (codes "auction_cli") in record plain { top = record plain.top { has_version = true; disable_version_flag = true; subcommand_required = true } }
+plain_program = let plain = new_app (codes "auction_cli") in record plain {
+  top = record plain.top {
+    has_version =
+        true;
+    disable_version_flag = true;
+    subcommand_required = true;
+  };
+}
 
 -- the program without its subcommands
 abbrev pub bare_program : App
@@ -242,7 +255,8 @@ usual_options = record { sparse = false; mode = Rounds; workers = 4; refresh = 1
 
 -- a line with every option of the auction, after the program's name, and what it chooses
 abbrev pub full_line : List Text
-full_line = codes "solve" ∷ codes "--sparse" ∷ codes "--max" ∷ codes "--prices" ∷ codes "--start" ∷ codes "report" ∷ codes "--mode" ∷ codes "workers" ∷ codes "--workers" ∷ codes "64" ∷ codes "--refresh" ∷ codes "0" ∷ []
+full_line = codes "solve" ∷ codes "--sparse" ∷ codes "--max" ∷ codes "--prices" ∷ codes "--start" ∷ codes "report" ∷
+    codes "--mode" ∷ codes "workers" ∷ codes "--workers" ∷ codes "64" ∷ codes "--refresh" ∷ codes "0" ∷ []
 
 -- the options that this line chooses
 abbrev pub full_options : SolveOpts

@@ -12,7 +12,8 @@ use Rattle.assign_core.proofs.Members.{contains_first, contains_later, first_or_
 use Rattle.cost_lists.specs.Given.{IsBestGiven, best_given, better_cost}
 
 -- the test of a triple's person and object
-same_pair : (t : Triple) (i j : ℕ) → ((nat_eq t.0 i && nat_eq t.1 j ≡ true) × ((t.0 ≡ i) × (t.1 ≡ j))) ⊎ ((nat_eq t.0 i && nat_eq t.1 j ≡ false) × (((t.0 ≡ i) × (t.1 ≡ j)) → ⊥))
+same_pair : (t : Triple) (i j : ℕ) → ((nat_eq t.0 i && nat_eq t.1 j ≡ true) × ((t.0 ≡ i) × (t.1 ≡ j))) ⊎
+    ((nat_eq t.0 i && nat_eq t.1 j ≡ false) × (((t.0 ≡ i) × (t.1 ≡ j)) → ⊥))
 same_pair t i j = elim (eqb_tells t.0 i) [
   | inl p ↦ elim (eqb_tells t.1 j) [
     | inl o ↦ inl (rw (p.0, o.0) refl, (p.1, o.1))
@@ -89,7 +90,8 @@ best_given_is sense (t ∷ triples) i j = elim (same_pair t i j) [
       let first = ap (λ p. (p, t.1, t.2)) s.1.0 in
       let second = ap (λ q. (i, q, t.2)) s.1.1 in
       let same : t ≡ (i, j, t.2) = first ∙ second in
-      subst (IsBestGiven sense (t ∷ triples) i j) (sym here) (subst (λ u. IsBestGiven sense (u ∷ triples) i j (Some (better_cost sense t.2 o))) (sym same) there)
+      subst (IsBestGiven sense (t ∷ triples) i j) (sym here)
+      (subst (λ u. IsBestGiven sense (u ∷ triples) i j (Some (better_cost sense t.2 o))) (sym same) there)
   | inr s ↦
       let o : Option ℤ = best_given sense triples i j in
       let skip : best_given sense (t ∷ triples) i j ≡ o = ap (λ b. cond b (Some (better_cost sense t.2 o)) o) s.0 in

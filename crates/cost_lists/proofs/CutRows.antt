@@ -1,5 +1,6 @@
 -- Rows cut from a list of costs: what they list, and their limits.
-use Rattle.std.proofs.Common.{◌≡◌, ℕ, ℤ, pos, ◌<◌, ◌≤◌, ◌+◌, ◌-◌, ◌*◌, suc, List, [], Option, None, Some, IsSome, length, get_or, drop, refl, arith, ap, sym, subst, ◌∙◌, add-one, length-take-le}
+use Rattle.std.proofs.Common.{◌≡◌, ℕ, ℤ, pos, ◌<◌, ◌≤◌, ◌+◌, ◌-◌, ◌*◌, suc, List, [], Option, None, Some, IsSome}
+use Rattle.std.proofs.Common.{length, get_or, drop, refl, arith, ap, sym, subst, ◌∙◌, add-one, length-take-le}
 use Rattle.std.specs.List.{All}
 use Rattle.std.proofs.Math.Nat.{mul-le-mul_right}
 use Rattle.std.proofs.lemmas.List.{length-drop, get_or-take, get_or-drop, get_or_default}

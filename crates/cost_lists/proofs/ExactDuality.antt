@@ -1,6 +1,8 @@
 -- Weak duality with exact prices: no assignment is better than one whose persons have choices, if
 -- the prices of unowned objects are 0.
-use Rattle.std.proofs.Common.{◌≡◌, ℕ, ℤ, pos, ◌+ℤ◌, ◌-ℤ◌, ◌≤ℤ◌, ◌<◌, zero, suc, List, [], ◌∷◌, Option, None, Some, IsSome, unwrap_or, length, nat_eq, cond, true, false, ◌⊎◌, inl, inr, refl, arith, rules, ap, sym, ◌∙◌}
+use Rattle.std.proofs.Common.{◌≡◌, ℕ, ℤ, pos, ◌+ℤ◌, ◌-ℤ◌, ◌≤ℤ◌, ◌<◌, zero, suc, List, [], ◌∷◌, Option, None, Some}
+use Rattle.std.proofs.Common.{IsSome, unwrap_or, length, nat_eq, cond, true, false, ◌⊎◌, inl, inr, refl, arith}
+use Rattle.std.proofs.Common.{rules, ap, sym, ◌∙◌}
 use Rattle.std.specs.List.{All, Contains}
 use Rattle.std.proofs.lemmas.Int.{ints}
 use Rattle.std.proofs.lemmas.Bool.{cases_lt, cond-true, cond-false}

@@ -1,5 +1,6 @@
 -- Rows of listed pairs: what they list, and their limits.
-use Rattle.std.proofs.Common.{◌≡◌, ℕ, ℤ, ◌<◌, ◌≤◌, ◌+◌, zero, suc, List, [], Option, None, Some, length, get_or, refl, ap, arith, sym, subst, ◌∙◌, inl, inr, ◌⊎◌}
+use Rattle.std.proofs.Common.{◌≡◌, ℕ, ℤ, ◌<◌, ◌≤◌, ◌+◌, zero, suc, List, [], Option, None, Some, length, get_or}
+use Rattle.std.proofs.Common.{refl, ap, arith, sym, subst, ◌∙◌, inl, inr, ◌⊎◌}
 use Rattle.std.specs.List.{All}
 use Rattle.std.proofs.lemmas.Bool.{cases_lt}
 use Rattle.std.proofs.lemmas.Bool.Decides.{eqb_tells}
@@ -62,7 +63,8 @@ module _ (sense : Sense) (triples : List Triple) where
     none_or_some (Some c) h = absurd (h c refl)
 
     none_given : (i j : ℕ) → (IsNumber n i → IsNumber m j → ⊥) → best_given sense triples i j ≡ None
-    none_given i j out = none_or_some (best_given sense triples i j) (λ c e. let t = given_among i j (best_given sense triples i j) c (best_given_is sense triples i j) e in out t.person t.object)
+    none_given i j out = none_or_some (best_given sense triples i j) (λ c e. let t =
+        given_among i j (best_given sense triples i j) c (best_given_is sense triples i j) e in out t.person t.object)
 
     in_row : (i j : ℕ) → listed_in (row_given sense triples i 1 m) j ≡ best_given sense triples i j
     in_row i j = elim (cases_lt j 1) [
@@ -82,7 +84,8 @@ module _ (sense : Sense) (triples : List Triple) where
           ap (λ r. listed_in r j) (rows_given-index m 1 n k lt ∙ ap (λ p. row_given sense triples p 1 m) e) ∙ in_row (suc k) j
       | inr past ↦
           let long = length-rows_given m 1 n in
-          ap (λ r. listed_in r j) (get_or_past (rows_given sense triples m 1 n) k [] (omega arith)) ∙ sym (none_given (suc k) j (λ p o. let a = p.last in omega arith))
+          ap (λ r. listed_in r j) (get_or_past (rows_given sense triples m 1 n) k [] (omega arith)) ∙
+          sym (none_given (suc k) j (λ p o. let a = p.last in omega arith))
     ]
 
     all_with : (P : ℕ × ℤ → Type 0) (j : ℕ) (o : Option ℤ) (row : Listing) → ((c : ℤ) → o ≡ Some c → P (j, c)) → All P row → All P (with_cost j o row)
@@ -97,7 +100,8 @@ module _ (sense : Sense) (triples : List Triple) where
 
     rows_limits : (P : ℕ × ℤ → Type 0) → ((i j : ℕ) (c : ℤ) → IsTripleAmong n m (i, j, c) → P (j, c)) → (i k : ℕ) → All (All P) (rows_given sense triples m i k)
     rows_limits P of i zero = All-nil (All P)
-    rows_limits P of i (suc k) = All-cons (All P) (row_given sense triples i 1 m) (rows_given sense triples m (i + 1) k) (row_limits P of i 1 m) (rows_limits P of (i + 1) k)
+    rows_limits P of i (suc k) = All-cons (All P) (row_given sense triples i 1 m) (rows_given sense triples m
+        (i + 1) k) (row_limits P of i 1 m) (rows_limits P of (i + 1) k)
 
     pub rows_within : All (IsWithin m) (rows_given sense triples m 1 n)
     rows_within = rows_limits (λ e. IsNumber m e.0) (λ i j c t. t.object) 1 n

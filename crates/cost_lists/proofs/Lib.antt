@@ -5,3 +5,4 @@ pub mod CutRows
 pub mod ExactDuality
 pub mod Owns
 pub mod Limits
+pub mod Rising

@@ -28,7 +28,8 @@ costs_limits sense n m (Listed pairs) is =
     rows_costs sense (triples_in pairs) n m
     (triples_among pairs.persons.now pairs.objects.now pairs.costs.now is.objects_long is.costs_long n m is.persons_in is.objects_in is.costs_in)
 
-module _ (sense : Sense) (n m : ℕ) (source : Source) (l : ListedCosts) (is : IsGiven n m source) (shown : ◌≡◌ {A = ListedCosts} (record { sense = sense; m = m; rows = rows_in sense n m source }) l) where
+module _ (sense : Sense) (n m : ℕ) (source : Source) (l : ListedCosts) (is : IsGiven n m source)
+    (shown : ◌≡◌ {A = ListedCosts} (record { sense = sense; m = m; rows = rows_in sense n m source }) l) where
   pub persons_shown : n ≡ length l.rows
   persons_shown = sym (rows_long sense n m source) ∙ ap (λ k. length k.rows) shown
 

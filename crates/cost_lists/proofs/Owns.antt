@@ -1,5 +1,7 @@
 -- The costs of persons' own objects, from listed pairs one after another, and their sum.
-use Rattle.std.proofs.Common.{◌≡◌, ℕ, ℤ, pos, ◌+ℤ◌, ◌≤ℤ◌, ◌<◌, ◌+◌, ◌-◌, zero, suc, List, [], ◌∷◌, Option, None, Some, IsSome, unwrap_or, length, get_or, set, replicate, refl, rules, ap, arith, sym, subst, ◌∙◌, inl, inr, ◌⊎◌, fold}
+use Rattle.std.proofs.Common.{◌≡◌, ℕ, ℤ, pos, ◌+ℤ◌, ◌≤ℤ◌, ◌<◌, ◌+◌, ◌-◌, zero, suc, List, [], ◌∷◌, Option, None}
+use Rattle.std.proofs.Common.{Some, IsSome, unwrap_or, length, get_or, set, replicate, refl, rules, ap, arith, sym}
+use Rattle.std.proofs.Common.{subst, ◌∙◌, inl, inr, ◌⊎◌, fold}
 use Rattle.std.specs.List.{All, Contains}
 use Rattle.std.specs.Int.{int_min}
 use Rattle.std.proofs.lemmas.Int.{ints, clamps, by_lt_z}
@@ -49,7 +51,8 @@ module _ (sense : Sense) (persons objects : List ℕ) (costs : List ℤ) (xs : L
       (get_or own i (pos 0) ≡ UNLISTED) ⊎ IsMet sense persons objects costs xs (k + 1) i (get_or own i (pos 0))
   later k i own h = elim h [ inl e ↦ inl e | inr m ↦ inr (met_later k i (get_or own i (pos 0)) m) ]
 
-  pub own_none : (n : ℕ) (own : List ℤ) → own ≡ replicate n UNLISTED → ((i : ℕ) → i < length own → get_or own i (pos 0) ≡ UNLISTED) → AreOwnSoFar sense persons objects costs xs 0 own
+  pub own_none : (n : ℕ) (own : List ℤ) → own ≡ replicate n UNLISTED → ((i : ℕ) → i < length own →
+      get_or own i (pos 0) ≡ UNLISTED) → AreOwnSoFar sense persons objects costs xs 0 own
   own_none n own e each = record { low = λ q lt. absurd (omega arith); met = λ i lt. inl (each i lt) }
 
   -- a pair that isn't its person's own
@@ -87,7 +90,8 @@ module _ (sense : Sense) (persons objects : List ℕ) (costs : List ℤ) (xs : L
                     omega (arith, ints)
               ]
           | inr s ↦ elim (low_or_same q k lt) [
-            | inl below ↦ subst (λ z. z ≤ℤ minimised sense (get_or costs q (pos 0))) (sym (get_or-set_other own p (person_place persons q) c (pos 0) s.1)) (h.low q below own_pair)
+            | inl below ↦ subst (λ z. z ≤ℤ minimised sense (get_or costs q (pos 0)))
+                (sym (get_or-set_other own p (person_place persons q) c (pos 0) s.1)) (h.low q below own_pair)
             | inr same ↦ absurd (s.1 (ap (person_place persons) same))
           ]
         ];
@@ -96,7 +100,8 @@ module _ (sense : Sense) (persons objects : List ℕ) (costs : List ℤ) (xs : L
             elim (eqb_tells i p) [
               | inl s ↦
                   let read = ap (λ j. get_or (set own p c) j (pos 0)) s.1 ∙ get_or-set_same own p c (pos 0) room in
-                  by_lt_z {P = (get_or (set own p c) i (pos 0) ≡ UNLISTED) ⊎ IsMet sense persons objects costs xs (k + 1) i (get_or (set own p c) i (pos 0))} (get_or own p (pos 0)) t
+                  by_lt_z {P = (get_or (set own p c) i (pos 0) ≡ UNLISTED) ⊎ IsMet sense persons objects costs xs
+                  (k + 1) i (get_or (set own p c) i (pos 0))} (get_or own p (pos 0)) t
                   (λ less.
                   let is : c ≡ get_or own p (pos 0) = omega (arith, ints, clamps) in
                   let same : get_or (set own p c) i (pos 0) ≡ get_or own i (pos 0) = read ∙ is ∙ ap (λ j. get_or own j (pos 0)) (sym s.1) in
@@ -105,7 +110,8 @@ module _ (sense : Sense) (persons objects : List ℕ) (costs : List ℤ) (xs : L
                   let is : c ≡ t = omega (arith, ints, clamps) in
                   inr (record { place = k; before = omega arith; person = sym s.1; own = this; cost = read ∙ is }))
               | inr s ↦
-                  subst (λ z. (z ≡ UNLISTED) ⊎ IsMet sense persons objects costs xs (k + 1) i z) (sym (get_or-set_other own p i c (pos 0) s.1)) (later k i own (h.met i (omega arith)))
+                  subst (λ z. (z ≡ UNLISTED) ⊎ IsMet sense persons objects costs xs (k + 1) i z)
+                  (sym (get_or-set_other own p i c (pos 0) s.1)) (later k i own (h.met i (omega arith)))
             ];
       }
 
@@ -119,8 +125,10 @@ turned_range Min a h = h
 turned_range Max a h = let low = h.least in let high = h.greatest in record { least = omega (arith, ints); greatest = omega (arith, ints) }
 
 module _ (sense : Sense) (n : ℕ) (persons objects : List ℕ) (costs : List ℤ) (xs : List ℕ) (own : List ℤ)
-    (e : length objects ≡ length persons) (f : length costs ≡ length persons) (in_n : All (IsNumber n) persons) (in_range : All IsCost costs) (h : AreOwnSoFar sense persons objects costs xs (length persons) own) where
-  own_at : (i : ℕ) → i < length own → (o : Option ℤ) → IsBestGiven sense (triples_of persons objects costs) (i + 1) (get_or xs i 0) o → get_or own i (pos 0) ≡ turned_or_unlisted sense o
+    (e : length objects ≡ length persons) (f : length costs ≡ length persons) (in_n : All (IsNumber n) persons)
+    (in_range : All IsCost costs) (h : AreOwnSoFar sense persons objects costs xs (length persons) own) where
+  own_at : (i : ℕ) → i < length own → (o : Option ℤ) → IsBestGiven sense (triples_of persons objects costs) (i + 1)
+      (get_or xs i 0) o → get_or own i (pos 0) ≡ turned_or_unlisted sense o
   own_at i lt None none = elim (h.met i lt) [
     | inl mark ↦ mark
     | inr m ↦
@@ -152,7 +160,9 @@ module _ (sense : Sense) (n : ℕ) (persons objects : List ℕ) (costs : List �
             let met = m.person in
             let person : get_or persons m.place 0 ≡ i + 1 = omega arith in
             let object : get_or objects m.place 0 ≡ get_or xs i 0 = m.own ∙ ap (λ q. get_or xs q 0) met in
-            let given = best.1 (get_or costs m.place (pos 0)) (subst (λ j. Contains (triples_of persons objects costs) (i + 1, j, get_or costs m.place (pos 0))) object
+            let given = best.1 (get_or costs m.place (pos 0))
+            (subst (λ j. Contains (triples_of persons objects costs) (i + 1, j, get_or costs m.place (pos 0)))
+            object
             (subst (λ q. Contains (triples_of persons objects costs) (q, get_or objects m.place 0, get_or costs m.place (pos 0))) person c)) in
             let over = turned_order sense b (get_or costs m.place (pos 0)) given in
             let is = m.cost in
@@ -160,12 +170,14 @@ module _ (sense : Sense) (n : ℕ) (persons objects : List ℕ) (costs : List �
       ]
 
   -- after all pairs
-  pub own_given : (i : ℕ) → i < length own → get_or own i (pos 0) ≡ turned_or_unlisted sense (best_given sense (triples_of persons objects costs) (i + 1) (get_or xs i 0))
+  pub own_given : (i : ℕ) → i < length own → get_or own i (pos 0) ≡ turned_or_unlisted sense
+      (best_given sense (triples_of persons objects costs) (i + 1) (get_or xs i 0))
   own_given i lt = own_at i lt _ (best_given_is sense (triples_of persons objects costs) (i + 1) (get_or xs i 0))
 
 -- the costs by number
 pub own_numbered : (sense : Sense) (rows : List Listing) (xs : List ℕ) (own : List ℤ) → length own ≡ length rows →
-    ((i : ℕ) → i < length own → get_or own i (pos 0) ≡ turned_or_unlisted sense (listed_in (row_of rows (i + 1)) (get_or xs i 0))) → AreOwnCosts sense rows xs own
+    ((i : ℕ) → i < length own → get_or own i (pos 0) ≡ turned_or_unlisted sense (listed_in (row_of rows (i + 1))
+    (get_or xs i 0))) → AreOwnCosts sense rows xs own
 own_numbered sense rows xs own long h = record { long = long; each = each } where
   each : (i : ℕ) → IsNumber (length rows) i → numbered own i (pos 0) ≡ turned_or_unlisted sense (listed_in (row_of rows i) (numbered xs i 0))
   each zero number = let some = number.first in absurd (omega arith)
@@ -215,7 +227,8 @@ total_turned sense rows xs own are listed =
     omega (arith, ints)
 
 -- the own costs of listed objects are in range
-pub own_range : (sense : Sense) (rows : List Listing) (xs : List ℕ) (own : List ℤ) → AreOwnCosts sense rows xs own → AreListed rows xs → All HasCosts rows → All IsCost own
+pub own_range : (sense : Sense) (rows : List Listing) (xs : List ℕ) (own : List ℤ) → AreOwnCosts sense rows xs own →
+    AreListed rows xs → All HasCosts rows → All IsCost own
 own_range sense rows xs own are listed costs i d lt =
     let long = are.long in
     let below : i < length rows = omega arith in
@@ -229,4 +242,6 @@ pub own_numbered_is : (sense : Sense) (rows : List Listing) (xs : List ℕ) (own
     (i : ℕ) → IsNumber (length rows) i → numbered own i (pos 0) ≡ minimised sense (listed_or_zero (row_of rows i) (numbered xs i 0))
 own_numbered_is sense rows xs own are listed i number =
     are.each i number
-    ∙ listed_turned sense (listed_in (row_of rows i) (numbered xs i 0)) (pair_number (λ (row : Listing) (j : ℕ). IsSome (listed_in row j)) rows xs i [] 0 listed number.first number.last)
+    ∙ listed_turned sense (listed_in (row_of rows i) (numbered xs i 0))
+    (pair_number (λ (row : Listing) (j : ℕ). IsSome (listed_in row j)) rows xs i [] 0 listed number.first
+    number.last)

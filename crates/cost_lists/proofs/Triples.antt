@@ -48,7 +48,8 @@ module _ (persons objects : List ℕ) (costs : List ℤ) (e : length objects ≡
       let long = length-triples persons objects costs e f in
       (q, omega arith, triples-index persons objects costs q (triple_at persons objects costs q) e f lt)
 
-  pub triples_among : (n m : ℕ) → All (IsNumber n) persons → All (IsNumber m) objects → All IsCost costs → All (IsTripleAmong n m) (triples_of persons objects costs)
+  pub triples_among : (n m : ℕ) → All (IsNumber n) persons → All (IsNumber m) objects → All IsCost costs →
+      All (IsTripleAmong n m) (triples_of persons objects costs)
   triples_among n m p o c q d lt =
       let long = length-triples persons objects costs e f in
       let below : q < length persons = omega arith in

@@ -4,6 +4,7 @@
 
 mod law;
 mod lists;
+mod number_lists;
 mod numbers;
 mod own;
 mod source;
@@ -11,6 +12,7 @@ mod total;
 
 pub use law::{best_given_counts, costs_are_listed, exact_means_best, wide_limits};
 pub use lists::CostLists;
+pub use number_lists::{are_within, rises};
 pub use numbers::{GREATEST_NUMBER, GREATEST_PRICE, Object, Person, Price, UNLISTED};
 pub use own::{part, to_minimise};
 pub use source::{Pairs, Source};

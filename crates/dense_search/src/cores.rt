@@ -3,7 +3,7 @@ use super::market::Market;
 use super::matrix::Matrix;
 use super::pick::{Core, pick_by_means, pick_by_prices};
 use super::prices::{begin_at_zero, reduce};
-use super::pricing::{Better, better_pairs, merge};
+use super::pricing::{Better, better_pairs, merge, pairs_around};
 use super::reading::Reading;
 use super::record::{Ended, Record};
 use sparse_search::{Looks, Pair, SparseProblem};
@@ -181,18 +181,18 @@ fn are_too_many<R: Reading<i64>>(
     may_copy && better.persons / 3 > matrix.persons as u64 / 4
 }
 
-// Solves cores until no pair beats the prices. `Long` if passes don't converge; the record then has
-// the mean of what persons would gain by the better pairs.
-pub fn solve_by_cores<R: Reading<i64>>(
+// Solves a core, and larger ones, until no pair beats the prices. `Long` if passes don't converge;
+// the record then has the mean of what persons would gain by the better pairs.
+fn solve_from<R: Reading<i64>>(
     alloc: Global,
     matrix: &Matrix<'_, i64, R>,
     market: &mut Market<'_, i64>,
     record: &mut Record,
     looks: &mut Looks,
+    first: Core,
     may_copy: bool,
 ) -> Result<Ended, AllocError> {
-    let mut core = pick_by_prices(alloc, matrix, market)?;
-    looks.add(matrix.pairs());
+    let mut core = first;
     for _ in 0..PASSES {
         record.passes = record.passes.saturating_add(1);
         match solve_core(alloc, matrix, market, &core, looks)? {
@@ -216,23 +216,40 @@ pub fn solve_by_cores<R: Reading<i64>>(
     Ok(Ended::Long)
 }
 
-// What a core is worth that an earlier call solved, and of which only prices and objects are left:
-// `Served` if no pair beats the prices, `Long` if those of many persons do.
-pub fn judge_core<R: Reading<i64>>(
+// Solves cores from the prices of the market.
+pub fn solve_by_cores<R: Reading<i64>>(
     alloc: Global,
     matrix: &Matrix<'_, i64, R>,
-    market: &Market<'_, i64>,
+    market: &mut Market<'_, i64>,
+    record: &mut Record,
+    looks: &mut Looks,
+    may_copy: bool,
+) -> Result<Ended, AllocError> {
+    let core = pick_by_prices(alloc, matrix, market)?;
+    looks.add(matrix.pairs());
+    solve_from(alloc, matrix, market, record, looks, core, may_copy)
+}
+
+// Goes on from a core that an earlier call solved, and of which only prices and objects are left:
+// these give one of the same kind. `Blocked` if a person has no object.
+pub fn resume_cores<R: Reading<i64>>(
+    alloc: Global,
+    matrix: &Matrix<'_, i64, R>,
+    market: &mut Market<'_, i64>,
     record: &mut Record,
     looks: &mut Looks,
 ) -> Result<Ended, AllocError> {
-    let better = better_pairs(alloc, matrix, market)?;
+    if market.unserved() > 0 || record.passes > PASSES {
+        return Ok(Ended::Blocked);
+    }
+    let around = pairs_around(alloc, matrix, market)?;
     looks.add(matrix.pairs());
-    record.slackness = better.mean_gain();
-    Ok(if better.persons == 0 && market.unserved() == 0 {
-        Ended::Served
-    } else if are_many(matrix, &better) {
-        Ended::Long
-    } else {
-        Ended::Stopped
-    })
+    record.slackness = around.mean_gain();
+    if around.persons == 0 {
+        return Ok(Ended::Served);
+    }
+    if are_too_many(matrix, &around, record.passes, false) {
+        return Ok(Ended::Long);
+    }
+    solve_from(alloc, matrix, market, record, looks, around.core, false)
 }

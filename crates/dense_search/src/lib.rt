@@ -5,6 +5,7 @@
 
 mod auction;
 mod bids;
+mod cheapest;
 mod cores;
 mod full;
 mod gather;

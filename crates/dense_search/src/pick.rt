@@ -13,7 +13,7 @@ const MOST_BY_PRICES: usize = 48;
 const MOST_BY_MEANS: usize = 24;
 
 // The width of the first row, in gaps between its two least values.
-const GAPS: i64 = 24;
+pub const GAPS: i64 = 24;
 
 // The second measure takes means over each eighth row.
 const STRIDE: usize = 8;

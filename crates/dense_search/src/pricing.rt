@@ -3,8 +3,9 @@
 use super::gather::{Candidate, Wanted, gather, scatter};
 use super::market::Market;
 use super::matrix::Matrix;
-use super::pick::Core;
+use super::pick::{Core, GAPS};
 use super::reading::Reading;
+use super::rows::two_best;
 use sparse_search::{Pair, place_at};
 use std::alloc::{AllocError, Global};
 
@@ -12,6 +13,9 @@ use std::alloc::{AllocError, Global};
 const MOST_JOINING: usize = 48;
 
 const MOST_GATHERED: usize = 512;
+
+// About as many pairs of a person make a core around a plan and its prices.
+const MOST_AROUND: usize = 16;
 
 // How often a limit is halved.
 const HALVINGS: usize = 62;
@@ -67,21 +71,31 @@ impl Better {
         self.gains.wrapping_div(persons)
     }
 
-    // The best of what was found for a person, whose own pair has this value.
-    fn join(&mut self, row: &[i64], found: &[Candidate], own: i64) -> Result<(), AllocError> {
+    // Counts a person who would gain by an object of this value.
+    fn count(&mut self, least: i64, own: i64) {
+        if least < own {
+            self.persons = self.persons.saturating_add(1);
+            self.gains = self.gains.saturating_add(own.saturating_sub(least));
+        }
+    }
+
+    // Adds a pair of the person whose row this is.
+    fn add(&mut self, row: &[i64], object: u32) -> Result<(), AllocError> {
+        let cost = row.get(object as usize).copied().unwrap_or(0);
+        self.core.pairs.push(Pair { object, cost })?;
+        Ok(())
+    }
+
+    // The best of what was found up to a value.
+    fn join(&mut self, row: &[i64], found: &[Candidate], most: i64) -> Result<(), AllocError> {
         if found.is_empty() {
             return Ok(());
         }
-        let least = least_of(found);
-        let limit = joining_limit(found, least, own);
-        self.persons = self.persons.saturating_add(1);
-        self.gains = self.gains.saturating_add(own.saturating_sub(least));
+        let limit = joining_limit(found, least_of(found), most);
         let mut left = MOST_JOINING;
         for one in found {
             if one.value <= limit && left > 0 {
-                let cost = row.get(one.object as usize).copied().unwrap_or(0);
-                let object = one.object;
-                self.core.pairs.push(Pair { object, cost })?;
+                self.add(row, one.object)?;
                 left -= 1;
             }
         }
@@ -117,7 +131,103 @@ pub fn better_pairs<R: Reading<i64>>(
             wanted,
             &mut found,
         )?;
+        better.count(least_of(found.as_slice()), own);
         better.join(row, found.as_slice(), own)?;
+        better.core.starts.push(better.core.pairs.len())?;
+    }
+    Ok(better)
+}
+
+// How much worse the pairs of the first person may be.
+fn first_width<R: Reading<i64>>(matrix: &Matrix<'_, i64, R>, market: &Market<'_, i64>) -> i64 {
+    let two = two_best(&matrix.reading, matrix.row(0), market.prices);
+    two.gap().saturating_mul(GAPS).max(1)
+}
+
+// How much worse pairs may be for the next person, after so many were found.
+fn next_width(width: i64, found: usize) -> i64 {
+    if found > MOST_AROUND {
+        return (width / 4).saturating_mul(3).max(1);
+    }
+    if found < MOST_AROUND / 4 {
+        return width.saturating_mul(2);
+    }
+    width
+}
+
+// What lies around the own value of a person: better objects, and those that are less than a width
+// worse.
+#[derive(Drop)]
+struct Around {
+    width: i64,
+    near: Vec<Candidate>,
+    found: Vec<Candidate>,
+}
+
+impl Around {
+    // Adds near objects to what was found: all but the own one, or those that aren't better.
+    fn add_near(&mut self, least: i64, own: u32) -> Result<(), AllocError> {
+        for one in &self.near {
+            if one.object != own && one.value >= least {
+                self.found.push(*one)?;
+            }
+        }
+        Ok(())
+    }
+
+    // Finds them. Where many are near, not all of these are found, and the better ones by a look of
+    // their own.
+    fn look<R: Reading<i64>>(
+        &mut self,
+        matrix: &Matrix<'_, i64, R>,
+        market: &Market<'_, i64>,
+        person: u32,
+        own: i64,
+    ) -> Result<(), AllocError> {
+        let (row, prices) = (matrix.row(person), &*market.prices);
+        let from = scatter(person as usize) % matrix.objects.max(1);
+        let near = Wanted {
+            limit: own.saturating_add(self.width),
+            most: MOST_JOINING,
+        };
+        gather(&matrix.reading, row, prices, from, near, &mut self.near)?;
+        let is_full = self.near.len() >= near.most;
+        let better = Wanted {
+            limit: own,
+            most: if is_full { MOST_GATHERED } else { 0 },
+        };
+        gather(&matrix.reading, row, prices, from, better, &mut self.found)?;
+        let least = if is_full { own } else { i64::MIN };
+        self.add_near(least, market.object(person))?;
+        self.width = next_width(self.width, self.near.len());
+        Ok(())
+    }
+}
+
+// A core for the prices and objects of the market: of each person the own pair, those that are
+// better, and those that are nearly as good. It counts persons with better ones.
+pub fn pairs_around<R: Reading<i64>>(
+    alloc: Global,
+    matrix: &Matrix<'_, i64, R>,
+    market: &Market<'_, i64>,
+) -> Result<Better, AllocError> {
+    let mut better = Better::none(alloc)?;
+    let mut around = Around {
+        width: first_width(matrix, market),
+        near: Vec::new(alloc),
+        found: Vec::new(alloc),
+    };
+    for k in 0..matrix.persons {
+        let (person, row) = (place_at(k), matrix.row(place_at(k)));
+        let object = market.object(person);
+        let own = matrix
+            .value(person, object)
+            .wrapping_add(market.price(object));
+        let most = own.saturating_add(around.width);
+        around.look(matrix, market, person, own)?;
+        better.add(row, object)?;
+        better.count(least_of(around.found.as_slice()), own);
+        better.join(row, around.found.as_slice(), most)?;
         better.core.starts.push(better.core.pairs.len())?;
     }
     Ok(better)

@@ -1,7 +1,8 @@
 // The whole search, stage by stage.
 use super::auction::auction;
 use super::bids::bid_all;
-use super::cores::{judge_core, solve_by_cores};
+use super::cheapest::take_cheapest;
+use super::cores::{resume_cores, solve_by_cores};
 use super::market::Market;
 use super::matrix::{DenseProblem, Matrix};
 use super::middle::search_copy;
@@ -162,6 +163,10 @@ impl<'a> Work<'a> {
         }
         let looks = begin(matrix, self.market.prices);
         self.looks.add(looks);
+        if matrix.persons < matrix.objects / 8 {
+            let looks = take_cheapest(matrix, &mut self.market);
+            self.looks.add(looks);
+        }
         Ok(self.begin_paths())
     }
 
@@ -299,7 +304,7 @@ impl<'a> Work<'a> {
         matrix: &Matrix<'_, i64, R>,
     ) -> Result<Step, AllocError> {
         if self.record.passes > 0 {
-            return self.leave_core(alloc, matrix);
+            return self.resume_core(alloc, matrix);
         }
         let may_copy = self.may_copy_later(matrix);
         let record = &mut self.record;
@@ -311,19 +316,26 @@ impl<'a> Work<'a> {
         Ok(after(ended, Step::End(Outcome::Best), Stage::Retry))
     }
 
-    // Goes on where an earlier call stopped after a core.
-    fn leave_core<R: Reading<i64>>(
+    // Goes on where an earlier call stopped after a core. A pass that finds no better pair confirms
+    // an end.
+    fn resume_core<R: Reading<i64>>(
         &mut self,
         alloc: Global,
         matrix: &Matrix<'_, i64, R>,
     ) -> Result<Step, AllocError> {
         let (record, looks) = (&mut self.record, &mut self.looks);
-        let ended = judge_core(alloc, matrix, &self.market, record, looks)?;
-        self.record.passes = 0;
+        let ended = resume_cores(alloc, matrix, &mut self.market, record, looks)?;
+        if !matches!(ended, Ended::Stopped) {
+            self.record.passes = 0;
+        }
         Ok(match ended {
-            Ended::Served => Step::End(Outcome::Best),
+            Ended::Served => {
+                self.is_resumed = self.market.has_dear_unowned();
+                Step::End(Outcome::Best)
+            }
             Ended::Long => Step::To(Stage::Auction),
-            _ => Step::To(Stage::Retry),
+            Ended::Stopped => Step::End(Outcome::Stopped),
+            Ended::Blocked => Step::To(Stage::Retry),
         })
     }
 

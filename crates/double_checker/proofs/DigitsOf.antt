@@ -1,12 +1,12 @@
 -- The digits of a finite double, from its bit pattern.
-use Prim.Native.Nat.{ℕ, zero, suc, ◌+◌, ◌-◌, ◌*◌, ◌/◌, ◌%◌, ◌^◌, ◌≤◌, ◌<◌}
+use Prim.Native.Nat.{ℕ, suc, ◌+◌, ◌-◌, ◌*◌, ◌/◌, ◌%◌, ◌^◌, ◌≤◌}
 use mathlib.Core.Path.{◌≡◌, refl, sym, ap, ◌∙◌, subst}
 use native.Mathlib.Omega.{arith}
-use native.Mathlib.Nat.{mul-one, mul-div_cancel}
+use native.Mathlib.Nat.{mul-div_cancel}
 use mathlib.Core.Bool.{Bool, true, false, not, cond, true≢false}
-use lib.IntN.{ℤ, pos, negsuc, neg_ℤ}
-use lib.Dec.{T, leb, eqb, ltb}
-use lib.Ieee.{Float, nan, inf, fin, binary64, up, down, lt, fits, of_bits, to_bits, of_fields, odd, top, hid, ones, prec, low}
+use lib.IntN.{pos, neg_ℤ}
+use lib.Dec.{T, leb, eqb}
+use lib.Ieee.{Float, nan, inf, fin, binary64, down, lt, fits, of_bits, to_bits, of_fields, odd, top}
 use lib.Ieee.Bits.{of_bits-to_bits}
 use lib.Ieee.Exact.{HasValue, odd_sign}
 use lib.Ieee.Fits.{down_pos}
@@ -15,8 +15,6 @@ use Rattle.std.proofs.lemmas.Int.{ints}
 use Rattle.std.proofs.lemmas.Bool.Decides.{eqb_tells}
 use Rattle.std.proofs.lemmas.Float.{T_from_true, T_from_false}
 use Rattle.double_costs.specs.Units.{is_number, units_of, size_in_units}
-use Rattle.double_costs.proofs.RoundedUnits.{signed}
-use Rattle.double_checker.specs.declared.digits.Digits.{Digits}
 use Rattle.double_checker.specs.inside.Sizes.{AreDigits, size_of}
 use Rattle.double_checker.proofs.Finite.{zero_is, zero_fits}
 use Rattle.double_checker.proofs.FloatOrder.{less_units, no_less_units}
@@ -38,12 +36,15 @@ value_units (fin t m e) s a v =
     go true e = inr (ap (λ (i : ℕ). neg_ℤ (pos i)) e)
 
 -- what a finite double's fields are
-fields : (x : Float) (s : Bool) (k t : ℕ) → IsTrue (is_number x) → x ≡ of_fields binary64 s (suc k) t → (IsUnits x ((2 ^ 52 + t) * 2 ^ k)) × (suc k ≡ 2047 → ⊥)
+fields : (x : Float) (s : Bool) (k t : ℕ) → IsTrue (is_number x) → x ≡ of_fields binary64 s (suc k) t →
+    (IsUnits x ((2 ^ 52 + t) * 2 ^ k)) × (suc k ≡ 2047 → ⊥)
 unfolding of_fields
 fields x s k t n e = elim (eqb_tells (suc k) 2047) [
-  | inl g ↦ absurd (go (eqb t 0) (e ∙ ap (λ (b : Bool). cond b (cond (eqb t 0) (inf s) nan) (odd 53 s (2 ^ 52 + t) k 1074)) g.0))
+  | inl g ↦ absurd
+      (go (eqb t 0) (e ∙ ap (λ (b : Bool). cond b (cond (eqb t 0) (inf s) nan) (odd 53 s (2 ^ 52 + t) k 1074)) g.0))
   | inr g ↦ (
-    subst (λ (y : Float). IsUnits y ((2 ^ 52 + t) * 2 ^ k)) (sym (e ∙ ap (λ (b : Bool). cond b (cond (eqb t 0) (inf s) nan) (odd 53 s (2 ^ 52 + t) k 1074)) g.0))
+    subst (λ (y : Float). IsUnits y ((2 ^ 52 + t) * 2 ^ k))
+        (sym (e ∙ ap (λ (b : Bool). cond b (cond (eqb t 0) (inf s) nan) (odd 53 s (2 ^ 52 + t) k 1074)) g.0))
         (value_units (odd 53 s (2 ^ 52 + t) k 1074) s ((2 ^ 52 + t) * 2 ^ k) (odd_sign 53 s (2 ^ 52 + t) k 1074)),
     g.1,
   )
@@ -56,11 +57,13 @@ fields x s k t n e = elim (eqb_tells (suc k) 2047) [
 small_fields : (x : Float) (s : Bool) (t : ℕ) → x ≡ of_fields binary64 s 0 t → IsUnits x (t * 2 ^ 0)
 unfolding of_fields
 small_fields x s t e =
-    subst (λ (y : Float). IsUnits y (t * 2 ^ 0)) (sym e) (value_units (odd 53 s t 0 1074) s (t * 2 ^ 0) (odd_sign 53 s t 0 1074))
+    subst (λ (y : Float). IsUnits y (t * 2 ^ 0)) (sym e)
+    (value_units (odd 53 s t 0 1074) s (t * 2 ^ 0) (odd_sign 53 s t 0 1074))
 
 -- the fields of a bit pattern
 by_fields : (x : Float) → T (fits binary64 x) →
-    x ≡ of_fields binary64 (leb (top binary64) (to_bits binary64 x)) (to_bits binary64 x % 9223372036854775808 / 4503599627370496) (to_bits binary64 x % 4503599627370496)
+    x ≡ of_fields binary64 (leb (top binary64) (to_bits binary64 x))
+    (to_bits binary64 x % 9223372036854775808 / 4503599627370496) (to_bits binary64 x % 4503599627370496)
 unfolding of_bits
 by_fields x f = sym (of_bits-to_bits binary64 x f)
 
@@ -68,21 +71,34 @@ low_part : (b : ℕ) → b % 9223372036854775808 % 4503599627370496 ≡ b % 4503
 low_part b = omega arith
 
 -- the sign test
-with_sign : (x : Float) (a : ℕ) (negative : Bool) → negative ≡ lt x (of_bits binary64 0) → T (fits binary64 x) → IsTrue (is_number x) → IsUnits x a →
+with_sign : (x : Float) (a : ℕ) (negative : Bool) → negative ≡ lt x (of_bits binary64 0) → T (fits binary64 x) →
+    IsTrue (is_number x) → IsUnits x a →
     units_of x ≡ cond negative (neg_ℤ (pos a)) (pos a)
 with_sign x a true e f n u =
-    let l : units_of x <ℤ pos 0 = less_units x (fin false 0 (pos 0)) f zero_fits n refl (subst (λ (y : Float). T (lt x y)) zero_is (T_from_true (lt x (of_bits binary64 0)) (sym e))) in
+    let l : units_of x <ℤ pos 0 = less_units x (fin false 0 (pos 0)) f zero_fits n refl
+    (subst (λ (y : Float). T (lt x y)) zero_is (T_from_true (lt x (of_bits binary64 0)) (sym e))) in
     elim u.units [ inl p ↦ absurd (omega (arith, ints)) | inr p ↦ p ]
 with_sign x a false e f n u =
-    let l : pos 0 ≤ℤ units_of x = no_less_units x (fin false 0 (pos 0)) f zero_fits n refl (subst (λ (y : Float). T (not (lt x y))) zero_is (T_from_false (lt x (of_bits binary64 0)) (sym e))) in
+    let l : pos 0 ≤ℤ units_of x = no_less_units x (fin false 0 (pos 0)) f zero_fits n refl
+    (subst (λ (y : Float). T (not (lt x y))) zero_is (T_from_false (lt x (of_bits binary64 0)) (sym e))) in
     elim u.units [ inl p ↦ p | inr p ↦ omega (arith, ints) ]
 
-pub digits_small : (x : Float) → T (fits binary64 x) → IsTrue (is_number x) → to_bits binary64 x % 9223372036854775808 / 4503599627370496 ≡ 0 →
-    AreDigits x (record { digits = to_bits binary64 x % 9223372036854775808 % 4503599627370496; shift = 0; negative = lt x (of_bits binary64 0) })
+pub digits_small : (x : Float) → T (fits binary64 x) → IsTrue (is_number x) →
+    to_bits binary64 x % 9223372036854775808 / 4503599627370496 ≡ 0 →
+    AreDigits x
+    (record {
+      digits = to_bits binary64 x % 9223372036854775808 % 4503599627370496;
+      shift = 0;
+      negative = lt x
+          (of_bits binary64 0);
+    })
 digits_small x f n z =
     let t : ℕ = to_bits binary64 x % 9223372036854775808 % 4503599627370496 in
-    let b = by_fields x f ∙ ap (λ (k : ℕ). of_fields binary64 (leb (top binary64) (to_bits binary64 x)) k (to_bits binary64 x % 4503599627370496)) z
-    ∙ ap (λ (k : ℕ). of_fields binary64 (leb (top binary64) (to_bits binary64 x)) 0 k) (sym (low_part (to_bits binary64 x))) in
+    let b = by_fields x f
+    ∙ ap (λ (k : ℕ). of_fields binary64 (leb (top binary64) (to_bits binary64 x)) k
+    (to_bits binary64 x % 4503599627370496)) z
+    ∙ ap (λ (k : ℕ). of_fields binary64 (leb (top binary64) (to_bits binary64 x)) 0 k)
+    (sym (low_part (to_bits binary64 x))) in
     let u = small_fields x (leb (top binary64) (to_bits binary64 x)) t b in
     record {
       size = u.size;
@@ -95,7 +111,8 @@ digits_small x f n z =
 top_shift : (k b : ℕ) → k + 1 ≡ b % 9223372036854775808 / 4503599627370496 → (suc k ≡ 2047 → ⊥) → k ≤ 2045
 top_shift k b e h = omega arith
 
-pub digits_large : (x : Float) → T (fits binary64 x) → IsTrue (is_number x) → (to_bits binary64 x % 9223372036854775808 / 4503599627370496 ≡ 0 → ⊥) →
+pub digits_large : (x : Float) → T (fits binary64 x) → IsTrue (is_number x) →
+    (to_bits binary64 x % 9223372036854775808 / 4503599627370496 ≡ 0 → ⊥) →
     AreDigits x (record {
       digits = to_bits binary64 x % 9223372036854775808 % 4503599627370496 + 4503599627370496;
       shift = to_bits binary64 x % 9223372036854775808 / 4503599627370496 - 1;

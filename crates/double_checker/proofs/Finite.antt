@@ -1,12 +1,11 @@
 -- Finite doubles, and costs turned.
-use mathlib.Core.Path.{◌≡◌, refl, sym, ap, ◌∙◌}
-use mathlib.Core.Bool.{Bool, true, false, not, true≢false}
+use mathlib.Core.Path.{◌≡◌, refl, sym}
+use mathlib.Core.Bool.{true, false, not, true≢false}
 use lib.Dec.{T}
 use lib.Ieee.{Float, nan, inf, fin, neg, lt, of_bits, binary64, fits, is_nan}
 use lib.Ieee.Fits.{neg-fits}
-use lib.IntN.{ℤ, pos, neg_ℤ}
-use Rattle.std.proofs.Common.{IsTrue, ℕ, zero, suc, arith}
-use Rattle.std.proofs.lemmas.Int.{ints}
+use lib.IntN.{pos, neg_ℤ}
+use Rattle.std.proofs.Common.{IsTrue, ℕ, zero, suc}
 use Rattle.assign_core.specs.declared.sense.Sense.{Sense}
 use Rattle.assign_core.specs.declared.sense.Sense.TheVariants.{Min, Max}
 use Rattle.cost_lists.specs.Own.{minimised}
@@ -15,14 +14,16 @@ use Rattle.double_costs.specs.DoubleRows.{is_cost}
 use Rattle.double_checker.specs.inside.Sizes.{size_of}
 use Rattle.double_checker.specs.inside.Pairs.{turned}
 
-pub number_above : (x : Float) → lt (of_bits binary64 18442240474082181120) x ≡ true → lt x (of_bits binary64 9218868437227405312) ≡ is_number x
+pub number_above : (x : Float) → lt (of_bits binary64 18442240474082181120) x ≡ true →
+    lt x (of_bits binary64 9218868437227405312) ≡ is_number x
 unfolding lt of_bits
 number_above nan h = refl
 number_above (inf false) h = refl
 number_above (inf true) h = absurd (true≢false (sym h))
 number_above (fin s m e) h = refl
 
-pub number_not_above : (x : Float) → lt (of_bits binary64 18442240474082181120) x ≡ false → lt (of_bits binary64 18442240474082181120) x ≡ is_number x
+pub number_not_above : (x : Float) → lt (of_bits binary64 18442240474082181120) x ≡ false →
+    lt (of_bits binary64 18442240474082181120) x ≡ is_number x
 unfolding lt of_bits
 number_not_above nan h = refl
 number_not_above (inf false) h = absurd (true≢false h)
@@ -90,6 +91,3 @@ zero_is = refl
 pub zero_fits : T (fits binary64 (fin false 0 (pos 0)))
 unfolding fits
 zero_fits = tt
-
-pub zero_units : units_of (fin false 0 (pos 0)) ≡ pos 0
-zero_units = refl

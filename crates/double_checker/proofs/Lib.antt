@@ -8,6 +8,9 @@ pub mod RowSteps
 pub mod Given
 pub mod Unmarked
 pub mod PlanRows
-pub mod PlanProofs
-pub mod Rising
+pub mod PlanPersons
+pub mod UnownedPrices
+pub mod FarRows
+pub mod PlanVerdicts
+pub mod MarginSizes
 pub mod HallProofs

@@ -1,14 +1,15 @@
 -- The least and the greatest shift of four doubles.
-use Rattle.std.proofs.Common.{◌≡◌, ℕ, ◌<◌, ◌≤◌, ◌+◌, ◌-◌, ◌*◌, ◌^◌, zero, suc, min, max, List, [], ◌∷◌, nat_eq, true, false, inl, inr, ◌⊎◌, arith, refl, ap, sym, ◌∙◌, subst}
+use Rattle.std.proofs.Common.{◌≡◌, ℕ, ◌<◌, ◌≤◌, ◌+◌, ◌*◌, ◌^◌, min, max, List, nat_eq}
+use Rattle.std.proofs.Common.{inl, inr, arith, ap, sym, ◌∙◌, subst}
 use Rattle.std.specs.List.{Contains}
 use Rattle.std.proofs.lemmas.Bool.{cases_lt, cond-true, cond-false}
 use Rattle.std.proofs.lemmas.Bool.Decides.{eqb_tells}
-use native.Mathlib.Nat.{mul_assoc, mul-pos, zero-mul, mul-lt-mul_of_pos_right, mul-le-mul_right, lt_of_lt_of_le, le_trans, le_of_eq}
+use native.Mathlib.Nat.{mul-pos, mul-lt-mul_of_pos_right, mul-le-mul_right, lt_of_lt_of_le, le_trans, le_of_eq}
 use lib.Pow.{pow-add, pow_pos, pow_mono}
 use lib.Ieee.{Float}
 use Rattle.double_checker.specs.declared.digits.Digits.{Digits}
 use Rattle.double_checker.specs.Far.{HasFar}
-use Rattle.double_checker.specs.inside.Sizes.{AreDigits, AreShiftedBy, low_shift, size_by, size_of}
+use Rattle.double_checker.specs.inside.Sizes.{AreDigits, AreShiftedBy, low_shift, size_of}
 
 pub of_min : (P : ℕ → Type 0) (a b : ℕ) → P a → P b → P (min a b)
 of_min P a b p q = elim (cases_lt a b) [
@@ -36,7 +37,8 @@ pub record IsHigh (sizes : List ℕ) (z : ℕ) : Type 0 where
   pub near : z ≤ 2045
   pub large : 0 < z → 2 ^ 52 * 2 ^ z ≤ size
 
-pub low_is : (sizes : List ℕ) (x : Float) (d : Digits) → AreDigits x d → Contains sizes (size_of x) → IsLow sizes (low_shift d)
+pub low_is : (sizes : List ℕ) (x : Float) (d : Digits) → AreDigits x d → Contains sizes (size_of x) →
+    IsLow sizes (low_shift d)
 low_is sizes x d a c = elim (eqb_tells d.digits 0) [
   | inl e ↦
       let z : low_shift d ≡ 2046 = cond-true (nat_eq d.digits 0) 2046 d.shift e.0 in
@@ -48,11 +50,14 @@ low_is sizes x d a c = elim (eqb_tells d.digits 0) [
         size = size_of x;
         size_in = c;
         some = λ h. subst (λ (i : ℕ). 0 < i) (sym a.size) (mul-pos some (pow_pos d.shift));
-        small = λ h. subst (λ (i : ℕ). size_of x < 2 ^ 53 * 2 ^ i) (sym z) (subst (λ (i : ℕ). i < 2 ^ 53 * 2 ^ d.shift) (sym a.size) (mul-lt-mul_of_pos_right a.few (pow_pos d.shift)));
+        small = λ h. subst (λ (i : ℕ). size_of x < 2 ^ 53 * 2 ^ i) (sym z)
+            (subst (λ (i : ℕ). i < 2 ^ 53 * 2 ^ d.shift) (sym a.size) (mul-lt-mul_of_pos_right a.few
+            (pow_pos d.shift)));
       }
 ]
 
-pub high_is : (sizes : List ℕ) (x : Float) (d : Digits) → AreDigits x d → Contains sizes (size_of x) → IsHigh sizes d.shift
+pub high_is : (sizes : List ℕ) (x : Float) (d : Digits) → AreDigits x d → Contains sizes (size_of x) →
+    IsHigh sizes d.shift
 high_is sizes x d a c = record {
   size = size_of x;
   size_in = c;
@@ -64,7 +69,8 @@ high_is sizes x d a c = record {
 spread : (low high s : ℕ) → low + 71 ≤ high → s < 2 ^ 53 * 2 ^ low → s * 2 ^ 70 < 2 ^ 52 * 2 ^ high
 spread low high s h lt =
     let a : s * 2 ^ 70 < 2 ^ 53 * 2 ^ low * 2 ^ 70 = mul-lt-mul_of_pos_right lt (pow_pos 70) in
-    let e : 2 ^ 53 * 2 ^ low * 2 ^ 70 ≡ 2 ^ (53 + low + 70) = ap (λ (i : ℕ). i * 2 ^ 70) (sym (pow-add 2 53 low)) ∙ sym (pow-add 2 (53 + low) 70) in
+    let e : 2 ^ 53 * 2 ^ low * 2 ^ 70 ≡ 2 ^ (53 + low + 70) = ap (λ (i : ℕ). i * 2 ^ 70) (sym (pow-add 2 53 low))
+    ∙ sym (pow-add 2 (53 + low) 70) in
     let f : 2 ^ 52 * 2 ^ high ≡ 2 ^ (52 + high) = sym (pow-add 2 52 high) in
     let g : 2 ^ (53 + low + 70) ≤ 2 ^ (52 + high) = pow_mono (omega arith) in
     lt_of_lt_of_le a (le_trans (le_of_eq e) (le_trans g (le_of_eq (sym f))))
@@ -80,11 +86,3 @@ far_apart sizes low high l g h =
       some = l.some m;
       far = lt_of_lt_of_le (spread low high l.size (omega arith) (l.small m)) (g.large (omega arith));
     }
-
-pub shifted_by : (x : Float) (d : Digits) (low high : ℕ) → AreDigits x d → low ≤ low_shift d → d.shift ≤ high → high ≤ 70 + low → AreShiftedBy low d
-shifted_by x d low high a l g h = elim (eqb_tells d.digits 0) [
-  | inl e ↦ let z = e.1 in record { few = a.few; least = λ p. absurd (omega arith); most = λ p. absurd (omega arith) }
-  | inr e ↦
-      let z : low_shift d ≡ d.shift = cond-false (nat_eq d.digits 0) 2046 d.shift e.0 in
-      record { few = a.few; least = λ p. omega arith; most = λ p. omega arith }
-]

@@ -3,16 +3,18 @@ use Rattle.std.specs.Prelude.{◌≡◌, ℕ, ℤ, ◌*◌, ◌<◌, List, [], �
 use lib.Ieee.{Float, nan}
 use Rattle.assign_core.specs.declared.sense.Sense.{Sense}
 use Rattle.assign_core.specs.Numbered.{numbered}
-use Rattle.assign_core.specs.Rows.{Listing, IsListed, listed_in, listed_or_zero, row_of}
+use Rattle.assign_core.specs.Rows.{Listing, IsListed, listed_or_zero, row_of}
 use Rattle.assign_core.specs.Prices.{price_of}
 use Rattle.assign_core.specs.Assignment.{AreListed, IsAssignment}
 use Rattle.dual_checker.specs.Faults.{IsFirst, IsUnlisted, own_object}
 use Rattle.double_costs.specs.Units.{is_number, units_of}
 use Rattle.double_costs.specs.DoubleRows.{IsFirstFault, is_cost, rows_of_doubles}
+use Rattle.double_costs.specs.Margins.{IsMarginOf}
 use Rattle.double_costs.specs.Prices.{AreChoicesBy, IsPricedBest}
 use Rattle.double_checker.specs.Far.{HasFar}
 use Rattle.double_checker.specs.declared.verdict.Verdict.{Verdict}
-use Rattle.double_checker.specs.declared.verdict.Verdict.TheVariants.{Length, Cost, Unlisted, Twice, Price, Undecided, Best}
+use Rattle.double_checker.specs.declared.verdict.Verdict.TheVariants.{Length, Cost, Unlisted, Twice, Price, Undecided}
+use Rattle.double_checker.specs.declared.verdict.Verdict.TheVariants.{Best}
 
 -- n * m costs, an object for each of n persons, and a price for each of m objects
 pub record AreLong (n m : ℕ) (costs : List Float) (xs : List ℕ) (prices : List Float) : Type 0 where
@@ -38,7 +40,8 @@ abbrev pub IsNoPrice : List Float → ℕ → Type 0
 IsNoPrice prices j = is_number (numbered prices j nan) ≡ false
 
 -- an assignment over costs, and a finite price for each object
-pub record IsWithPrices (sense : Sense) (n m : ℕ) (costs : List Float) (xs : List ℕ) (prices : List Float) : Type 0 where
+pub record IsWithPrices (sense : Sense) (n m : ℕ) (costs : List Float) (xs : List ℕ)
+    (prices : List Float) : Type 0 where
   pub doubles : AreDoubles sense n m costs xs prices
   pub assigned : IsAssignment (rows_of_doubles m n costs) xs
   pub finite : All (λ p. IsTrue (is_number p)) prices
@@ -60,6 +63,12 @@ pub record IsFarApart (rows : List Listing) (xs : List ℕ) (prices : List ℤ) 
   pub listed : IsListed rows i k
   pub far : HasFar (compared rows xs prices i k)
 
+-- each other object that a person lists is worse by more than a margin of the costs
+pub record IsBestByMargin (sense : Sense) (margin : ℤ) (rows : List Listing) (costs : List Float) (xs : List ℕ)
+    (prices : List ℤ) : Type 0 where
+  pub enough : IsMarginOf margin costs
+  pub worse : AreChoicesBy margin sense prices rows xs
+
 -- the first fault in the order of the variants, by the lowest place or number that has it; at none
 -- the plan is proved best by its prices, or it isn't decided, which comes only where the prices
 -- don't prove it or where numbers are far apart
@@ -75,9 +84,10 @@ IsVerdict sense n m costs xs prices margin (Price j) =
 IsVerdict sense n m costs xs prices margin Undecided =
     let rows = rows_of_doubles m n costs in
     IsWithPrices sense n m costs xs prices
-    × (IsPricedBest sense m rows xs (price_units prices) → (i : ℕ) × ((k : ℕ) × IsFarApart rows xs (price_units prices) i k))
+    × (IsPricedBest sense m rows xs (price_units prices) →
+    (i : ℕ) × ((k : ℕ) × IsFarApart rows xs (price_units prices) i k))
 IsVerdict sense n m costs xs prices margin (Best by_margin) =
     let rows = rows_of_doubles m n costs in
     IsWithPrices sense n m costs xs prices
     × IsPricedBest sense m rows xs (price_units prices)
-    × (by_margin ≡ true → AreChoicesBy (units_of margin) sense (price_units prices) rows xs)
+    × (by_margin ≡ true → IsBestByMargin sense (units_of margin) rows costs xs (price_units prices))

@@ -7,6 +7,7 @@ ghost use Rattle.double_checker.specs.Verdicts.{AreCosts, AreLong, IsVerdict};
 ghost use Rattle.double_checker.specs.inside.Plans.{AreOwn, MarksJust};
 ghost use Rattle.double_checker.specs.inside.Outcome.{IsVerdictOrFault};
 
+use super::margins::is_by_margin;
 use super::objects::{clear, first_given_before, first_unlisted};
 use super::prices::{are_least_unmarked, first_no_price};
 use super::rows::are_rows_seen;
@@ -24,7 +25,8 @@ fn verdict_on_prices(
     margin: f64,
     owned: &[bool],
 ) -> Verdict
-    requires long { AreLong (length objects.now) (length prices.now) costs.now objects.now prices.now }
+    requires long { AreLong (length objects.now) (length prices.now) costs.now objects.now
+        prices.now }
     requires own { AreOwn (length prices.now) costs.now objects.now }
     requires assigned { IsAssignment
         (rows_of_doubles (length prices.now) (length objects.now) costs.now) objects.now }
@@ -39,7 +41,9 @@ fn verdict_on_prices(
         return Verdict::Undecided;
     }
     match are_rows_seen(sense, costs, objects, prices, margin) {
-        Some(by_margin) => Verdict::Best { by_margin },
+        Some(is_worse) => Verdict::Best {
+            by_margin: is_by_margin(is_worse, costs, margin),
+        },
         None => Verdict::Undecided,
     }
 }
@@ -53,7 +57,8 @@ fn verdict_on_plan(
     margin: f64,
     owned: &mut [bool],
 ) -> Verdict
-    requires long { AreLong (length objects.now) (length prices.now) costs.now objects.now prices.now }
+    requires long { AreLong (length objects.now) (length prices.now) costs.now objects.now
+        prices.now }
     requires owned { length owned.old ≡ length prices.now }
     requires persons { length objects.now < 2 ^ 32 }
     requires objects { length prices.now < 2 ^ 32 }
@@ -98,15 +103,15 @@ fn verdict_or_fault(sense: Sense, costs: &[f64], verdict: Verdict) -> Verdict
     }
 }
 
-/// Whether the objects of persons 1 to `n` are a plan that the prices of objects 1 to `m` prove best
-/// among `n * m` costs, row by row. An infinite cost forbids its pair: the positive infinity under
-/// `Min`, the negative one under `Max`.
+/// Whether the objects of persons 1 to `n` are a plan that the prices of objects 1 to `m` prove
+/// best among `n * m` costs, row by row. An infinite cost forbids its pair: the positive infinity
+/// under `Min`, the negative one under `Max`.
 ///
 /// At these prices each person's own object is a cheapest by cost plus price under `Min`, a dearest
 /// by cost less price under `Max`, and no price is below that of an unowned object. The prices may
-/// have any sign and size. All of this is decided in exact arithmetic. The lists may have any length
-/// and hold any doubles. `Best` says whether each other pair is worse by more than a margin too; it
-/// is never so at a margin that isn't above 0.
+/// have any sign and size. All of this is decided in exact arithmetic. The lists may have any
+/// length and hold any doubles. `Best` says whether each other pair is worse by more than a margin
+/// too, which is above 0 and at least 2^-52 of the size of each cost.
 ///
 /// The time is linear in the costs. `owned` has a mark for each object, which may be of any value
 /// before; no other memory is taken.

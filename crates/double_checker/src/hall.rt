@@ -7,11 +7,10 @@ ghost use Rattle.assign_core.specs.Hall.{IsHallSet};
 ghost use Rattle.double_costs.specs.DoubleRows.{rows_of_doubles};
 ghost use Rattle.double_checker.specs.HallVerdicts.{IsHallVerdict};
 
-use super::hall_lists::{are_within, rise};
 use super::hall_rows::{are_listed, are_rows_named, mark_each};
 use super::objects::clear;
 use assign_core::Sense;
-use cost_lists::{Object, Person};
+use cost_lists::{Object, Person, are_within, rises};
 use double_costs::first_fault;
 
 /// The verdict on a list of persons and a list of objects: the first of these that applies.
@@ -40,7 +39,8 @@ fn is_hall_of_rising(
     requires objects_within { All (IsNumber (length named.old)) objects.now }
     requires persons_rise { IsStrictlyIncreasing persons.now }
     requires objects_rise { IsStrictlyIncreasing objects.now }
-    ensures { IsTrue result ↔ IsHallSet (rows_of_doubles (length named.old) n costs.now) persons.now objects.now }
+    ensures { IsTrue result
+        ↔ IsHallSet (rows_of_doubles (length named.old) n costs.now) persons.now objects.now }
 {
     if objects.len() >= persons.len() {
         return false;
@@ -72,17 +72,17 @@ fn is_hall(
     if !are_within(m, objects) {
         return false;
     }
-    if !rise(persons) {
+    if !rises(persons) {
         return false;
     }
-    if !rise(objects) {
+    if !rises(objects) {
         return false;
     }
     is_hall_of_rising(n, costs, persons, objects, named)
 }
 
-/// Whether these persons and these objects are a Hall set: both lists rise, the objects are all that
-/// the persons list, and they are fewer. `Hall` proves that no plan exists.
+/// Whether these persons and these objects are a Hall set: both lists rise, the objects are all
+/// that the persons list, and they are fewer. `Hall` proves that no plan exists.
 ///
 /// The lists may have any length and hold any numbers. The time is linear in the costs. `named` has
 /// a mark for each object, which may be of any value before; no other memory is taken.

@@ -2,7 +2,8 @@
 ghost use Rattle.std.specs.Prelude.{◌≡◌, ◌↔◌, ◌<◌, ◌*◌, ℕ, All, IsTrue, true, false, length};
 ghost use Rattle.assign_core.specs.Numbered.{IsMarked, IsNumber};
 ghost use Rattle.double_costs.specs.Units.{is_number};
-ghost use Rattle.double_checker.specs.inside.Halls.{AreAllowed, AreRowsNamed, IsAllowedToOne, IsRowNamed};
+ghost use Rattle.double_checker.specs.inside.Halls.{AreAllowed, AreRowsNamed, IsAllowedToOne};
+ghost use Rattle.double_checker.specs.inside.Halls.{IsRowNamed};
 ghost use Rattle.double_checker.specs.inside.Plans.{MarksJust};
 
 use super::numbers::{is_number, row_part};

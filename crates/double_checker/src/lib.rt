@@ -1,13 +1,13 @@
-//! Checks plans with dual prices over costs in doubles, and Hall sets, wherever they come from. What
-//! it accepts is exactly best.
+//! Checks plans with dual prices over costs in doubles, and Hall sets, wherever they come from.
+//! What it accepts is exactly best.
 #![tactic(auto)]
 
 mod checker;
 mod digits;
 mod exact;
 mod hall;
-mod hall_lists;
 mod hall_rows;
+mod margins;
 mod numbers;
 mod objects;
 mod pairs;

@@ -1,5 +1,6 @@
 // The objects of a plan.
-ghost use Rattle.std.specs.Prelude.{◌≡◌, ◌↔◌, ◌<◌, ◌*◌, ◌^◌, ℕ, All, IsTrue, MatchOption, length, nat_eq};
+ghost use Rattle.std.specs.Prelude.{◌≡◌, ◌↔◌, ◌<◌, ◌*◌, ◌^◌, ℕ, All, IsTrue, MatchOption, length};
+ghost use Rattle.std.specs.Prelude.{nat_eq};
 ghost use Rattle.std.specs.List.{IsDistinct};
 ghost use Rattle.assign_core.specs.Numbered.{IsMarked, IsNumber};
 ghost use Rattle.dual_checker.specs.Faults.{IsFirst};

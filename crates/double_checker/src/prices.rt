@@ -1,5 +1,6 @@
 // Prices.
-ghost use Rattle.std.specs.Prelude.{◌≡◌, ◌↔◌, ◌<◌, ◌^◌, ◌≤ℤ◌, ◌<ℤ◌, ◌⊎◌, All, IsTrue, MatchOption, true, false, length};
+ghost use Rattle.std.specs.Prelude.{◌≡◌, ◌↔◌, ◌<◌, ◌^◌, ◌≤ℤ◌, ◌<ℤ◌, ◌⊎◌, All, IsTrue, MatchOption};
+ghost use Rattle.std.specs.Prelude.{true, false, length};
 ghost use Rattle.dual_checker.specs.Faults.{IsFirst};
 ghost use Rattle.double_costs.specs.Units.{is_number, units_of};
 ghost use Rattle.double_checker.specs.Verdicts.{IsNoPrice};
@@ -23,7 +24,7 @@ pub fn first_no_price(prices: &[f64]) -> Option<Object>
 }
 
 // Whether a finite double is below another.
-fn is_less(x: f64, y: f64) -> bool
+pub fn is_less(x: f64, y: f64) -> bool
     requires x { IsTrue (is_number x) }
     requires y { IsTrue (is_number y) }
     ensures less { IsTrue result → units_of x <ℤ units_of y }

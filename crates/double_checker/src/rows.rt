@@ -1,8 +1,10 @@
 // Whether each person's own object is a choice of its row.
-ghost use Rattle.std.specs.Prelude.{◌≡◌, ◌≤◌, ◌<◌, ◌+◌, ◌*◌, ◌+ℤ◌, ◌≤ℤ◌, true, All, IsTrue, IfSome, MatchOption, length};
+ghost use Rattle.std.specs.Prelude.{◌≡◌, ◌≤◌, ◌<◌, ◌+◌, ◌*◌, ◌+ℤ◌, ◌≤ℤ◌, true, All, IsTrue, IfSome};
+ghost use Rattle.std.specs.Prelude.{MatchOption, length};
 ghost use Rattle.double_costs.specs.Units.{is_number, units_of};
 ghost use Rattle.double_checker.specs.inside.Pairs.{AreAbove, AreAtLeast, HasOpen, at, paid};
-ghost use Rattle.double_checker.specs.inside.Plans.{AreOwn, AreRowsSeen, HasOpenRow, IsBase, IsRowSeen};
+ghost use Rattle.double_checker.specs.inside.Plans.{AreOwn, AreRowsSeen, HasOpenRow, IsBase};
+ghost use Rattle.double_checker.specs.inside.Plans.{IsRowSeen};
 
 use super::numbers::{is_number, row_part, turned};
 use super::pairs::{is_above, is_at_least};

@@ -15,13 +15,14 @@ pub enum Verdict {
     Twice(Person),
     /// The lowest object whose price isn't finite.
     Price(Object),
-    /// The prices don't prove the plan best, or the numbers that a person compares are too far apart
-    /// in size for it to be decided.
+    /// The prices don't prove the plan best, or the numbers that a person compares are too far
+    /// apart in size for it to be decided.
     Undecided,
     /// The plan is best: each person's own object is a choice of its row at these prices, and the
     /// unowned objects have the least price.
     Best {
-        /// Each other object that a person lists is worse by more than the margin.
+        /// Each other object that a person lists is worse by more than the margin, which is above 0
+        /// and at least 2^-52 of the size of each cost.
         by_margin: bool,
     },
 }

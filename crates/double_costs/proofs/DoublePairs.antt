@@ -1,5 +1,7 @@
 -- The pairs of rows of doubles.
-use Rattle.std.proofs.Common.{◌≡◌, ℕ, ℤ, ◌<◌, ◌≤◌, ◌+◌, ◌-◌, ◌*◌, zero, suc, List, [], ◌∷◌, Option, None, Some, length, get_or, take, drop, nat_eq, false, arith, refl, ap, ◌∙◌, add-one, inl, inr, eq-eqb}
+use Rattle.std.proofs.Common.{◌≡◌, ℕ, ℤ, ◌<◌, ◌≤◌, ◌+◌, ◌-◌, ◌*◌, zero, suc, List, [], ◌∷◌, Option, None, Some}
+use Rattle.std.proofs.Common.{length, get_or, take, drop, nat_eq, false, arith, refl, ap, ◌∙◌, add-one, inl, inr}
+use Rattle.std.proofs.Common.{eq-eqb}
 use Rattle.std.specs.List.{All}
 use Rattle.std.proofs.lemmas.List.{length-drop, get_or-take, get_or-drop, drop-drop, length-take-le}
 use Rattle.std.proofs.lemmas.List.Elements.{All-nil, All-cons}
@@ -27,17 +29,21 @@ later_listed : (j k : ℕ) (c : Option ℤ) (row : Listing) → j < k → listed
 later_listed j k None row h = refl
 later_listed j k (Some a) row h = listed_later (j, a) row k (not_equal j k h)
 
-none_in_front : (j k : ℕ) (o : Option ℤ) (row : Listing) → j < k → listed_in row j ≡ None → listed_in (with_cost k o row) j ≡ None
+none_in_front : (j k : ℕ) (o : Option ℤ) (row : Listing) → j < k → listed_in row j ≡ None →
+    listed_in (with_cost k o row) j ≡ None
 none_in_front j k None row h e = e
-none_in_front j k (Some a) row h e = listed_later (k, a) row j (elim (eqb_tells k j) [ inl s ↦ let g = s.1 in absurd (omega arith) | inr d ↦ d.0 ]) ∙ e
+none_in_front j k (Some a) row h e = listed_later (k, a) row j
+    (elim (eqb_tells k j) [ inl s ↦ let g = s.1 in absurd (omega arith) | inr d ↦ d.0 ]) ∙ e
 
 -- no object before the first one
 none_before : (j k : ℕ) (costs : List Float) → j < k → listed_in (row_of_doubles k costs) j ≡ None
 none_before j k [] h = refl
-none_before j k (c ∷ costs) h = none_in_front j k (cost_in c) (row_of_doubles (k + 1) costs) h (none_before j (k + 1) costs (omega arith))
+none_before j k (c ∷ costs) h = none_in_front j k (cost_in c) (row_of_doubles (k + 1) costs) h
+    (none_before j (k + 1) costs (omega arith))
 
 -- what a row gives for the object at a place
-pub place_listed : (j k : ℕ) (costs : List Float) → k < length costs → listed_in (row_of_doubles j costs) (j + k) ≡ cost_in (get_or costs k nan)
+pub place_listed : (j k : ℕ) (costs : List Float) → k < length costs →
+    listed_in (row_of_doubles j costs) (j + k) ≡ cost_in (get_or costs k nan)
 place_listed j k [] lt = absurd (omega arith)
 place_listed j zero (c ∷ costs) lt =
     ap (listed_in (with_cost j (cost_in c) (row_of_doubles (j + 1) costs))) (the_same j)
@@ -51,12 +57,14 @@ place_listed j (suc k) (c ∷ costs) lt =
     ∙ ap (listed_in (row_of_doubles (j + 1) costs)) e ∙ place_listed (j + 1) k costs (omega arith)
 
 -- the row of a person
-pub row_at : (m n i : ℕ) (costs : List Float) → i < n → get_or (rows_of_doubles m n costs) i [] ≡ row_of_doubles 1 (take m (drop (i * m) costs))
+pub row_at : (m n i : ℕ) (costs : List Float) → i < n → get_or (rows_of_doubles m n costs) i [] ≡ row_of_doubles 1
+    (take m (drop (i * m) costs))
 row_at m zero i costs lt = absurd (omega arith)
 row_at m (suc n) zero costs lt = let e : 0 ≡ 0 * m = omega arith in ap (λ s. row_of_doubles 1 (take m (drop s costs))) e
 row_at m (suc n) (suc i) costs lt =
     let e : m + i * m ≡ suc i * m = omega arith in
-    row_at m n i (drop m costs) (omega arith) ∙ ap (λ l. row_of_doubles 1 (take m l)) (drop-drop (i * m) m costs ∙ ap (λ s. drop s costs) e)
+    row_at m n i (drop m costs) (omega arith) ∙ ap (λ l. row_of_doubles 1 (take m l)) (drop-drop (i * m) m costs
+    ∙ ap (λ s. drop s costs) e)
 
 below_end : (i n m : ℕ) → i < n → i * m + m ≤ n * m
 below_end i zero m lt = absurd (omega arith)
@@ -64,7 +72,8 @@ below_end zero (suc n) m lt = omega arith
 below_end (suc i) (suc n) m lt = let h = below_end i n m (omega arith) in omega arith
 
 -- the costs of a person are m
-pub part_length : (n m i : ℕ) (costs : List Float) → length costs ≡ n * m → i < n → length (take m (drop (i * m) costs)) ≡ m
+pub part_length : (n m i : ℕ) (costs : List Float) → length costs ≡ n * m → i < n →
+    length (take m (drop (i * m) costs)) ≡ m
 part_length n m i costs l lt =
     let h = below_end i n m lt in
     let d : length (drop (i * m) costs) ≡ length costs - i * m = length-drop (i * m) costs in
@@ -75,13 +84,15 @@ pub double_listed : (n m : ℕ) (costs : List Float) (i j : ℕ) → length cost
 double_listed n m costs i j l h k =
     let p = part_length n m i costs l h in
     let e : j + 1 ≡ 1 + j = omega arith in
-    let r : row_of (rows_of_doubles m n costs) (i + 1) ≡ row_of_doubles 1 (take m (drop (i * m) costs)) = rw add-one (row_at m n i costs h) in
+    let r : row_of (rows_of_doubles m n costs) (i + 1) ≡ row_of_doubles 1 (take m (drop (i * m) costs)) = rw add-one
+    (row_at m n i costs h) in
     ap (λ row. listed_in row (j + 1)) r
     ∙ ap (listed_in (row_of_doubles 1 (take m (drop (i * m) costs)))) e
     ∙ place_listed 1 j (take m (drop (i * m) costs)) (omega arith)
     ∙ ap cost_in (get_or-take m (drop (i * m) costs) j nan k ∙ get_or-drop (i * m) costs j nan)
 
-within_in_front : (j m : ℕ) (o : Option ℤ) (row : Listing) → IsNumber m j → IsWithin m row → IsWithin m (with_cost j o row)
+within_in_front : (j m : ℕ) (o : Option ℤ) (row : Listing) → IsNumber m j → IsWithin m row →
+    IsWithin m (with_cost j o row)
 within_in_front j m None row n h = h
 within_in_front j m (Some a) row n h = All-cons (λ e. IsNumber m e.0) (j, a) row n h
 

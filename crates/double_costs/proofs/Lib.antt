@@ -3,3 +3,6 @@ pub mod RoundedUnits
 pub mod RoundedSums
 pub mod PricedDuality
 pub mod DoublePairs
+pub mod Multiples
+pub mod Moved
+pub mod Nearest

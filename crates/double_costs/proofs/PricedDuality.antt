@@ -1,6 +1,8 @@
 -- Weak duality with exact prices of any size: no assignment is better than one whose persons have
 -- choices, if the unowned objects have the least price.
-use Rattle.std.proofs.Common.{◌≡◌, ℕ, ℤ, pos, ◌+ℤ◌, ◌-ℤ◌, ◌≤ℤ◌, ◌<◌, cond, true, false, zero, suc, List, [], ◌∷◌, Option, None, Some, IsSome, unwrap_or, length, nat_eq, ◌⊎◌, inl, inr, refl, arith, rules, ap, sym, ◌∙◌, subst}
+use Rattle.std.proofs.Common.{◌≡◌, ℕ, ℤ, pos, ◌+ℤ◌, ◌-ℤ◌, ◌≤ℤ◌, ◌<◌, cond, true, false, zero, suc, List, [], ◌∷◌}
+use Rattle.std.proofs.Common.{Option, None, Some, IsSome, unwrap_or, length, nat_eq, ◌⊎◌, inl, inr, refl, arith}
+use Rattle.std.proofs.Common.{rules, ap, sym, ◌∙◌, subst}
 use Rattle.std.specs.List.{All, Contains, IsDistinct}
 use Rattle.std.proofs.lemmas.Int.{ints, by_lt_z}
 use Rattle.std.proofs.lemmas.Bool.{cond-true, cond-false}
@@ -18,12 +20,13 @@ use Rattle.assign_core.proofs.Members.{first_or_later}
 use Rattle.cost_lists.specs.Exact.{AreChoices}
 use Rattle.double_costs.specs.Prices.{AreLeastUnowned, IsPricedBest}
 
-some_cost : (o : Option ℤ) → IsSome o → o ≡ Some (unwrap_or o (pos 0))
+pub some_cost : (o : Option ℤ) → IsSome o → o ≡ Some (unwrap_or o (pos 0))
 some_cost None s = absurd (search rules)
 some_cost (Some c) s = refl
 
 -- the sums over the rows
-weak_min : (prices : List ℤ) (rows : List Listing) (xs ys : List ℕ) → AreChoices Min prices rows xs → AreListed rows ys →
+weak_min : (prices : List ℤ) (rows : List Listing) (xs ys : List ℕ) → AreChoices Min prices rows xs →
+    AreListed rows ys →
     (total rows xs +ℤ sum_z (price_of prices) xs) ≤ℤ (total rows ys +ℤ sum_z (price_of prices) ys)
 weak_min prices [] [] [] k g = omega (arith, ints)
 weak_min prices [] [] (y ∷ ys) k g = absurd g
@@ -36,7 +39,8 @@ weak_min prices (row ∷ rows) (x ∷ xs) (y ∷ ys) k g =
     let i = weak_min prices rows xs ys k.1 g.1 in
     omega (arith, ints)
 
-weak_max : (prices : List ℤ) (rows : List Listing) (xs ys : List ℕ) → AreChoices Max prices rows xs → AreListed rows ys →
+weak_max : (prices : List ℤ) (rows : List Listing) (xs ys : List ℕ) → AreChoices Max prices rows xs →
+    AreListed rows ys →
     (total rows ys +ℤ sum_z (price_of prices) xs) ≤ℤ (total rows xs +ℤ sum_z (price_of prices) ys)
 weak_max prices [] [] [] k g = omega (arith, ints)
 weak_max prices [] [] (y ∷ ys) k g = absurd g
@@ -84,13 +88,16 @@ cleared_least f x j p = elim (eqb_tells j x) [
   | inr e ↦ let h = cleared_other f x j e.0 in (omega (arith, ints), omega (arith, ints))
 ]
 
-cleared_sum : (f : ℕ → ℤ) (x m : ℕ) (xs : List ℕ) → InRange m xs → ((j : ℕ) → IsNumber m j → pos 0 ≤ℤ f j) → sum_z (cleared f x) xs ≤ℤ sum_z f xs
+cleared_sum : (f : ℕ → ℤ) (x m : ℕ) (xs : List ℕ) → InRange m xs → ((j : ℕ) → IsNumber m j → pos 0 ≤ℤ f j) →
+    sum_z (cleared f x) xs ≤ℤ sum_z f xs
 cleared_sum f x m [] r p = omega (arith, ints)
-cleared_sum f x m (y ∷ ys) r p = let i = cleared_sum f x m ys r.1 p in let h = (cleared_least f x y (p y r.0)).1 in omega (arith, ints)
+cleared_sum f x m (y ∷ ys) r p = let i = cleared_sum f x m ys r.1 p in let h = (cleared_least f x y (p y r.0)).1 in
+    omega (arith, ints)
 
 -- if no value is below 0, and it is 0 at each number outside a list, the sum over all numbers is at
 -- most that over the list
-all_at_most : (f : ℕ → ℤ) (m : ℕ) (xs : List ℕ) → InRange m xs → ((j : ℕ) → IsNumber m j → pos 0 ≤ℤ f j) → ((j : ℕ) → IsNumber m j → Contains xs j ⊎ (f j ≡ pos 0)) → up_to f m ≤ℤ sum_z f xs
+all_at_most : (f : ℕ → ℤ) (m : ℕ) (xs : List ℕ) → InRange m xs → ((j : ℕ) → IsNumber m j → pos 0 ≤ℤ f j) →
+    ((j : ℕ) → IsNumber m j → Contains xs j ⊎ (f j ≡ pos 0)) → up_to f m ≤ℤ sum_z f xs
 all_at_most f m [] r p h = none m (λ j n. elim (h j n) [ inl c ↦ absurd (omega (arith, c.1)) | inr e ↦ e ]) where
   none : (k : ℕ) → ((j : ℕ) → IsNumber k j → f j ≡ pos 0) → up_to f k ≤ℤ pos 0
   none zero e = omega (arith, ints)
@@ -182,12 +189,14 @@ least_sums (suc m) prices xs ys dy rx ry l low =
     let s = same_sums c xs ys l in
     omega (arith, ints)
 
-ordered : (sense : Sense) (prices : List ℤ) (rows : List Listing) (xs ys : List ℕ) → AreChoices sense prices rows xs → AreListed rows ys →
+ordered : (sense : Sense) (prices : List ℤ) (rows : List Listing) (xs ys : List ℕ) → AreChoices sense prices rows xs →
+    AreListed rows ys →
     sum_z (price_of prices) ys ≤ℤ sum_z (price_of prices) xs → IsNoWorse sense (total rows xs) (total rows ys)
 ordered Min prices rows xs ys k g s = let w = weak_min prices rows xs ys k g in omega (arith, ints)
 ordered Max prices rows xs ys k g s = let w = weak_max prices rows xs ys k g in omega (arith, ints)
 
-pub best_priced : (sense : Sense) (m : ℕ) (rows : List Listing) (xs : List ℕ) (prices : List ℤ) → All (IsWithin m) rows →
+pub best_priced : (sense : Sense) (m : ℕ) (rows : List Listing) (xs : List ℕ) (prices : List ℤ) →
+    All (IsWithin m) rows →
     IsPricedBest sense m rows xs prices → IsBest sense rows xs
 best_priced sense m rows xs prices w o = record {
   assigned = o.assigned;

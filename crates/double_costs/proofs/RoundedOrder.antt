@@ -84,7 +84,9 @@ not_below (fin false m e) (fin true n d) p q h = h
 not_below (fin false m e) (fin false n d) p q h = absurd (true≢false (sym q))
 
 pub rounded_zero : (f : Format) (s : Bool) (c : ℕ) → 0 < c → HasValue (round f s 0 c) s 0 c
-rounded_zero f s c h = round_exact f s 0 c 0 0 h (pow_pos (prec f)) (subst (λ (x : ℕ). x < 2 ^ (low f + suc (emax f))) (sym (zero-mul (2 ^ 0))) (pow_pos (low f + suc (emax f)))) (zero-mul (2 ^ low f) ∙ sym (zero-mul c) ∙ ap (λ (x : ℕ). x * c) (sym (zero-mul (2 ^ 0))))
+rounded_zero f s c h = round_exact f s 0 c 0 0 h (pow_pos (prec f))
+    (subst (λ (x : ℕ). x < 2 ^ (low f + suc (emax f))) (sym (zero-mul (2 ^ 0))) (pow_pos (low f + suc (emax f))))
+    (zero-mul (2 ^ low f) ∙ sym (zero-mul c) ∙ ap (λ (x : ℕ). x * c) (sym (zero-mul (2 ^ 0))))
 
 -- a zero isn't below a zero
 suc_pos : (m : ℕ) → 0 < suc m

@@ -34,7 +34,8 @@ sum_rounded f l true a true b c u v h p q =
     record { s = true; n = a + b; c = c; u = u + v; c_pos = h; scaled = added a b u v (2 ^ l) c p q; rounded = refl; is = omega (arith, ints) }
 sum_rounded f l false a true b c u v h p q = go (ltb a b) (ltb→lt a b) (nltb→le a b)
   where
-    go : (x : Bool) → (T x → a < b) → (T (not x) → b ≤ a) → IsRounded f l (cond x (round f true (b - a) c) (round f (false && ltb b a) (a - b) c)) (pos u +ℤ neg_ℤ (pos v))
+    go : (x : Bool) → (T x → a < b) → (T (not x) → b ≤ a) →
+        IsRounded f l (cond x (round f true (b - a) c) (round f (false && ltb b a) (a - b) c)) (pos u +ℤ neg_ℤ (pos v))
     go true below above =
         let k : u ≤ v = in_units a b u v (2 ^ l) c h p q (le_of_lt (below tt)) in
         record { s = true; n = b - a; c = c; u = v - u; c_pos = h; scaled = less b a v u (2 ^ l) c q p; rounded = refl; is = omega (arith, ints) }
@@ -52,7 +53,8 @@ sum_rounded f l true a false b c u v h p q = go (ltb a b) (ltb→lt a b) (nltb�
         let j : u ≤ v = in_units a b u v (2 ^ l) c h p q (above tt) in
         record { s = false; n = a - b; c = c; u = u - v; c_pos = h; scaled = less a b u v (2 ^ l) c p q; rounded = refl; is = omega (arith, ints) }
 
-    go : (x : Bool) → (T x → a < b) → (T (not x) → b ≤ a) → IsRounded f l (cond x (round f false (b - a) c) (round f (true && ltb b a) (a - b) c)) (neg_ℤ (pos u) +ℤ pos v)
+    go : (x : Bool) → (T x → a < b) → (T (not x) → b ≤ a) →
+        IsRounded f l (cond x (round f false (b - a) c) (round f (true && ltb b a) (a - b) c)) (neg_ℤ (pos u) +ℤ pos v)
     go true below above =
         let k : u ≤ v = in_units a b u v (2 ^ l) c h p q (le_of_lt (below tt)) in
         record { s = false; n = b - a; c = c; u = v - u; c_pos = h; scaled = less b a v u (2 ^ l) c q p; rounded = refl; is = omega (arith, ints) }
@@ -74,12 +76,15 @@ add_rounded (fin s m e) nan fa fb na nb = absurd (true≢false (sym nb))
 add_rounded (fin s m e) (inf t) fa fb na nb = absurd (true≢false (sym nb))
 add_rounded (fin s m e) (fin t n d) fa fb na nb = go s t
   where
-    rest : (x y : Bool) → IsRounded binary64 1074 (sum binary64 x (m * up e * down d) y (n * up d * down e) (down e * down d)) (signed x (size_in 1074 m e) +ℤ signed y (size_in 1074 n d))
-    rest x y = sum_rounded binary64 1074 x (m * up e * down d) y (n * up d * down e) (down e * down d) (size_in 1074 m e) (size_in 1074 n d) (mul-pos (down_pos e) (down_pos d))
+    rest : (x y : Bool) → IsRounded binary64 1074 (sum binary64 x (m * up e * down d) y (n * up d * down e)
+        (down e * down d)) (signed x (size_in 1074 m e) +ℤ signed y (size_in 1074 n d))
+    rest x y = sum_rounded binary64 1074 x (m * up e * down d) y (n * up d * down e) (down e * down d)
+        (size_in 1074 m e) (size_in 1074 n d) (mul-pos (down_pos e) (down_pos d))
         (first (m * up e) (2 ^ 1074) (size_in 1074 m e) (down e) (down d) (whole 1074 m e (fine binary64 s m e fa)))
         (second (n * up d) (2 ^ 1074) (size_in 1074 n d) (down d) (down e) (whole 1074 n d (fine binary64 t n d fb)))
 
-    go : (x y : Bool) → IsRounded binary64 1074 (sum binary64 x (m * up e * down d) y (n * up d * down e) (down e * down d)) (units_of (fin x m e) +ℤ units_of (fin y n d))
+    go : (x y : Bool) → IsRounded binary64 1074 (sum binary64 x (m * up e * down d) y (n * up d * down e)
+        (down e * down d)) (units_of (fin x m e) +ℤ units_of (fin y n d))
     go false false = rest false false
     go false true = rest false true
     go true false = rest true false

@@ -2,7 +2,9 @@
 use Prim.Native.Nat.{ℕ, zero, suc, ◌-◌, ◌*◌, ◌/◌, ◌%◌, ◌^◌, ◌≤◌, ◌<◌}
 use mathlib.Core.Path.{◌≡◌, refl, sym, ap, ◌∙◌, subst}
 use native.Mathlib.Omega.{arith}
-use native.Mathlib.Nat.{lt_of_not-le, mul-pos, le_of_suc-le-suc, lt_irrefl, lt_of_lt_of_le, div-one, mul-one, one-mul, mul_assoc, mul_comm, mul_right_comm, mul-div_cancel, zero-mul, lt_of_mul-lt-mul_right, mul-lt-mul_of_pos_right}
+use native.Mathlib.Nat.{lt_of_not-le, mul-pos, le_of_suc-le-suc, lt_irrefl, lt_of_lt_of_le, div-one, mul-one}
+use native.Mathlib.Nat.{one-mul, mul_assoc, mul_comm, mul_right_comm, mul-div_cancel, zero-mul}
+use native.Mathlib.Nat.{lt_of_mul-lt-mul_right, mul-lt-mul_of_pos_right}
 use mathlib.Core.Bool.{Bool, true, false, ◌&&◌}
 use lib.IntN.{ℤ, pos, negsuc, neg_ℤ}
 use lib.Dec.{T, eqb, ltb, leb, leb→le, eqb→eq}
@@ -45,7 +47,8 @@ whole l m (negsuc a) h =
     let b : ℕ = 2 ^ suc a in
     let rest : ℕ = m * 1 * 2 ^ (l - suc a) in
     let q : m * 1 * 2 ^ l ≡ rest * b =
-    ap (λ (x : ℕ). m * 1 * x) (ap (λ (x : ℕ). 2 ^ x) (sym (back l (suc a) le)) ∙ pow-add 2 (l - suc a) (suc a)) ∙ sym (mul_assoc (m * 1) (2 ^ (l - suc a)) (2 ^ suc a)) in
+    ap (λ (x : ℕ). m * 1 * x) (ap (λ (x : ℕ). 2 ^ x) (sym (back l (suc a) le)) ∙ pow-add 2 (l - suc a) (suc a)) ∙
+    sym (mul_assoc (m * 1) (2 ^ (l - suc a)) (2 ^ suc a)) in
     ap (λ (x : ℕ). x / b * b) q ∙ ap (λ (x : ℕ). x * b) (mul-div_cancel rest (pow_pos (suc a))) ∙ sym q
 
 -- a whole number with a sign
@@ -73,10 +76,12 @@ cross n k c d u v l pl p q h =
     lt_of_mul-lt-mul_right (c * d) (subst (λ (z : ℕ). u * (c * d) < z) right (subst (λ (z : ℕ). z < k * c * l) left r))
 
 -- of two fractions without a minus sign
-sizes_in_order : (f : Format) (l n c u k d v : ℕ) → 0 < c → 0 < d → n * 2 ^ l ≡ u * c → k * 2 ^ l ≡ v * d → T (lt (round f false n c) (round f false k d)) → u < v
+sizes_in_order : (f : Format) (l n c u k d v : ℕ) → 0 < c → 0 < d → n * 2 ^ l ≡ u * c → k * 2 ^ l ≡ v * d →
+    T (lt (round f false n c) (round f false k d)) → u < v
 sizes_in_order f l n c u k d v hc hd p q h =
     cross n k c d u v (2 ^ l) (pow_pos l) p q
-    (lt_of_not-le (λ g. float_lt_irrefl (round f false k d) (lt_of_le_of_lt (round f false k d) (round f false n c) (round f false k d) (round_mono f k d n c hd hc g) h)))
+    (lt_of_not-le (λ g. float_lt_irrefl (round f false k d) (lt_of_le_of_lt (round f false k d) (round f false n c)
+    (round f false k d) (round_mono f k d n c hd hc g) h)))
 
 pub no_product : (n l : ℕ) → 0 < l → n * l ≡ 0 → n ≡ 0
 no_product zero l h p = refl
@@ -99,7 +104,8 @@ in_order f l x y z w p q h =
     (go p.s q.s p.n p.c p.u q.n q.c q.u p.c_pos q.c_pos p.scaled q.scaled
     (subst (λ (a : Float). T (lt a (round f q.s q.n q.c))) p.rounded (subst (λ (a : Float). T (lt x a)) q.rounded h))))
   where
-    go : (s t : Bool) (n c u k d v : ℕ) → 0 < c → 0 < d → n * 2 ^ l ≡ u * c → k * 2 ^ l ≡ v * d → T (lt (round f s n c) (round f t k d)) → signed s u <ℤ signed t v
+    go : (s t : Bool) (n c u k d v : ℕ) → 0 < c → 0 < d → n * 2 ^ l ≡ u * c → k * 2 ^ l ≡ v * d →
+        T (lt (round f s n c) (round f t k d)) → signed s u <ℤ signed t v
     go false false n c u k d v hc hd a b o = positives u v (sizes_in_order f l n c u k d v hc hd a b o)
     go false true n c u k d v hc hd a b o = absurd (not_below (round f false n c) (round f true k d) (round_has_sign f false n c) (round_has_sign f true k d) o)
     go true false n c u k d v hc hd a b o = negative_below u v (λ e g.
@@ -110,4 +116,5 @@ in_order f l x y z w p q h =
     go true true n c u k d v hc hd a b o =
         negatives u v (sizes_in_order f l k d v n c u hd hc b a
         (turned (round f false n c) (round f false k d)
-        (subst (λ (i : Float). T (lt i (neg (round f false k d)))) (sym (neg-round f n c)) (subst (λ (i : Float). T (lt (round f true n c) i)) (sym (neg-round f k d)) o))))
+        (subst (λ (i : Float). T (lt i (neg (round f false k d)))) (sym (neg-round f n c))
+        (subst (λ (i : Float). T (lt (round f true n c) i)) (sym (neg-round f k d)) o))))

@@ -1,5 +1,6 @@
 -- Rows of doubles, in which an infinity forbids its pair.
-use Rattle.std.specs.Prelude.{◌≡◌, ℕ, zero, suc, ◌+◌, ◌<◌, ℤ, List, [], ◌∷◌, take, drop, length, Option, None, Some, Bool, true, false, not, IsTrue, slice_index_or}
+use Rattle.std.specs.Prelude.{◌≡◌, ℕ, zero, suc, ◌+◌, ◌<◌, ℤ, List, [], ◌∷◌, take, drop, length, Option, None, Some}
+use Rattle.std.specs.Prelude.{Bool, true, false, not, IsTrue, slice_index_or}
 use lib.Ieee.{Float, nan, inf, fin}
 use Rattle.assign_core.specs.declared.sense.Sense.{Sense}
 use Rattle.assign_core.specs.declared.sense.Sense.TheVariants.{Min, Max}

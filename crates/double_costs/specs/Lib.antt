@@ -1,3 +1,4 @@
 pub mod Units
 pub mod DoubleRows
 pub mod Prices
+pub mod Margins

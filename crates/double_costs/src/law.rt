@@ -1,19 +1,42 @@
 // Laws on doubles as costs.
-ghost use Rattle.std.specs.Prelude.{◌≡◌, ◌+◌, ◌*◌, ◌<◌, ℕ, ℤ, ◌+ℤ◌, ◌<ℤ◌, T, List, length, All, IsTrue, slice_index_or};
+ghost use Rattle.std.specs.Prelude.{◌≡◌, ◌+◌, ◌*◌, ◌<◌, ℕ, ℤ, pos, ◌+ℤ◌, ◌<ℤ◌, T, List, length};
+ghost use Rattle.std.specs.Prelude.{All, IsTrue, slice_index_or};
 ghost use lib.Ieee.{Float, binary64, nan, add, fits, lt};
 ghost use Rattle.assign_core.specs.declared.sense.Sense.{Sense};
 ghost use Rattle.assign_core.specs.Rows.{Listing, IsWithin, listed_in, row_of};
 ghost use Rattle.assign_core.specs.Assignment.{IsBest};
 ghost use Rattle.double_costs.specs.Units.{is_number, units_of};
 ghost use Rattle.double_costs.specs.DoubleRows.{cost_in, rows_of_doubles};
-ghost use Rattle.double_costs.specs.Prices.{IsPricedBest};
+ghost use Rattle.double_costs.specs.Margins.{AreRowsBeside, IsMarginOf, IsRoundedTo, IsWithinHalf};
+ghost use Rattle.double_costs.specs.Prices.{AreChoicesBy, IsPricedBest};
 
-/// An assignment with exact prices is optimal, whatever the size of the prices and their signs: weak
-/// duality with complementary slackness (Bertsekas, Network Optimization, 1998, section 7.1). There
-/// may be more objects than persons.
+/// An assignment with exact prices is optimal, whatever the size of the prices and their signs:
+/// weak duality with complementary slackness (Bertsekas, Network Optimization, 1998, section 7.1).
+/// There may be more objects than persons.
 pub fn exact_prices_mean_best()
     ensures { (sense : Sense) (m : ℕ) (rows : List Listing) (xs : List ℕ) (prices : List ℤ)
         → All (IsWithin m) rows → IsPricedBest sense m rows xs prices → IsBest sense rows xs }
+{}
+
+/// A plan that is best by a margin is best for all costs of the same pairs that are at most half
+/// the margin away, whatever parts of a unit they are whole numbers of. There may be more objects
+/// than persons.
+pub fn margins_keep_plans()
+    ensures { (sense : Sense) (m scale margin : ℕ) (rows others : List Listing) (xs : List ℕ)
+        (prices : List ℤ) → All (IsWithin m) rows → IsPricedBest sense m rows xs prices
+        → AreChoicesBy (pos margin) sense prices rows xs
+        → AreRowsBeside (IsWithinHalf scale margin) rows others → IsBest sense others xs }
+{}
+
+/// A plan for doubles that is best by a margin of these doubles is best for all numbers of which
+/// they are the nearest doubles, as for the decimals that they print as.
+pub fn rounded_costs_keep_plans()
+    ensures { (sense : Sense) (n m scale : ℕ) (margin : ℤ) (costs : List Float)
+        (others : List Listing) (xs : List ℕ) (prices : List ℤ) → IsMarginOf margin costs
+        → IsPricedBest sense m (rows_of_doubles m n costs) xs prices
+        → AreChoicesBy margin sense prices (rows_of_doubles m n costs) xs
+        → AreRowsBeside (IsRoundedTo scale) (rows_of_doubles m n costs) others
+        → IsBest sense others xs }
 {}
 
 /// Rounding keeps the order. So where one rounded sum of two doubles is below another, the same

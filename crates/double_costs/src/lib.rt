@@ -6,4 +6,7 @@ mod faults;
 mod law;
 
 pub use faults::{first_fault, is_cost};
-pub use law::{double_pairs, exact_prices_mean_best, rounded_sums_tell};
+pub use law::{
+    double_pairs, exact_prices_mean_best, margins_keep_plans, rounded_costs_keep_plans,
+    rounded_sums_tell,
+};

@@ -2,8 +2,8 @@
 // owned it bids next (the augmenting row reduction of Jonker and Volgenant, 1987).
 ghost use Rattle.std.specs.Prelude.{◌≡◌, length};
 
+use super::best::{first_unowned, two_best};
 use super::lists::{Lists, Matrix, NOBODY, at, place_of, put};
-use super::reach::{first_unowned, two_best};
 use super::whole::FAR;
 
 // Gives a person an unowned object of this value, if there is one.
@@ -58,7 +58,7 @@ fn bid_on(matrix: Matrix<'_>, lists: &mut Lists<'_>, first: usize, most: usize) 
 pub fn bid_all(matrix: Matrix<'_>, lists: &mut Lists<'_>) {
     let persons = lists.persons();
     let in_turn = persons.saturating_mul(2).saturating_add(4);
-    let mut left = persons.saturating_mul(4).saturating_add(8);
+    let mut left = persons.saturating_mul(3).saturating_add(8);
     for person in 0..persons {
         if at(lists.objects, person) == NOBODY {
             let made = bid_on(matrix, lists, person, in_turn.min(left).max(1));

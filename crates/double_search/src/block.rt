@@ -12,7 +12,8 @@ pub fn room_of(n: usize, m: usize) -> usize {
         .saturating_add(of_near)
 }
 
-fn cut(block: &mut [i64], size: usize) -> (&mut [i64], &mut [i64]) {
+// The front of a block, of this size if it is as long, and the rest.
+pub fn cut(block: &mut [i64], size: usize) -> (&mut [i64], &mut [i64]) {
     let at = size.min(block.len());
     block.split_at_mut(at)
 }

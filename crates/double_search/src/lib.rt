@@ -2,6 +2,7 @@
 //! made of the doubles. Sums wrap, and a checker decides about what it finds.
 #![tactic(auto)]
 
+mod best;
 mod bids;
 mod block;
 mod hall;
@@ -13,6 +14,7 @@ mod paths;
 mod range;
 mod reach;
 mod scale;
+mod small;
 mod solver;
 mod start;
 mod whole;

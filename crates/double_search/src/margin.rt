@@ -1,6 +1,8 @@
 // Prices at which each other pair is worse by a margin: small steps on the prices of owned objects,
 // by longest paths among the near pairs.
-use super::lists::{Lists, Matrix, NOBODY, at, copy, number_of, place_of, put};
+ghost use Rattle.std.specs.Prelude.{◌≡◌, length};
+
+use super::lists::{Lists, Matrix, at, copy, fill, number_of, place_of, put};
 use super::near::Nearness;
 use super::scale::Scale;
 
@@ -24,6 +26,15 @@ fn on_grid(number: i64, grid: i64) -> i64 {
     number.wrapping_add(grid >> 1) & grid.wrapping_neg()
 }
 
+// The nearest numbers of the grid.
+fn to_grid(numbers: &[i64], nearest: &mut [i64], grid: i64)
+    requires { length nearest.old ≡ length numbers.now }
+{
+    for k in 0..numbers.len() {
+        nearest[k] = on_grid(numbers[k], grid);
+    }
+}
+
 fn up_to_grid(number: i64, grid: i64) -> i64 {
     number.wrapping_add(grid.wrapping_sub(1)) & grid.wrapping_neg()
 }
@@ -40,9 +51,10 @@ fn place_after(begin: usize, count: usize, size: usize) -> usize {
 // The steps are in the levels, the ring in the passed, and who waits in it in the scanned.
 impl<'a> Lists<'a> {
     fn begin_keys(&mut self, grid: i64) {
-        for k in 0..self.keys.len() {
-            let dual = at(self.duals, k);
-            self.keys[k] = on_grid(dual, grid);
+        let duals = &mut *self.duals;
+        let keys = &mut *self.keys;
+        if duals.len() == keys.len() {
+            to_grid(duals, keys, grid);
         }
     }
 
@@ -51,12 +63,9 @@ impl<'a> Lists<'a> {
         self.keys.iter().copied().max().unwrap_or(0)
     }
 
-    fn has_near(&self, person: usize) -> bool {
-        at(self.starts, person) < at(self.starts, person.wrapping_add(1))
-    }
-
+    // Lets a person wait, unless it does.
     fn add(&mut self, ring: Ring, person: usize) -> Ring {
-        if at(self.scanned, person) != 0 || !self.has_near(person) {
+        if at(self.scanned, person) != 0 {
             return ring;
         }
         put(self.scanned, person, 1);
@@ -68,21 +77,26 @@ impl<'a> Lists<'a> {
         }
     }
 
-    // Duals of owned objects may rise as far as the greatest one, if an object is unowned.
-    fn begin_steps(&mut self, bounds: Bounds) -> Ring {
+    // Duals of owned objects may rise as far as the greatest one.
+    fn begin_below_top(&mut self, bounds: Bounds) {
         let top = self.top();
-        let has_unowned = self.has_unowned();
         let least = (self.objects.len() as u64).cast_signed().wrapping_add(2);
         let least = bounds.margin.wrapping_mul(least).wrapping_neg();
-        let mut ring = Ring { begin: 0, count: 0 };
         for person in 0..self.objects.len() {
             let object = place_of(at(self.objects, person));
             let free = at(self.keys, object).wrapping_sub(top).max(least);
-            put(self.levels, person, if has_unowned { free } else { 0 });
-            put(self.scanned, person, 0);
-            ring = self.add(ring, person);
+            put(self.levels, person, free);
         }
-        ring
+    }
+
+    // The first steps. Returns whether they leave the unowned objects worse.
+    fn begin_steps(&mut self, bounds: Bounds) -> bool {
+        if self.has_unowned() {
+            self.begin_below_top(bounds);
+            return self.are_capped();
+        }
+        fill(self.levels, 0);
+        true
     }
 
     // Puts the keys in place of the duals.
@@ -121,11 +135,20 @@ impl<'a> Lists<'a> {
             .all(|(level, cap)| *level <= *cap)
     }
 
-    fn take_steps(&mut self, bounds: Bounds) -> bool {
-        let mut ring = self.begin_steps(bounds);
-        if !self.are_capped() {
-            return false;
+    // Steps of each person, in turn; who needs more waits after them.
+    fn step_all(&mut self, bounds: Bounds) -> Option<Ring> {
+        let mut ring = Ring { begin: 0, count: 0 };
+        fill(self.scanned, 1);
+        for person in 0..self.objects.len() {
+            put(self.scanned, person, 0);
+            ring = self.step(ring, person, bounds)?;
         }
+        Some(ring)
+    }
+
+    // Steps of who waits, until nobody does.
+    fn step_on(&mut self, first: Ring, bounds: Bounds) -> bool {
+        let mut ring = first;
         let persons = self.objects.len();
         for _ in 0..persons.saturating_mul(20).saturating_add(100) {
             if ring.count == 0 {
@@ -143,6 +166,16 @@ impl<'a> Lists<'a> {
             }
         }
         false
+    }
+
+    fn take_steps(&mut self, bounds: Bounds) -> bool {
+        if !self.begin_steps(bounds) {
+            return false;
+        }
+        match self.step_all(bounds) {
+            Some(ring) => self.step_on(ring, bounds),
+            None => false,
+        }
     }
 
     fn enter_steps(&mut self) {

@@ -1,9 +1,8 @@
 // The near pairs at a plan: those of a person and an object that is worse than its own by less than
 // so much.
-ghost use Rattle.std.specs.Prelude.{◌≡◌, length};
-
+use super::best::{bits_below, block_of, lowest, others};
 use super::lists::{Lists, Matrix, NOBODY, at, number_of, place_of, put};
-use super::reach::{BLOCK, is_any_below};
+use super::reach::BLOCK;
 use super::whole::FAR;
 
 // Which pairs are near, and by how much they are to be worse.
@@ -34,76 +33,6 @@ struct Kept {
     cap: i64,
 }
 
-// A block of objects: a person's costs, the keys, and the owners.
-#[derive(Clone, Copy)]
-struct Block<'a> {
-    row: &'a [i64],
-    keys: &'a [i64],
-    owners: &'a [i64],
-    from: usize,
-}
-
-// Keeps the near pairs of a block as far as there is room: their owners, and by how much more they
-// are worse than they have to be.
-fn keep_block(
-    block: Block<'_>,
-    own: Own,
-    nearness: Nearness,
-    near: &mut [i64],
-    spare: &mut [i64],
-    kept: Kept,
-) -> Kept
-    requires keys { length block.keys.now ≡ length block.row.now }
-    requires owners { length block.owners.now ≡ length block.row.now }
-{
-    let mut kept = kept;
-    for k in 0..block.row.len() {
-        let cost = block.row[k];
-        let worse = cost.wrapping_sub(block.keys[k]).wrapping_sub(own.value);
-        let is_other = block.from.wrapping_add(k) != own.object;
-        if worse < nearness.most && cost < nearness.far && is_other {
-            let margin = nearness.margin_of(cost, own.cost);
-            let left = worse.wrapping_sub(margin);
-            if block.owners[k] == NOBODY {
-                kept.cap = kept.cap.min(left);
-            } else {
-                put(near, kept.count, block.owners[k]);
-                put(spare, kept.count, left);
-                kept.count = kept.count.wrapping_add(1);
-            }
-        }
-    }
-    kept
-}
-
-fn keep_row(
-    all: Block<'_>,
-    own: Own,
-    nearness: Nearness,
-    near: &mut [i64],
-    spare: &mut [i64],
-    count: usize,
-) -> Kept {
-    let mut kept = Kept { count, cap: FAR };
-    let mut from = 0usize;
-    let limit = own.value.wrapping_add(nearness.most);
-    let parts = all.row.chunks(BLOCK).zip(all.keys.chunks(BLOCK));
-    for ((row, keys), owners) in parts.zip(all.owners.chunks(BLOCK)) {
-        let fits = keys.len() == row.len() && owners.len() == row.len();
-        if fits && is_any_below(row, keys, limit) {
-            let block = Block {
-                row,
-                keys,
-                owners,
-                from,
-            };
-            kept = keep_block(block, own, nearness, near, spare, kept);
-        }
-        from = from.wrapping_add(BLOCK);
-    }
-    kept
-}
-
 impl Nearness {
     fn margin_of(self, cost: i64, own: i64) -> i64 {
         if cost == own {
@@ -125,6 +54,57 @@ impl<'a> Lists<'a> {
         }
     }
 
+    // Keeps a near pair as far as there is room: the owner of its object, and by how much more it
+    // is worse than it has to be.
+    fn keep(&mut self, cost: i64, object: usize, own: Own, nearness: Nearness, kept: Kept) -> Kept {
+        let worse = cost
+            .wrapping_sub(at(self.keys, object))
+            .wrapping_sub(own.value);
+        let left = worse.wrapping_sub(nearness.margin_of(cost, own.cost));
+        let owner = at(self.owners, object);
+        if owner == NOBODY {
+            return Kept {
+                cap: kept.cap.min(left),
+                ..kept
+            };
+        }
+        put(self.near, kept.count, owner);
+        put(self.spare, kept.count, left);
+        Kept {
+            count: kept.count.wrapping_add(1),
+            ..kept
+        }
+    }
+
+    // The objects of a block that may be near, as bits.
+    fn bits_near(&self, costs: &[i64], from: usize, limit: i64) -> u64 {
+        let keys = &*self.keys;
+        bits_below(block_of(costs, from), block_of(keys, from), limit)
+    }
+
+    // Keeps the near pairs of a person and the objects of a block.
+    fn keep_block(
+        &mut self,
+        costs: &[i64],
+        from: usize,
+        own: Own,
+        nearness: Nearness,
+        kept: Kept,
+    ) -> Kept {
+        let mut kept = kept;
+        let bits = self.bits_near(costs, from, own.value.wrapping_add(nearness.most));
+        let mut left = bits;
+        for _ in 0..bits.count_ones() {
+            let object = from.wrapping_add(lowest(left));
+            let cost = at(costs, object);
+            if object != own.object && cost < nearness.far {
+                kept = self.keep(cost, object, own, nearness, kept);
+            }
+            left = others(left);
+        }
+        kept
+    }
+
     fn gather_of(
         &mut self,
         matrix: Matrix<'_>,
@@ -133,18 +113,11 @@ impl<'a> Lists<'a> {
         count: usize,
     ) -> usize {
         let own = self.own_of(matrix, person);
-        let row = matrix.row(person);
-        let keys = &mut *self.keys;
-        let owners = &mut *self.owners;
-        let near = &mut *self.near;
-        let spare = &mut *self.spare;
-        let all = Block {
-            row,
-            keys,
-            owners,
-            from: 0,
-        };
-        let kept = keep_row(all, own, nearness, near, spare, count);
+        let costs = matrix.row(person);
+        let mut kept = Kept { count, cap: FAR };
+        for from in (0..costs.len()).step_by(BLOCK) {
+            kept = self.keep_block(costs, from, own, nearness, kept);
+        }
         put(self.caps, person, kept.cap);
         kept.count
     }

@@ -1,5 +1,6 @@
 // The range of the costs, as a search minimises them.
 use assign_core::Sense;
+use std::simd::prelude::*;
 
 // 2^-52: two doubles up to the greatest one are, together, off by less than this part of it.
 const PART: f64 = 0.0000000000000002220446049250313080847263336181640625;
@@ -22,13 +23,47 @@ pub struct Range {
     pub has_infinite: bool,
 }
 
+// So many costs are looked at at once.
+const LANES: usize = 4;
+
+// The least and the greatest cost of each lane.
+fn ends_of_lanes(lanes: &[[f64; LANES]], sign: f64) -> (f64x4, f64x4) {
+    let mut least = f64x4::splat(f64::INFINITY);
+    let mut greatest = f64x4::splat(f64::NEG_INFINITY);
+    for costs in lanes {
+        let turned = f64x4::from_array(*costs) * f64x4::splat(sign);
+        least = turned.simd_lt(least).select(turned, least);
+        greatest = turned.simd_gt(greatest).select(turned, greatest);
+    }
+    (least, greatest)
+}
+
+fn least_of(lanes: f64x4) -> f64 {
+    let each = lanes.to_array();
+    lesser(lesser(each[0], each[1]), lesser(each[2], each[3]))
+}
+
+fn greatest_of(lanes: f64x4) -> f64 {
+    let each = lanes.to_array();
+    greater(greater(each[0], each[1]), greater(each[2], each[3]))
+}
+
+// The costs of a row but the last few.
+fn ends_of_most(lanes: &[[f64; LANES]], sign: f64) -> (f64, f64) {
+    if lanes.is_empty() {
+        return (f64::INFINITY, f64::NEG_INFINITY);
+    }
+    let (least, greatest) = ends_of_lanes(lanes, sign);
+    (least_of(least), greatest_of(greatest))
+}
+
 fn range_of_row(row: &[f64], sign: f64) -> RowRange {
-    let mut least = f64::INFINITY;
-    let mut greatest = f64::NEG_INFINITY;
-    for cost in row {
+    let (lanes, rest) = row.as_chunks::<LANES>();
+    let (mut least, mut greatest) = ends_of_most(lanes, sign);
+    for cost in rest {
         let turned = *cost * sign;
-        least = if turned < least { turned } else { least };
-        greatest = if turned > greatest { turned } else { greatest };
+        least = lesser(turned, least);
+        greatest = greater(turned, greatest);
     }
     RowRange {
         least,
@@ -48,11 +83,11 @@ fn greatest_finite(row: &[f64], sign: f64) -> f64 {
     greatest
 }
 
-fn greater(one: f64, other: f64) -> f64 {
+pub fn greater(one: f64, other: f64) -> f64 {
     if one > other { one } else { other }
 }
 
-fn lesser(one: f64, other: f64) -> f64 {
+pub fn lesser(one: f64, other: f64) -> f64 {
     if one < other { one } else { other }
 }
 
@@ -97,9 +132,13 @@ impl Range {
         greater(self.greatest.abs(), self.least.abs())
     }
 
-    // A margin that no rounding of costs makes up for.
+    // A margin that no rounding of costs up to this size makes up for.
+    pub fn margin_at(size: f64) -> f64 {
+        size * PART
+    }
+
     pub fn margin(self) -> f64 {
-        self.size() * PART
+        Range::margin_at(self.size())
     }
 
     // That of the costs up to the greatest of the rows' least ones.

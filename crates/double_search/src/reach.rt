@@ -1,40 +1,88 @@
-// Scans of rows, block by block, of which compilers make vectors. The value of an object is its cost
-// less its key: its dual, or what hides it.
-ghost use Rattle.std.specs.Prelude.{◌≡◌, length};
-
+// Scans of rows for shortest paths, block by block, of some objects at once. The value of an object
+// is its cost less its key: its dual, or what hides it.
 use super::lists::{NOBODY, number_of};
 use super::whole::FAR;
+use std::simd::prelude::*;
 
 // The number of objects of a block.
-pub const BLOCK: usize = 32;
+pub const BLOCK: usize = 64;
 
-// The distances of a block's objects from the first person; the least of them.
-fn first_in_block(row: &[i64], keys: &[i64], distances: &mut [i64]) -> i64
-    requires keys { length keys.now ≡ length row.now }
-    requires distances { length distances.old ≡ length row.now }
-{
+// So many objects are looked at at once.
+pub const LANES: usize = 8;
+
+fn least_of(lanes: i64x8) -> i64 {
     let mut least = FAR;
-    for k in 0..row.len() {
-        let value = row[k].wrapping_sub(keys[k]);
-        distances[k] = value;
-        least = least.min(value);
+    for each in lanes.to_array() {
+        least = least.min(each);
     }
     least
 }
 
-// The same by way of another person, where they are less.
-fn next_in_block(row: &[i64], keys: &[i64], base: i64, distances: &mut [i64]) -> i64
-    requires keys { length keys.now ≡ length row.now }
-    requires distances { length distances.old ≡ length row.now }
-{
+// The distances of objects from the first person; the least of them.
+fn first_in_lanes(
+    row: &[[i64; LANES]],
+    keys: &[[i64; LANES]],
+    distances: &mut [[i64; LANES]],
+) -> i64 {
+    let mut least = i64x8::splat(FAR);
+    for ((row, keys), distances) in row.iter().zip(keys).zip(distances.iter_mut()) {
+        let values = i64x8::from_array(*row) - i64x8::from_array(*keys);
+        *distances = values.to_array();
+        least = least.simd_min(values);
+    }
+    least_of(least)
+}
+
+fn first_in_rest(row: &[i64], keys: &[i64], distances: &mut [i64]) -> i64 {
     let mut least = FAR;
-    for k in 0..row.len() {
-        let value = row[k].wrapping_sub(keys[k]).wrapping_sub(base);
-        let now = value.min(distances[k]);
-        distances[k] = now;
-        least = least.min(now);
+    for ((cost, key), distance) in row.iter().zip(keys).zip(distances.iter_mut()) {
+        *distance = cost.wrapping_sub(*key);
+        least = least.min(*distance);
     }
     least
+}
+
+fn first_in_block(row: &[i64], keys: &[i64], distances: &mut [i64]) -> i64 {
+    let (lanes, rest) = row.as_chunks::<LANES>();
+    let (key_lanes, key_rest) = keys.as_chunks::<LANES>();
+    let (distance_lanes, distance_rest) = distances.as_chunks_mut::<LANES>();
+    let least = first_in_rest(rest, key_rest, distance_rest);
+    first_in_lanes(lanes, key_lanes, distance_lanes).min(least)
+}
+
+// The same by way of another person, where they are less.
+fn next_in_lanes(
+    row: &[[i64; LANES]],
+    keys: &[[i64; LANES]],
+    base: i64,
+    distances: &mut [[i64; LANES]],
+) -> i64 {
+    let mut least = i64x8::splat(FAR);
+    for ((row, keys), distances) in row.iter().zip(keys).zip(distances.iter_mut()) {
+        let values = i64x8::from_array(*row) - i64x8::from_array(*keys) - i64x8::splat(base);
+        let now = values.simd_min(i64x8::from_array(*distances));
+        *distances = now.to_array();
+        least = least.simd_min(now);
+    }
+    least_of(least)
+}
+
+fn next_in_rest(row: &[i64], keys: &[i64], base: i64, distances: &mut [i64]) -> i64 {
+    let mut least = FAR;
+    for ((cost, key), distance) in row.iter().zip(keys).zip(distances.iter_mut()) {
+        let value = cost.wrapping_sub(*key).wrapping_sub(base);
+        *distance = value.min(*distance);
+        least = least.min(*distance);
+    }
+    least
+}
+
+fn next_in_block(row: &[i64], keys: &[i64], base: i64, distances: &mut [i64]) -> i64 {
+    let (lanes, rest) = row.as_chunks::<LANES>();
+    let (key_lanes, key_rest) = keys.as_chunks::<LANES>();
+    let (distance_lanes, distance_rest) = distances.as_chunks_mut::<LANES>();
+    let least = next_in_rest(rest, key_rest, base, distance_rest);
+    next_in_lanes(lanes, key_lanes, base, distance_lanes).min(least)
 }
 
 // The distances of all objects from the first person; the least of them.
@@ -45,10 +93,8 @@ pub fn reach_first(row: &[i64], keys: &[i64], distances: &mut [i64], blocks: &mu
         .zip(distances.chunks_mut(BLOCK))
         .zip(blocks.iter_mut())
     {
-        if keys.len() == row.len() && distances.len() == row.len() {
-            *block = first_in_block(row, keys, distances);
-            least = least.min(*block);
-        }
+        *block = first_in_block(row, keys, distances);
+        least = least.min(*block);
     }
     least
 }
@@ -67,16 +113,51 @@ pub fn reach_next(
         .zip(distances.chunks_mut(BLOCK))
         .zip(blocks.iter_mut())
     {
-        if keys.len() == row.len() && distances.len() == row.len() {
-            *block = next_in_block(row, keys, base, distances);
-            least = least.min(*block);
-        }
+        *block = next_in_block(row, keys, base, distances);
+        least = least.min(*block);
     }
     least
 }
 
+// The first of some objects that a bit is set for.
+fn first_of(bits: u64, at: usize) -> i64 {
+    number_of(at.wrapping_add(bits.trailing_zeros() as usize))
+}
+
 // An object at this distance in a block: an unowned one if there is one, else the first.
-fn nearest_in_block(distances: &[i64], owners: &[i64], level: i64, at: usize, found: i64) -> i64 {
+fn nearest_in_lanes(
+    distances: &[[i64; LANES]],
+    owners: &[[i64; LANES]],
+    level: i64,
+    at: usize,
+    found: i64,
+) -> i64 {
+    let mut found = found;
+    let mut at = at;
+    for (distances, owners) in distances.iter().zip(owners) {
+        let hits = i64x8::from_array(*distances)
+            .simd_eq(i64x8::splat(level))
+            .to_bitmask();
+        if hits != 0 {
+            let unowned = i64x8::from_array(*owners)
+                .simd_eq(i64x8::splat(NOBODY))
+                .to_bitmask()
+                & hits;
+            if unowned != 0 {
+                return first_of(unowned, at);
+            }
+            found = if found == NOBODY {
+                first_of(hits, at)
+            } else {
+                found
+            };
+        }
+        at = at.wrapping_add(LANES);
+    }
+    found
+}
+
+fn nearest_in_rest(distances: &[i64], owners: &[i64], level: i64, at: usize, found: i64) -> i64 {
     let mut found = found;
     for (k, (distance, owner)) in distances.iter().zip(owners).enumerate() {
         if *distance == level {
@@ -88,6 +169,22 @@ fn nearest_in_block(distances: &[i64], owners: &[i64], level: i64, at: usize, fo
         }
     }
     found
+}
+
+fn nearest_in_block(distances: &[i64], owners: &[i64], level: i64, at: usize, found: i64) -> i64 {
+    let (lanes, rest) = distances.as_chunks::<LANES>();
+    let (owner_lanes, owner_rest) = owners.as_chunks::<LANES>();
+    let found = nearest_in_lanes(lanes, owner_lanes, level, at, found);
+    if rest.is_empty() || is_unowned(owners, found.wrapping_sub(number_of(at))) {
+        return found;
+    }
+    nearest_in_rest(
+        rest,
+        owner_rest,
+        level,
+        at.wrapping_add(lanes.len().wrapping_mul(LANES)),
+        found,
+    )
 }
 
 fn is_unowned(owners: &[i64], object: i64) -> bool {
@@ -112,86 +209,4 @@ pub fn nearest(distances: &[i64], owners: &[i64], blocks: &[i64], level: i64) ->
         at = at.wrapping_add(BLOCK);
     }
     found
-}
-
-// Whether an object of a block has a value below the limit.
-pub fn is_any_below(row: &[i64], keys: &[i64], limit: i64) -> bool
-    requires { length keys.now ≡ length row.now }
-{
-    let mut signs = 0i64;
-    for k in 0..row.len() {
-        signs |= row[k].wrapping_sub(keys[k]).wrapping_sub(limit);
-    }
-    signs < 0
-}
-
-// The best object of a person, with its value, and the second best value.
-#[derive(Clone, Copy)]
-pub struct Two {
-    pub object: usize,
-    pub best: i64,
-    pub second: i64,
-}
-
-// Without branches, since nobody can foretell them.
-fn two_with_block(two: Two, row: &[i64], keys: &[i64], at: usize) -> Two
-    requires { length keys.now ≡ length row.now }
-{
-    let mut best = two.best;
-    let mut second = two.second;
-    let mut object = two.object;
-    for k in 0..row.len() {
-        let value = row[k].wrapping_sub(keys[k]);
-        second = second.min(best.max(value));
-        object = if value < best {
-            at.wrapping_add(k)
-        } else {
-            object
-        };
-        best = best.min(value);
-    }
-    Two {
-        object,
-        best,
-        second,
-    }
-}
-
-// The two best values of a row.
-pub fn two_best(row: &[i64], keys: &[i64]) -> Two {
-    let mut two = Two {
-        object: 0,
-        best: FAR,
-        second: FAR,
-    };
-    let mut at = 0usize;
-    for (row, keys) in row.chunks(BLOCK).zip(keys.chunks(BLOCK)) {
-        if keys.len() == row.len() && is_any_below(row, keys, two.second) {
-            two = two_with_block(two, row, keys, at);
-        }
-        at = at.wrapping_add(BLOCK);
-    }
-    two
-}
-
-// The least value of a row.
-pub fn least_of_row(row: &[i64], keys: &[i64]) -> i64 {
-    if keys.len() != row.len() {
-        return FAR;
-    }
-    let mut least = FAR;
-    for k in 0..row.len() {
-        least = least.min(row[k].wrapping_sub(keys[k]));
-    }
-    least
-}
-
-// The first unowned object of this value.
-pub fn first_unowned(row: &[i64], keys: &[i64], owners: &[i64], value: i64) -> Option<usize> {
-    for (k, ((cost, key), owner)) in row.iter().zip(keys).zip(owners).enumerate() {
-        if *owner == NOBODY && cost.wrapping_sub(*key) == value {
-            return Some(k);
-        }
-    }
-    None
 }

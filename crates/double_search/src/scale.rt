@@ -1,25 +1,13 @@
 // The unit of the whole numbers that stand for doubles: a power of 2.
 
 use super::whole::{MAGIC, last_bits};
+use std::num::{f64_from_bits_with_nan, f64_to_bits_with_nan};
 
-// Costs are below 2^50 in the coarse unit, of which the fine one is a power of 2.
-const LIMIT: f64 = 1125899906842624.0;
+// The bits of a double above 0 hold its exponent, and 1023, from this one on.
+const EXPONENT: u32 = 52;
 
-const HALF: f64 = 562949953421312.0;
-
-// The powers of 2 that a factor is made of.
-const STEPS: [f64; 10] = [
-    13407807929942597099574024998205846127479365820592393377723561443721764030073546976801874298166903427690031858186486050853753882811946569946433649006084096.0,
-    115792089237316195423570985008687907853269984665640564039457584007913129639936.0,
-    340282366920938463463374607431768211456.0,
-    18446744073709551616.0,
-    4294967296.0,
-    65536.0,
-    256.0,
-    16.0,
-    4.0,
-    2.0,
-];
+// The greatest exponent of a double, and 1023.
+const GREATEST: u64 = 2046;
 
 // Where all pairs are allowed prices differ by no more than costs do, and the unit may be finer.
 const BITS: u32 = 7;
@@ -47,20 +35,11 @@ const MARGIN: i64 = 4;
 // The greatest margin, in fine units.
 const GREATEST_MARGIN: f64 = 17592186044416.0;
 
-// The power of 2 that takes a size above 0 below the limit and to the half of it or above.
+// The power of 2 that takes a size above 0 below 2^50, and to 2^49 or above.
 pub fn factor_of(size: f64) -> f64 {
-    let mut factor = 1.0;
-    let mut reached = size;
-    for step in STEPS {
-        if reached >= HALF * step {
-            reached /= step;
-            factor /= step;
-        } else if reached * step < LIMIT {
-            reached *= step;
-            factor *= step;
-        }
-    }
-    factor
+    let exponent = f64_to_bits_with_nan(size) >> EXPONENT;
+    let of_factor = (GREATEST + 49).wrapping_sub(exponent);
+    f64_from_bits_with_nan(of_factor.clamp(1, GREATEST) << EXPONENT)
 }
 
 // A small double in fine units, or a little more; 0 where it is too great.
@@ -92,13 +71,14 @@ impl Scale {
         small_in(double * self.factor.abs() * self.parts)
     }
 
+    // The cost of pairs whose cost is cut.
+    pub fn limit(self) -> i64 {
+        (1i64 << 50).wrapping_mul(self.grid())
+    }
+
     // The cost from which on pairs are far.
     pub fn far(self) -> i64 {
-        if self.is_cut {
-            (1i64 << 50).wrapping_mul(self.grid())
-        } else {
-            i64::MAX
-        }
+        if self.is_cut { self.limit() } else { i64::MAX }
     }
 
     // The least margin.
@@ -106,8 +86,13 @@ impl Scale {
         MARGIN.wrapping_mul(self.grid())
     }
 
+    // As there are where no cost is infinite.
+    pub fn has_more_bits(self) -> bool {
+        self.bits == BITS
+    }
+
     // The coarse unit.
     pub fn grid(self) -> i64 {
-        if self.bits == BITS { 128 } else { 16 }
+        if self.has_more_bits() { 128 } else { 16 }
     }
 }

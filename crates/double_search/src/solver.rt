@@ -1,7 +1,7 @@
 // The search.
 ghost use Rattle.std.specs.Prelude.{◌≡◌, length};
 
-use super::block::{lists_in, room_of};
+use super::block::{cut, lists_in, room_of};
 use super::hall::{HallSet, all_persons, as_number, hall_set_of};
 use super::lists::{Lists, Matrix, at, place_of};
 use super::paths::Path;
@@ -91,7 +91,7 @@ impl<'a> Problem<'a> {
 
 // Whether a person has an object whose cost was cut.
 fn has_cut(matrix: Matrix<'_>, lists: &Lists<'_>, scale: Scale) -> bool {
-    let limit = (1i64 << 50).wrapping_mul(scale.grid());
+    let limit = scale.limit();
     for person in 0..lists.persons() {
         if matrix.cost(person, place_of(at(lists.objects, person))) >= limit {
             return true;
@@ -191,14 +191,12 @@ fn search_in(
     ensures prices { length prices.new ≡ length prices.old }
 {
     let (n, m) = (problem.persons, problem.objects);
-    let mut costs = vec![in alloc; 0i64; problem.costs.len()]?;
-    to_whole(problem.costs, costs.as_mut_slice(), scale);
-    let mut block = vec![in alloc; 0i64; room_of(n, m)]?;
-    let matrix = Matrix {
-        m,
-        costs: costs.as_slice(),
-    };
-    let mut lists = lists_in(n, m, block.as_mut_slice());
+    let pairs = problem.costs.len();
+    let mut memory = vec![in alloc; 0i64; pairs.saturating_add(room_of(n, m))]?;
+    let (costs, block) = cut(memory.as_mut_slice(), pairs);
+    to_whole(problem.costs, costs, scale);
+    let matrix = Matrix { m, costs };
+    let mut lists = lists_in(n, m, block);
     let path = match begin {
         Begin::Nothing => search_from_nothing(matrix, &mut lists, scale),
         _ => search_begun(matrix, &mut lists, scale, begin, objects, prices),
@@ -216,6 +214,22 @@ fn search_in(
     }
 }
 
+// The margin of a plan of a small problem, where a search begins with nothing.
+fn solve_small(
+    problem: Problem<'_>,
+    begin: Begin,
+    objects: &mut [u32],
+    prices: &mut [f64],
+) -> Option<f64>
+    ensures objects { length objects.new ≡ length objects.old }
+    ensures prices { length prices.new ≡ length prices.old }
+{
+    match begin {
+        Begin::Nothing => problem.solve_small(objects, prices),
+        _ => None,
+    }
+}
+
 fn search_all(
     alloc: Global,
     problem: Problem<'_>,
@@ -229,6 +243,9 @@ fn search_all(
     let (n, m) = (problem.persons, problem.objects);
     if n > m {
         return Ok(Ended::Hall(all_persons(alloc, n, m, problem.costs)?));
+    }
+    if let Some(margin) = solve_small(problem, begin, objects, prices) {
+        return Ok(Ended::Plan(margin));
     }
     let range = Range::of(problem.costs, m, problem.sign());
     let scale = problem.scale(range);

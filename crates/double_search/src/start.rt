@@ -1,8 +1,8 @@
 // Where a search begins.
+use super::best::least_of_row;
 use super::bids::{begin_with_least, bid_all};
 use super::lists::{Lists, Matrix, NOBODY, at, fill, place_of, put};
 use super::paths::Path;
-use super::reach::least_of_row;
 use super::whole::FAR;
 
 impl<'a> Lists<'a> {

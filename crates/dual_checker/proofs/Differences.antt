@@ -32,7 +32,8 @@ not_twice xs n j h f = let a = once_at_most xs j h in let b = f.here in omega ar
 not_out : (prices : List ℤ) (n j : ℕ) → length prices ≡ n → All IsPrice prices → IsFirst (IsOutOfRange prices) n j → ⊥
 not_out prices n j l h f = f.here (All-numbered IsPrice prices j (pos 0) h f.number.first (let b = f.number.last in omega arith))
 
-not_short : (sense : Sense) (m : ℕ) (rows : List Listing) (xs : List ℕ) (prices : List ℤ) (i : ℕ) → AllSlack (pos 1) prices (map (benefit_row sense m) rows) xs →
+not_short : (sense : Sense) (m : ℕ) (rows : List Listing) (xs : List ℕ) (prices : List ℤ) (i : ℕ) →
+    AllSlack (pos 1) prices (map (benefit_row sense m) rows) xs →
     IsFirst (IsShort sense m rows xs prices) (length rows) i → ⊥
 not_short sense m rows xs prices i h f =
     let e : length (map (benefit_row sense m) rows) ≡ length rows = simp length-map in

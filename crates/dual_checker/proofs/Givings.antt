@@ -15,7 +15,8 @@ count-more x xs j e = sum_by-cons (λ y. cond (y == j) 1 0) x xs ∙ ap (λ n. n
 
 pub count-same : (x : ℕ) (xs : List ℕ) (j : ℕ) → nat_eq x j ≡ false → count_of (x ∷ xs) j ≡ count_of xs j
 count-same x xs j e =
-    let one : count_of (x ∷ xs) j ≡ 0 + count_of xs j = sum_by-cons (λ y. cond (y == j) 1 0) x xs ∙ ap (λ n. n + count_of xs j) (cond-false (nat_eq x j) 1 0 e) in
+    let one : count_of (x ∷ xs) j ≡ 0 + count_of xs j = sum_by-cons (λ y. cond (y == j) 1 0) x xs ∙
+    ap (λ n. n + count_of xs j) (cond-false (nat_eq x j) 1 0 e) in
     omega arith
 
 absent : (xs : List ℕ) (j : ℕ) → count_of xs j ≡ 0 → AllByRecursion (λ y. nat_eq j y ≡ false) xs

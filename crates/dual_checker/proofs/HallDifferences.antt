@@ -10,11 +10,13 @@ use Rattle.assign_core.proofs.RowLemmas.{IsRow-row_of}
 use Rattle.dual_checker.specs.declared.hall_verdict.HallVerdict.{HallVerdict}
 use Rattle.dual_checker.specs.declared.hall_verdict.HallVerdict.TheVariants.{Range, Order, Missing, Extra, Count, Yes}
 use Rattle.dual_checker.specs.Faults.{IsFirst}
-use Rattle.dual_checker.specs.HallVerdicts.{AreInRange, AreNeighbours, AreRising, HasNeighbours, HallVerdictsDiffer, IsExtra, IsHallVerdict, Lacks, ListsUnnamed}
+use Rattle.dual_checker.specs.HallVerdicts.{AreInRange, AreNeighbours, AreRising, HasNeighbours, HallVerdictsDiffer}
+use Rattle.dual_checker.specs.HallVerdicts.{IsExtra, IsHallVerdict, Lacks, ListsUnnamed}
 use Rattle.dual_checker.proofs.Firsts.{firsts_agree}
 
 -- the persons and the objects of a Hall set have rows and are listed
-hall_in_range : (m : ℕ) (rows : List Listing) (persons objects : List ℕ) → All (IsRow m) rows → IsHallSet rows persons objects → AreInRange m rows persons objects
+hall_in_range : (m : ℕ) (rows : List Listing) (persons objects : List ℕ) → All (IsRow m) rows →
+    IsHallSet rows persons objects → AreInRange m rows persons objects
 hall_in_range m rows persons objects each h =
     let n : ℕ = length rows in
     let objects_in : All (IsNumber m) objects = λ k d lt.
@@ -27,10 +29,12 @@ hall_in_range m rows persons objects each h =
 hall_rising : (rows : List Listing) (persons objects : List ℕ) → IsHallSet rows persons objects → AreRising persons objects
 hall_rising rows persons objects h = (h.persons_rise, h.objects_rise)
 
-not_lacking : (rows : List Listing) (persons objects : List ℕ) (i : ℕ) → HasNeighbours rows persons (Contains objects) → IsFirst (Lacks rows persons (Contains objects)) (length rows) i → ⊥
+not_lacking : (rows : List Listing) (persons objects : List ℕ) (i : ℕ) →
+    HasNeighbours rows persons (Contains objects) → IsFirst (Lacks rows persons (Contains objects)) (length rows) i → ⊥
 not_lacking rows persons objects i h f = let lack = f.here.1 in lack.1.1 (h lack.0 (i, f.here.0, lack.1.0))
 
-not_extra : (m : ℕ) (rows : List Listing) (persons objects : List ℕ) (j : ℕ) → AreNeighbours rows persons objects → IsFirst (IsExtra rows persons objects) m j → ⊥
+not_extra : (m : ℕ) (rows : List Listing) (persons objects : List ℕ) (j : ℕ) → AreNeighbours rows persons objects →
+    IsFirst (IsExtra rows persons objects) m j → ⊥
 not_extra m rows persons objects j h f = f.here.1 ((h j).0 f.here.0)
 
 pub halls_differ : HallVerdictsDiffer

@@ -14,14 +14,16 @@ use Rattle.dual_checker.proofs.HallMarking.{just_added}
 
 -- if the objects that the first persons of a list list are marked, and these are all its persons,
 -- all their neighbours are marked
-pub neighbours_marked : (rows : List Listing) (persons : List ℕ) (i : ℕ) (marks : List Bool) → length persons ≤ i → ((k j : ℕ) → k < i → IsListed rows (get_or persons k 0) j → IsMarked marks j) →
+pub neighbours_marked : (rows : List Listing) (persons : List ℕ) (i : ℕ) (marks : List Bool) → length persons ≤ i →
+    ((k j : ℕ) → k < i → IsListed rows (get_or persons k 0) j → IsMarked marks j) →
     HasNeighbours rows persons (IsMarked marks)
 neighbours_marked rows persons i marks end before j h =
     let lt = h.1.1 in
     let at = get_or_default persons h.1.0 0 h.0 lt ∙ h.1.2 in
     before h.1.0 j (omega arith) (subst (λ p. IsListed rows p j) (sym at) h.2)
 
-module _ (rows : List Listing) (persons objects : List ℕ) (m : ℕ) (before named : List Bool) (none : before ≡ replicate m false) (marked : AddsMarks before (Contains objects) named) where
+module _ (rows : List Listing) (persons objects : List ℕ) (m : ℕ) (before named : List Bool)
+    (none : before ≡ replicate m false) (marked : AddsMarks before (Contains objects) named) where
   named_is : (j : ℕ) → IsMarked named j ↔ Contains objects j
   named_is = just_added m before named (Contains objects) none marked
 
@@ -40,11 +42,13 @@ module _ (rows : List Listing) (persons objects : List ℕ) (m : ℕ) (before na
   pub told_neighbours : HasNeighbours rows persons (IsMarked named) → HasNeighbours rows persons (Contains objects)
   told_neighbours h j near = (named_is j).0 (h j near)
 
-module _ (rows : List Listing) (persons objects : List ℕ) (m : ℕ) (before listed : List Bool) (none : before ≡ replicate m false) (marked : AddsMarks before (IsNeighbour rows persons) listed) where
+module _ (rows : List Listing) (persons objects : List ℕ) (m : ℕ) (before listed : List Bool)
+    (none : before ≡ replicate m false) (marked : AddsMarks before (IsNeighbour rows persons) listed) where
   listed_is : (j : ℕ) → IsMarked listed j ↔ IsNeighbour rows persons j
   listed_is = just_added m before listed (IsNeighbour rows persons) none marked
 
-  pub told_extra : (n k j : ℕ) → All (IsNumber n) objects → IsFirst (λ x. Contains objects x × ¬ IsMarked listed x) k j → IsFirst (IsExtra rows persons objects) n j
+  pub told_extra : (n k j : ℕ) → All (IsNumber n) objects → IsFirst (λ x. Contains objects x × ¬ IsMarked listed x)
+      k j → IsFirst (IsExtra rows persons objects) n j
   told_extra n k j within f =
       let range = All-contains (IsNumber n) objects j within f.here.0 in
       first_same _ _ k n j (λ x. ((λ h. (h.0, λ near. h.1 ((listed_is x).1 near))), (λ h. (h.0, λ seen. h.1 ((listed_is x).0 seen))))) range.last f

@@ -55,7 +55,8 @@ row_places row i j rising end =
     )
 
 -- the first entry of a row whose object isn't marked has the row's lowest unmarked object
-pub first_unmarked_entry : (rows : List Listing) (person n i : ℕ) (marks : List Bool) (row : Listing) (entry : ℕ × ℤ) → row ≡ row_of rows person → IsRow n row → i < length row → entry ≡ get_or row i entry →
+pub first_unmarked_entry : (rows : List Listing) (person n i : ℕ) (marks : List Bool) (row : Listing) (entry : ℕ ×
+    ℤ) → row ≡ row_of rows person → IsRow n row → i < length row → entry ≡ get_or row i entry →
     ((k : ℕ) (e : ℕ × ℤ) → k < i → IsMarked marks (get_or row k e).0) → ¬ IsMarked marks entry.0 → IsFirst (ListsUnnamed rows (IsMarked marks) person) n entry.0
 first_unmarked_entry rows person n i marks row entry this r lt is before not =
     let number : entry.0 ≡ (get_or row i entry).0 = ap (λ f. f.0) is in
@@ -77,7 +78,8 @@ first_unmarked_entry rows person n i marks row entry this r lt is before not =
     }
 
 -- if each entry's object is marked, each listed object is
-pub all_marked : (rows : List Listing) (person i : ℕ) (marks : List Bool) (row : Listing) → row ≡ row_of rows person → length row ≤ i → ((k : ℕ) (e : ℕ × ℤ) → k < i → IsMarked marks (get_or row k e).0) →
+pub all_marked : (rows : List Listing) (person i : ℕ) (marks : List Bool) (row : Listing) →
+    row ≡ row_of rows person → length row ≤ i → ((k : ℕ) (e : ℕ × ℤ) → k < i → IsMarked marks (get_or row k e).0) →
     (j : ℕ) → IsListed rows person j → IsMarked marks j
 all_marked rows person i marks row this end before j s =
     let each : All (λ e. IsMarked marks e.0) row = λ k e lt. before k e (omega arith) in

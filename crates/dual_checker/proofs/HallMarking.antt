@@ -16,7 +16,8 @@ adds_same P Q before after same h j = (
   (λ o. elim o [ inl b ↦ (h j).1 (inl b) | inr q ↦ (h j).1 (inr ((same j).1 q)) ]),
 )
 
-pub adds_more : (R : ℕ → ℕ → Type 0) (i : ℕ) (start marks after : List Bool) → AddsMarks start (Earlier R i) marks → AddsMarks marks (R i) after → AddsMarks start (Earlier R (i + 1)) after
+pub adds_more : (R : ℕ → ℕ → Type 0) (i : ℕ) (start marks after : List Bool) → AddsMarks start (Earlier R i) marks →
+    AddsMarks marks (R i) after → AddsMarks start (Earlier R (i + 1)) after
 adds_more R i start marks after h more j = (
   (λ m. elim ((more j).0 m) [
     | inl b ↦ elim ((h j).0 b) [ inl s ↦ inl s | inr e ↦ inr (e.0, (let lt = e.1 in omega arith), e.2) ]
@@ -48,7 +49,8 @@ adds_one marks x within j = (
 )
 
 -- one more number
-pub adds_item : (f : ℕ → ℕ) (i x k : ℕ) (start marks : List Bool) → x ≡ f i → IsNumber (length marks) x → k ≡ x - 1 → AddsMarks start (Earlier (λ k j. f k ≡ j) i) marks →
+pub adds_item : (f : ℕ → ℕ) (i x k : ℕ) (start marks : List Bool) → x ≡ f i → IsNumber (length marks) x →
+    k ≡ x - 1 → AddsMarks start (Earlier (λ k j. f k ≡ j) i) marks →
     AddsMarks start (Earlier (λ k j. f k ≡ j) (i + 1)) (set marks k true)
 adds_item f i x k start marks at within place h =
     subst (AddsMarks start (Earlier (λ k j. f k ≡ j) (i + 1))) (renumber-set marks x true within.first ∙ ap (λ m. set marks m true) (sym place))

@@ -1,5 +1,6 @@
 -- Sums of costs and rounded prices that show slackness 1.
-use Rattle.std.proofs.Common.{◌≡◌, ℕ, ℤ, pos, neg_ℤ, zero, suc, ◌+◌, ◌+ℤ◌, ◌*ℤ◌, ◌≤ℤ◌, ◌<◌, ◌≤◌, List, length, get_or, set, arith, ap, sym, subst, ◌∙◌, inl, inr, add-one, IsTrue, false}
+use Rattle.std.proofs.Common.{◌≡◌, ℕ, ℤ, pos, neg_ℤ, zero, suc, ◌+◌, ◌+ℤ◌, ◌*ℤ◌, ◌≤ℤ◌, ◌<◌, ◌≤◌, List, length}
+use Rattle.std.proofs.Common.{get_or, set, arith, ap, sym, subst, ◌∙◌, inl, inr, add-one, IsTrue, false}
 use Rattle.std.specs.List.{All}
 use Rattle.std.proofs.lemmas.Bool.{cases_lt}
 use Rattle.std.proofs.lemmas.Int.{ints}
@@ -50,8 +51,10 @@ worth_by_sums sense m cost price rounded own_cost own_price own_rounded near bel
     omega (arith, ints)
 
 -- a row whose least sum isn't below that of the own object
-pub slack_by_sums : (sense : Sense) (rounded prices : List ℤ) (row : Listing) (own : ℕ) (cost least : ℤ) → AreRounded rounded prices → IsRow (length prices) row → cost ≡ listed_or_zero row own →
-    price_of prices own ≤ℤ ((pos (length prices + 1) *ℤ price_of rounded own) +ℤ pos 1) → IsLeastSum sense rounded row least → (minimised sense cost +ℤ price_of rounded own) ≤ℤ least →
+pub slack_by_sums : (sense : Sense) (rounded prices : List ℤ) (row : Listing) (own : ℕ) (cost least : ℤ) →
+    AreRounded rounded prices → IsRow (length prices) row → cost ≡ listed_or_zero row own →
+    price_of prices own ≤ℤ ((pos (length prices + 1) *ℤ price_of rounded own) +ℤ pos 1) →
+    IsLeastSum sense rounded row least → (minimised sense cost +ℤ price_of rounded own) ≤ℤ least →
     HasSlack (pos 1) prices (benefit_row sense (length prices) row) own
 slack_by_sums sense rounded prices row own cost least f r is near sums under =
     let m : ℕ = length prices in
@@ -60,7 +63,8 @@ slack_by_sums sense rounded prices row own cost least f r is near sums under =
     let e : ℕ × ℤ = get_or row k d in
     let sum = sums k d lt in
     let below = f.below e.0 (r.within k d lt) in
-    let entry = worth_by_sums sense m e.1 (price_of prices e.0) (price_of rounded e.0) cost (price_of prices own) (price_of rounded own) near below (omega (arith, ints)) in
+    let entry = worth_by_sums sense m e.1 (price_of prices e.0) (price_of rounded e.0) cost (price_of prices own)
+    (price_of rounded own) near below (omega (arith, ints)) in
     rw (value, sym is) entry)
 
 -- a test that holds, and one that doesn't
@@ -71,7 +75,8 @@ pub from_no_test : (a b : ℤ) → lt_z a b ≡ false → b ≤ℤ a
 from_no_test a b t = grind (arith, ints, t)
 
 -- the least of the sums so far, and of one more
-pub least_more : (P : ℕ → ℤ) (i : ℕ) (before after sum : ℤ) → ((k : ℕ) → k < i → before ≤ℤ P k) → after ≤ℤ before → after ≤ℤ sum → sum ≡ P i → (k : ℕ) → k < i + 1 → after ≤ℤ P k
+pub least_more : (P : ℕ → ℤ) (i : ℕ) (before after sum : ℤ) → ((k : ℕ) → k < i → before ≤ℤ P k) → after ≤ℤ before →
+    after ≤ℤ sum → sum ≡ P i → (k : ℕ) → k < i + 1 → after ≤ℤ P k
 least_more P i before after sum h low under is k below = elim (cases_lt k i) [
   | inl less ↦ let e = h k less in omega (arith, ints)
   | inr most ↦ let same : k ≡ i = omega arith in let e = ap P same in omega (arith, ints)

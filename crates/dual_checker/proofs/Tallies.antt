@@ -1,5 +1,7 @@
 -- Tables of counts, which grow by one at a time.
-use Rattle.std.proofs.Common.{◌≡◌, ℕ, ◌<◌, ◌≤◌, ◌+◌, ◌-◌, List, [], length, take, set, replicate, nat_eq, true, false, get_or, arith, inl, inr, sym, ◌∙◌, ap, subst, ◌==◌, ◌≢◌, All, Option, None, Some, MatchOption}
+use Rattle.std.proofs.Common.{◌≡◌, ℕ, ◌<◌, ◌≤◌, ◌+◌, ◌-◌, List, [], length, take, set, replicate, nat_eq, true}
+use Rattle.std.proofs.Common.{false, get_or, arith, inl, inr, sym, ◌∙◌, ap, subst, ◌==◌, ◌≢◌, All, Option, None}
+use Rattle.std.proofs.Common.{Some, MatchOption}
 use Rattle.std.specs.List.{IsDistinct}
 use Rattle.std.proofs.lemmas.List.{length-take-le}
 use Rattle.std.proofs.lemmas.List.Sums.{count_by_more_yes, count_by_more_no, count_by-le-length}
@@ -32,7 +34,8 @@ one_renumbered counts xs i x h lt e within j inside =
           let here = ap (λ k. numbered counts k 0) t.1 in
           let same = numbered-same counts x (numbered counts x 0 + 1) 0 within.first within.last in
           let read = ap (λ k. numbered (renumbered counts x (numbered counts x 0 + 1)) k 0) t.1 in
-          let more : count_of (take (i + 1) xs) j ≡ count_of (take i xs) j + 1 = count_by_more_yes (λ y. y == j) xs i x lt (subst (λ y. nat_eq y j ≡ true) e t.0) in
+          let more : count_of (take (i + 1) xs) j ≡ count_of (take i xs) j + 1 =
+          count_by_more_yes (λ y. y == j) xs i x lt (subst (λ y. nat_eq y j ≡ true) e t.0) in
           sym read ∙ same ∙ ap (λ n. n + 1) (here ∙ at) ∙ sym more
       | inr t ↦
           let other = numbered-other counts x j (numbered counts x 0 + 1) 0 (λ s. t.1 (sym s)) in
@@ -53,7 +56,8 @@ one_counted counts xs i x k h lt e within at =
 none_outside : (xs : List ℕ) (n j : ℕ) → (IsNumber n j → ⊥) → All (IsNumber n) xs → count_of xs j ≡ 0
 none_outside xs n j out h = nowhere xs j (All-weaker (IsNumber n) (λ x. x ≢ j) (λ x w e. out (subst (IsNumber n) e w)) xs h)
 
-none_twice : (counts xs : List ℕ) (n : ℕ) → AreCounts counts xs → length counts ≡ n → All (IsNumber n) xs → ((j : ℕ) → IsNumber (length counts) j → numbered counts j 0 ≤ 1) → IsDistinct nat_eq xs
+none_twice : (counts xs : List ℕ) (n : ℕ) → AreCounts counts xs → length counts ≡ n → All (IsNumber n) xs →
+    ((j : ℕ) → IsNumber (length counts) j → numbered counts j 0 ≤ 1) → IsDistinct nat_eq xs
 none_twice counts xs n h long within few = distinct_from xs (λ j. elim (cases_lt 0 j) [
   | inl some ↦ elim (cases_lt n j) [
     | inl past ↦ let none = none_outside xs n j (λ w. let last = w.last in omega arith) within in omega arith
@@ -62,7 +66,8 @@ none_twice counts xs n h long within few = distinct_from xs (λ j. elim (cases_l
   | inr zero_or ↦ let none = none_outside xs n j (λ w. let some = w.first in omega arith) within in omega arith
 ])
 
-some_twice : (counts xs : List ℕ) (n j : ℕ) → AreCounts counts xs → length counts ≡ n → IsFirst (λ k. 1 < numbered counts k 0) (length counts) j → IsFirst (IsGivenTwice xs) n j
+some_twice : (counts xs : List ℕ) (n j : ℕ) → AreCounts counts xs → length counts ≡ n →
+    IsFirst (λ k. 1 < numbered counts k 0) (length counts) j → IsFirst (IsGivenTwice xs) n j
 some_twice counts xs n j h long f = record {
   number = subst (λ m. IsNumber m j) long f.number;
   here = let e = h j f.number in let over = f.here in omega arith;

@@ -1,5 +1,6 @@
 -- An object whose sum with its price is below a person's value is better for the person.
-use Rattle.std.proofs.Common.{◌≡◌, ℕ, ℤ, pos, neg_ℤ, ◌+ℤ◌, ◌-ℤ◌, ◌≤ℤ◌, ◌<ℤ◌, ◌<◌, ◌-◌, List, [], Option, Some, MatchOption, IsSome, unwrap_or, length, get_or, refl, arith, ap, sym, subst}
+use Rattle.std.proofs.Common.{◌≡◌, ℕ, ℤ, pos, neg_ℤ, ◌+ℤ◌, ◌-ℤ◌, ◌≤ℤ◌, ◌<ℤ◌, ◌<◌, ◌-◌, List, [], Option, Some}
+use Rattle.std.proofs.Common.{MatchOption, IsSome, unwrap_or, length, get_or, refl, arith, ap, sym, subst}
 use Rattle.std.proofs.lemmas.Int.{ints, by_lt_z}
 use Rattle.assign_core.specs.declared.sense.Sense.{Sense}
 use Rattle.assign_core.specs.declared.sense.Sense.TheVariants.{Min, Max}
@@ -31,10 +32,13 @@ better_to : (sense : Sense) (prices : List ℤ) (k j : ℕ) (c d : ℤ) → IsBe
 better_to Min prices k j c d h = h
 better_to Max prices k j c d h = omega (arith, ints)
 
-no_worse_unless : (sense : Sense) (prices : List ℤ) (k j : ℕ) (c d : ℤ) → (((minimised sense c +ℤ price_of prices k) <ℤ (minimised sense d +ℤ price_of prices j)) → ⊥) →
+no_worse_unless : (sense : Sense) (prices : List ℤ) (k j : ℕ) (c d : ℤ) →
+    (((minimised sense c +ℤ price_of prices k) <ℤ (minimised sense d +ℤ price_of prices j)) → ⊥) →
     IsNoWorse sense (with_price sense prices j d) (with_price sense prices k c)
-no_worse_unless Min prices k j c d h = by_lt_z {P = (d +ℤ price_of prices j) ≤ℤ (c +ℤ price_of prices k)} (c +ℤ price_of prices k) (d +ℤ price_of prices j) (λ lt. absurd (h lt)) (λ le. le)
-no_worse_unless Max prices k j c d h = by_lt_z {P = (c -ℤ price_of prices k) ≤ℤ (d -ℤ price_of prices j)} (neg_ℤ c +ℤ price_of prices k) (neg_ℤ d +ℤ price_of prices j) (λ lt. absurd (h lt)) (λ le. omega (arith, ints))
+no_worse_unless Min prices k j c d h = by_lt_z {P = (d +ℤ price_of prices j) ≤ℤ (c +ℤ price_of prices k)}
+    (c +ℤ price_of prices k) (d +ℤ price_of prices j) (λ lt. absurd (h lt)) (λ le. le)
+no_worse_unless Max prices k j c d h = by_lt_z {P = (c -ℤ price_of prices k) ≤ℤ (d -ℤ price_of prices j)}
+    (neg_ℤ c +ℤ price_of prices k) (neg_ℤ d +ℤ price_of prices j) (λ lt. absurd (h lt)) (λ le. omega (arith, ints))
 
 -- each person's value is the sum of its own turned cost and its object's price
 abbrev pub AreValues : ListedCosts → List ℕ → List ℤ → List ℤ → Type 0
@@ -43,7 +47,8 @@ AreValues l xs prices values =
     numbered values i (pos 0) ≡ minimised l.sense (listed_or_zero (row_of l.rows i) (own_object xs i)) +ℤ price_of prices (own_object xs i)
 
 -- own costs to which the prices were added
-pub values_are : (l : ListedCosts) (xs : List ℕ) (prices own values : List ℤ) → AreOwnCosts l.sense l.rows xs own → AreListed l.rows xs → length values ≡ length own → length xs ≡ length l.rows →
+pub values_are : (l : ListedCosts) (xs : List ℕ) (prices own values : List ℤ) → AreOwnCosts l.sense l.rows xs own →
+    AreListed l.rows xs → length values ≡ length own → length xs ≡ length l.rows →
     ((i : ℕ) → i < length values → get_or values i (pos 0) ≡ get_or own i (pos 0) +ℤ price_of prices (get_or xs i 0)) → AreValues l xs prices values
 values_are l xs prices own values are listed same long h i number =
     let first = number.first in
@@ -73,14 +78,16 @@ module _ (l : ListedCosts) (xs : List ℕ) (prices values : List ℤ) (are : Are
       let under = u.under in
       record {
         listed = seen i k u.cost u.listed;
-        better = better_from l.sense prices k (own_object xs i) (listed_or_zero (row_of l.rows i) k) (listed_or_zero (row_of l.rows i) (own_object xs i)) (omega (arith, ints));
+        better = better_from l.sense prices k (own_object xs i) (listed_or_zero (row_of l.rows i) k)
+            (listed_or_zero (row_of l.rows i) (own_object xs i)) (omega (arith, ints));
       }
 
   better_under : (i k : ℕ) → IsBetterFor l xs prices i k → IsUnder l.sense l.rows prices values i k
   better_under i k b =
       let number = listing_within l.rows i k b.listed in
       let value = are i number in
-      let less = better_to l.sense prices k (own_object xs i) (listed_or_zero (row_of l.rows i) k) (listed_or_zero (row_of l.rows i) (own_object xs i)) b.better in
+      let less = better_to l.sense prices k (own_object xs i) (listed_or_zero (row_of l.rows i) k)
+      (listed_or_zero (row_of l.rows i) (own_object xs i)) b.better in
       record {
         cost = listed_or_zero (row_of l.rows i) k;
         listed = some_cost (listed_in (row_of l.rows i) k) b.listed;
@@ -103,10 +110,12 @@ module _ (l : ListedCosts) (xs : List ℕ) (prices values : List ℤ) (are : Are
       (λ lt. none i k (record { cost = c; listed = e; under = omega (arith, ints, lt) })))
 
 -- where each person has a choice, no object is better for a person
-pub choice_unbeaten : (l : ListedCosts) (xs : List ℕ) (prices : List ℤ) (i k : ℕ) → AreChoices l.sense prices l.rows xs → IsNumber (length l.rows) i → IsBetterFor l xs prices i k → ⊥
+pub choice_unbeaten : (l : ListedCosts) (xs : List ℕ) (prices : List ℤ) (i k : ℕ) →
+    AreChoices l.sense prices l.rows xs → IsNumber (length l.rows) i → IsBetterFor l xs prices i k → ⊥
 choice_unbeaten l xs prices i k h number b =
     let choice = pair_number (IsChoice l.sense prices) l.rows xs i [] 0 h number.first number.last in
-    never l.sense (paid l prices i k) (paid l prices i (own_object xs i)) b.better (choice k (listed_or_zero (row_of l.rows i) k) (some_cost (listed_in (row_of l.rows i) k) b.listed)) where
+    never l.sense (paid l prices i k) (paid l prices i (own_object xs i)) b.better
+    (choice k (listed_or_zero (row_of l.rows i) k) (some_cost (listed_in (row_of l.rows i) k) b.listed)) where
       never : (sense : Sense) (a d : ℤ) → IsBetter sense a d → IsNoWorse sense d a → ⊥
       never Min a d lt le = omega (arith, ints)
       never Max a d lt le = omega (arith, ints)
@@ -116,7 +125,8 @@ abbrev pub IsFirstUnder : Sense → List Listing → ℕ → ℕ → List ℤ �
 IsFirstUnder sense rows n m prices values f = MatchOption f ((i k : ℕ) → ¬ IsUnder sense rows prices values i k)
     (λ p. IsFirst (HasUnder sense rows prices values) n p.0 × IsFirst (IsUnder sense rows prices values p.0) m p.1)
 
-pub under_shown : (s t : Sense) (rows others : List Listing) (n k m o : ℕ) (prices values : List ℤ) (f : Option (ℕ × ℕ)) → s ≡ t → rows ≡ others → n ≡ k → m ≡ o →
+pub under_shown : (s t : Sense) (rows others : List Listing) (n k m o : ℕ) (prices values : List ℤ)
+    (f : Option (ℕ × ℕ)) → s ≡ t → rows ≡ others → n ≡ k → m ≡ o →
     IsFirstUnder s rows n m prices values f → IsFirstUnder t others k o prices values f
 under_shown s t rows others n k m o prices values f same_sense same_rows same_n same_m h =
     subst (λ a. IsFirstUnder a others k o prices values f) same_sense

@@ -25,7 +25,11 @@ IsFirstSoFar persons objects Bad k (Some p) = IsMet persons objects Bad k p × (
 through : (p q r : ℕ × ℕ) → IsUpTo p q → IsUpTo q r → IsUpTo p r
 through p q r a b = elim a [
   | inl lt ↦ elim b [ inl less ↦ inl (omega arith) | inr same ↦ let e = same.0 in inl (omega arith) ]
-  | inr at ↦ let e = at.0 in let l = at.1 in elim b [ inl less ↦ inl (omega arith) | inr same ↦ let f = same.0 in let m = same.1 in inr (omega arith, omega arith) ]
+  | inr at ↦ let e = at.0 in let l = at.1 in elim b [
+    | inl less ↦ inl (omega arith)
+    | inr same ↦ let f =
+        same.0 in let m = same.1 in inr (omega arith, omega arith)
+  ]
 ]
 
 module _ (persons objects : List ℕ) (Bad : ℕ → Type 0) where
@@ -44,7 +48,8 @@ module _ (persons objects : List ℕ) (Bad : ℕ → Type 0) where
   )
 
   -- one with it
-  pub first_take : (k : ℕ) (f : Option (ℕ × ℕ)) (i j : ℕ) (r : ℕ × ℕ) → Bad k → i ≡ get_or persons k 0 → j ≡ get_or objects k 0 → IsEarlier f (i, j) r → IsFirstSoFar persons objects Bad k f →
+  pub first_take : (k : ℕ) (f : Option (ℕ × ℕ)) (i j : ℕ) (r : ℕ × ℕ) → Bad k → i ≡ get_or persons k 0 →
+      j ≡ get_or objects k 0 → IsEarlier f (i, j) r → IsFirstSoFar persons objects Bad k f →
       IsFirstSoFar persons objects Bad (k + 1) (Some r)
   first_take k None i j r bad at to e h =
       let here : ◌≡◌ {A = ℕ × ℕ} (i, j) r = sym e in (
@@ -79,8 +84,19 @@ module _ (persons objects : List ℕ) (Bad : ℕ → Type 0) where
       let met = h.0 in
       let here : F p.0 p.1 = subst (λ j. F p.0 j) met.object (subst (λ i. F i (get_or objects met.place 0)) met.person (to met.place met.before met.bad)) in
       let least : (i j : ℕ) → F i j → IsUpTo p (i, j) = λ i j x. let other = from i j x in
-      subst (λ o. IsUpTo p (i, o)) other.object (subst (λ a. IsUpTo p (a, get_or objects other.place 0)) other.person (h.1 other.place other.before other.bad)) in
+      subst (λ o. IsUpTo p (i, o)) other.object (subst (λ a. IsUpTo p (a, get_or objects other.place 0))
+      other.person (h.1 other.place other.before other.bad)) in
       let number = range p.0 p.1 here in (
-        record { number = number.0; here = (p.1, here); none_below = λ i some below x. elim (least i x.0 x.1) [ inl lt ↦ omega arith | inr same ↦ let e = same.0 in omega arith ] },
-        record { number = number.1; here = here; none_below = λ j some below x. elim (least p.0 j x) [ inl lt ↦ omega arith | inr same ↦ let l = same.1 in omega arith ] },
+        record {
+          number = number.0;
+          here = (p.1, here);
+          none_below = λ i some below x. elim (least i x.0 x.1)
+              [ inl lt ↦ omega arith | inr same ↦ let e = same.0 in omega arith ];
+        },
+        record {
+          number = number.1;
+          here = here;
+          none_below = λ j some below x. elim (least p.0 j x)
+              [ inl lt ↦ omega arith | inr same ↦ let l = same.1 in omega arith ];
+        },
       )

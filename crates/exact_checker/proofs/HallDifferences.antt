@@ -69,7 +69,8 @@ module _ (l : ListedCosts) (persons objects : List ℕ) (limits : AreInLimits l)
   same Order Order a b = refl
   same (Missing i o) (Missing j k) a b =
       let e = firsts_agree _ _ i j a.1 b.1 in
-      let f = firsts_agree (ListsUnnamed l.rows (Contains objects) j) l.m o k (subst (λ q. IsFirst (ListsUnnamed l.rows (Contains objects) q) l.m o) e a.2) b.2 in
+      let f = firsts_agree (ListsUnnamed l.rows (Contains objects) j) l.m o k
+      (subst (λ q. IsFirst (ListsUnnamed l.rows (Contains objects) q) l.m o) e a.2) b.2 in
       ap (λ q. Missing q o) e ∙ ap (λ q. Missing j q) f
   same (Extra i) (Extra j) a b = ap Extra (firsts_agree _ _ i j a.2 b.2)
   same Count Count a b = refl

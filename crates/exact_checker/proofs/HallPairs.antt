@@ -1,5 +1,7 @@
 -- Listed pairs and marks, as rows and lists of numbers.
-use Rattle.std.proofs.Common.{◌≡◌, ℕ, ℤ, pos, ◌<◌, ◌↔◌, ◌+◌, ◌-◌, List, Option, None, Some, IsSome, Bool, true, false, MatchOption, length, replicate, get_or, refl, rules, arith, ap, sym, subst, ◌∙◌, inl, inr}
+use Rattle.std.proofs.Common.{◌≡◌, ℕ, ℤ, pos, ◌<◌, ◌↔◌, ◌+◌, ◌-◌, List, Option, None, Some, IsSome, Bool, true}
+use Rattle.std.proofs.Common.{false, MatchOption, length, replicate, get_or, refl, rules, arith, ap, sym, subst}
+use Rattle.std.proofs.Common.{◌∙◌, inl, inr}
 use Rattle.std.specs.List.{All, Contains}
 use Rattle.std.specs.List.Sorted.{IsStrictlyIncreasing}
 use Rattle.std.proofs.lemmas.Bool.{false≢true}
@@ -104,7 +106,8 @@ IsFirstLacking rows n m persons named f = MatchOption f (HasNeighbours rows pers
     (λ p. IsFirst (Lacks rows persons (IsMarked named)) n p.0 × IsFirst (ListsUnnamed rows (IsMarked named) p.0) m p.1)
 
 -- persons and marks, with the rows of listed pairs
-module _ (rows : List Listing) (n m : ℕ) (pairs : Pairs) (persons : List ℕ) (chosen named : List Bool) (lists : ListJust rows pairs) (marks : MarksJust chosen n persons) where
+module _ (rows : List Listing) (n m : ℕ) (pairs : Pairs) (persons : List ℕ) (chosen named : List Bool)
+    (lists : ListJust rows pairs) (marks : MarksJust chosen n persons) where
   listed_by : (j : ℕ) → IsListedByMarked pairs chosen j ↔ IsNeighbour rows persons j
   listed_by j = (
     (λ h. (h.0, (marks.just h.0).0 h.1, (lists h.0 j).1 h.2)),
@@ -151,12 +154,14 @@ module _ (rows : List Listing) (m : ℕ) (persons : List ℕ) (all : ListAll row
       IsFirst (Lacks rows persons (IsMarked named)) (length rows) (get_or persons 0 0) × IsFirst (ListsUnnamed rows (IsMarked named) (get_or persons 0 0)) m o
   full_first named o some rise f =
       let listed = (all (get_or persons 0 0) o).1 (within 0 0 some, f.number) in (
-        first_named (λ i. (j : ℕ) × ListsUnnamed rows (IsMarked named) i j) persons (length rows) 0 (get_or persons 0 0) rise within some (get_or_default persons 0 0 (get_or persons 0 0) some)
+        first_named (λ i. (j : ℕ) × ListsUnnamed rows (IsMarked named) i j) persons (length rows) 0
+            (get_or persons 0 0) rise within some (get_or_default persons 0 0 (get_or persons 0 0) some)
             (λ k lt. absurd (omega arith)) (o, (listed, f.here)),
         record { number = f.number; here = (listed, f.here); none_below = λ k first below x. f.none_below k first below x.1 },
       )
 
-  pub full_added : (before after : List Bool) → 0 < length persons → ((j : ℕ) → ¬ IsMarked before j) → ((j : ℕ) → IsMarked after j ↔ IsNumber m j) → AddsMarks before (IsNeighbour rows persons) after
+  pub full_added : (before after : List Bool) → 0 < length persons → ((j : ℕ) → ¬ IsMarked before j) →
+      ((j : ℕ) → IsMarked after j ↔ IsNumber m j) → AddsMarks before (IsNeighbour rows persons) after
   full_added before after some none h j = (
     (λ x. inr ((near_is j some).1 ((h j).0 x))),
     (λ o. elim o [ inl b ↦ absurd (none j b) | inr near ↦ (h j).1 ((near_is j some).0 near) ]),

@@ -8,5 +8,4 @@ mod HallDifferences
 mod HallPairs
 mod Ranks
 mod OwnMarks
-mod Rising
 mod Marks

@@ -45,5 +45,6 @@ module _ (l : ListedCosts) (xs : List ℕ) (own : List ℤ) (limits : AreInLimit
       let row = All-numbered HasCosts l.rows (i + 1) [] limits.costs number.first number.last in
       first_at (IsUnlisted l.rows xs) (length l.rows) i (omega arith)
       (λ k h f. f (listed_at k (record { first = h.first; last = let b = h.last in omega arith }) (none k h)))
-      (marked l.sense (listed_in (row_of l.rows (i + 1)) (own_object xs (i + 1))) (λ c e. entry_found (λ f. IsCost f.1) (row_of l.rows (i + 1)) (own_object xs (i + 1)) c row e)
+      (marked l.sense (listed_in (row_of l.rows (i + 1)) (own_object xs (i + 1)))
+      (λ c e. entry_found (λ f. IsCost f.1) (row_of l.rows (i + 1)) (own_object xs (i + 1)) c row e)
       (sym (are.each (i + 1) number) ∙ mark))

@@ -25,7 +25,8 @@ IsUnderAt sense persons objects costs prices values q =
 
 module _ (sense : Sense) (pairs : Pairs) (prices values : List ℤ) (are : ArePairs (length values) (length prices) pairs) where
   among : All (IsTripleAmong (length values) (length prices)) (triples_in pairs)
-  among = triples_among pairs.persons.now pairs.objects.now pairs.costs.now are.objects_long are.costs_long (length values) (length prices) are.persons_in are.objects_in are.costs_in
+  among = triples_among pairs.persons.now pairs.objects.now pairs.costs.now are.objects_long are.costs_long
+      (length values) (length prices) are.persons_in are.objects_in are.costs_in
 
   value_at : (i : ℕ) → IsNumber (length values) i → numbered values i (pos 0) ≡ get_or values (i - 1) (pos 0)
   value_at i number = numbered-index values i (pos 0) (pos 0) number.first number.last
@@ -36,16 +37,22 @@ module _ (sense : Sense) (pairs : Pairs) (prices values : List ℤ) (are : ArePa
   -- the best cost of a pair at a place is no worse than the cost there
   under_best : (q : ℕ) → q < length pairs.persons.now → IsUnderAt sense pairs.persons.now pairs.objects.now pairs.costs.now prices values q → (o : Option ℤ) →
       best_given sense (triples_in pairs) (get_or pairs.persons.now q 0) (get_or pairs.objects.now q 0) ≡ o →
-      IsUnder sense (rows_given sense (triples_in pairs) (length prices) 1 (length values)) prices values (get_or pairs.persons.now q 0) (get_or pairs.objects.now q 0)
+      IsUnder sense (rows_given sense (triples_in pairs) (length prices) 1 (length values)) prices values
+      (get_or pairs.persons.now q 0) (get_or pairs.objects.now q 0)
   under_best q lt bad None e =
       let none : IsBestGiven sense (triples_in pairs) (get_or pairs.persons.now q 0) (get_or pairs.objects.now q 0) None =
-      subst (IsBestGiven sense (triples_in pairs) (get_or pairs.persons.now q 0) (get_or pairs.objects.now q 0)) e (best_given_is sense (triples_in pairs) (get_or pairs.persons.now q 0) (get_or pairs.objects.now q 0)) in
-      absurd (none (get_or pairs.costs.now q (pos 0)) (triple_contained pairs.persons.now pairs.objects.now pairs.costs.now are.objects_long are.costs_long q lt))
+      subst (IsBestGiven sense (triples_in pairs) (get_or pairs.persons.now q 0) (get_or pairs.objects.now q 0)) e
+      (best_given_is sense (triples_in pairs) (get_or pairs.persons.now q 0) (get_or pairs.objects.now q 0)) in
+      absurd (none (get_or pairs.costs.now q (pos 0)) (triple_contained pairs.persons.now pairs.objects.now
+      pairs.costs.now are.objects_long are.costs_long q lt))
   under_best q lt bad (Some c) e =
       let i : ℕ = get_or pairs.persons.now q 0 in
       let j : ℕ = get_or pairs.objects.now q 0 in
-      let best : IsBestGiven sense (triples_in pairs) i j (Some c) = subst (IsBestGiven sense (triples_in pairs) i j) e (best_given_is sense (triples_in pairs) i j) in
-      let order = turned_order sense c (get_or pairs.costs.now q (pos 0)) (best.1 (get_or pairs.costs.now q (pos 0)) (triple_contained pairs.persons.now pairs.objects.now pairs.costs.now are.objects_long are.costs_long q lt)) in
+      let best : IsBestGiven sense (triples_in pairs) i j (Some c) =
+      subst (IsBestGiven sense (triples_in pairs) i j) e (best_given_is sense (triples_in pairs) i j) in
+      let order = turned_order sense c (get_or pairs.costs.now q (pos 0)) (best.1 (get_or pairs.costs.now q (pos 0))
+      (triple_contained pairs.persons.now pairs.objects.now pairs.costs.now are.objects_long are.costs_long q
+      lt)) in
       let value = value_at i (are.persons_in q 0 lt) in
       let price = price_at j (are.objects_in q 0 (let long = are.objects_long in omega arith)) in
       record {
@@ -55,12 +62,14 @@ module _ (sense : Sense) (pairs : Pairs) (prices values : List ℤ) (are : ArePa
       }
 
   pub to_under : (q : ℕ) → q < length pairs.persons.now → IsUnderAt sense pairs.persons.now pairs.objects.now pairs.costs.now prices values q →
-      IsUnder sense (rows_given sense (triples_in pairs) (length prices) 1 (length values)) prices values (get_or pairs.persons.now q 0) (get_or pairs.objects.now q 0)
+      IsUnder sense (rows_given sense (triples_in pairs) (length prices) 1 (length values)) prices values
+      (get_or pairs.persons.now q 0) (get_or pairs.objects.now q 0)
   to_under q lt bad = under_best q lt bad (best_given sense (triples_in pairs) (get_or pairs.persons.now q 0) (get_or pairs.objects.now q 0)) refl
 
   given_pair : (i j : ℕ) (c : ℤ) → best_given sense (triples_in pairs) i j ≡ Some c → Contains (triples_in pairs) (i, j, c)
   given_pair i j c e =
-      let best : IsBestGiven sense (triples_in pairs) i j (Some c) = subst (IsBestGiven sense (triples_in pairs) i j) e (best_given_is sense (triples_in pairs) i j) in
+      let best : IsBestGiven sense (triples_in pairs) i j (Some c) =
+      subst (IsBestGiven sense (triples_in pairs) i j) e (best_given_is sense (triples_in pairs) i j) in
       best.0
 
   module _ (i j : ℕ) (u : IsUnder sense (rows_given sense (triples_in pairs) (length prices) 1 (length values)) prices values i j) where
@@ -69,12 +78,14 @@ module _ (sense : Sense) (pairs : Pairs) (prices values : List ℤ) (are : ArePa
 
     pub under_range : IsNumber (length values) i × IsNumber (length prices) j
     under_range =
-        let p = place_of_triple pairs.persons.now pairs.objects.now pairs.costs.now are.objects_long are.costs_long i j u.cost (given_pair i j u.cost given) in (
+        let p = place_of_triple pairs.persons.now pairs.objects.now pairs.costs.now are.objects_long are.costs_long
+        i j u.cost (given_pair i j u.cost given) in (
           subst (IsNumber (length values)) p.person (are.persons_in p.place 0 p.below),
           subst (IsNumber (length prices)) p.object (are.objects_in p.place 0 (let long = are.objects_long in let lt = p.below in omega arith)),
         )
 
-    pub from_under : IsMet pairs.persons.now pairs.objects.now (IsUnderAt sense pairs.persons.now pairs.objects.now pairs.costs.now prices values) (length pairs.persons.now) (i, j)
+    pub from_under : IsMet pairs.persons.now pairs.objects.now (IsUnderAt sense pairs.persons.now pairs.objects.now
+        pairs.costs.now prices values) (length pairs.persons.now) (i, j)
     from_under =
         let p = place_of_triple pairs.persons.now pairs.objects.now pairs.costs.now are.objects_long are.costs_long i j u.cost (given_pair i j u.cost given) in
         let value = value_at i under_range.0 in

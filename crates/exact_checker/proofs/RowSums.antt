@@ -21,7 +21,8 @@ NoneUnder sense costs prices values i =
 
 -- and of one more
 pub none_more : (sense : Sense) (costs prices values : List ℤ) (i : ℕ) → NoneUnder sense costs prices values i →
-    ((j : ℕ) → j < length prices → get_or values i (pos 0) ≤ℤ sum_at sense (part_of (length prices) i costs) prices j) → NoneUnder sense costs prices values (i + 1)
+    ((j : ℕ) → j < length prices → get_or values i (pos 0) ≤ℤ sum_at sense (part_of (length prices) i costs)
+    prices j) → NoneUnder sense costs prices values (i + 1)
 none_more sense costs prices values i before here q j lt room = elim (low_or_same q i lt) [
   | inl less ↦ before q j less room
   | inr same ↦ subst (λ p. get_or values p (pos 0) ≤ℤ sum_at sense (part_of (length prices) p costs) prices j) (sym same) (here j room)
@@ -54,7 +55,8 @@ module _ (sense : Sense) (costs prices values : List ℤ) (are : AreCosts (lengt
     person_in : IsNumber (length values) i
     person_in =
         let seen = subst (λ o. IsSome o) (sym u.listed) refl in
-        subst (λ n. IsNumber n i) (length-rows_cut (length prices) (length values) costs) (listing_within (rows_cut (length prices) (length values) costs) i k seen)
+        subst (λ n. IsNumber n i) (length-rows_cut (length prices) (length values) costs)
+        (listing_within (rows_cut (length prices) (length values) costs) i k seen)
 
     row_is : row_of (rows_cut (length prices) (length values) costs) i ≡ row_from 1 (part_of (length prices) (i - 1) costs)
     row_is =
@@ -98,10 +100,12 @@ module _ (sense : Sense) (costs prices values : List ℤ) (are : AreCosts (lengt
       let below = under_to p k u in
       omega (arith, ints)
 
-  pub none_under : (i : ℕ) → NoneUnder sense costs prices values i → length values ≤ i → (p k : ℕ) → ¬ IsUnder sense (rows_cut (length prices) (length values) costs) prices values p k
+  pub none_under : (i : ℕ) → NoneUnder sense costs prices values i → length values ≤ i → (p k : ℕ) →
+      ¬ IsUnder sense (rows_cut (length prices) (length values) costs) prices values p k
   none_under i none end p k u = let last = (person_in p k u).last in not_under i p k none (omega arith) u
 
-  pub first_under_is : (i j : ℕ) → i < length values → j < length prices → NoneUnder sense costs prices values i → sum_at sense (part_of (length prices) i costs) prices j <ℤ get_or values i (pos 0) →
+  pub first_under_is : (i j : ℕ) → i < length values → j < length prices → NoneUnder sense costs prices values i →
+      sum_at sense (part_of (length prices) i costs) prices j <ℤ get_or values i (pos 0) →
       ((q : ℕ) → q < j → get_or values i (pos 0) ≤ℤ sum_at sense (part_of (length prices) i costs) prices q) →
       IsFirst (λ p. (k : ℕ) × IsUnder sense (rows_cut (length prices) (length values) costs) prices values p k) (length values) (i + 1)
       × IsFirst (IsUnder sense (rows_cut (length prices) (length values) costs) prices values (i + 1)) (length prices) (j + 1)

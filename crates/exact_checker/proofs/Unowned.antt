@@ -54,7 +54,8 @@ module _ (counts xs : List ℕ) (prices : List ℤ) (h : AreCounts counts xs) (l
         | inr zero ↦ inr zero
       ]
 
-  pub priced_from : (i : ℕ) → i < length counts → ((k : ℕ) → IsNumber i k → IsFine counts prices k) → numbered counts (i + 1) 0 ≡ 0 → price_of prices (i + 1) ≢ pos 0 →
+  pub priced_from : (i : ℕ) → i < length counts → ((k : ℕ) → IsNumber i k → IsFine counts prices k) →
+      numbered counts (i + 1) 0 ≡ 0 → price_of prices (i + 1) ≢ pos 0 →
       IsFirst (IsPricedUnowned xs prices) (length prices) (i + 1)
   priced_from i lt fine none some =
       let n : IsNumber (length counts) (i + 1) = record { first = omega arith; last = omega arith } in

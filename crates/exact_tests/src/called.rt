@@ -12,7 +12,7 @@ pub enum Finding {
     /// A Hall set that is confirmed.
     Hall,
     Stopped,
-    /// The solver says so, or what it found isn't confirmed.
+    /// What the solver found isn't confirmed.
     Nothing,
 }
 
@@ -63,7 +63,6 @@ pub fn call(
             })
         }
         Found::Stopped => Ok(Finding::Stopped),
-        Found::Unfound => Ok(Finding::Nothing),
     }
 }
 

@@ -43,7 +43,7 @@ fn sense_of(turn: u32) -> Sense {
     }
 }
 
-fn dense_problem(
+pub fn dense_problem(
     alloc: Global,
     seed: &mut u64,
     turn: u32,
@@ -65,7 +65,7 @@ fn push_pair(problem: &mut Problem, i: u32, j: u32, cost: Cost) -> Result<(), Al
 }
 
 // Each person lists the object of its number, and `count` drawn ones.
-fn sparse_problem(
+pub fn sparse_problem(
     alloc: Global,
     seed: &mut u64,
     turn: u32,
@@ -183,6 +183,38 @@ fn a_stage_of_the_other_form_begins_anew(rt: HostRuntime) -> Result<(), Fail> {
         };
         let found = in_pieces(rt.alloc(), &lists, standing, 0, 1)?;
         assert!(rt; matches!(found, Finding::Best(_)), "stage {stage}");
+    }
+    Ok(())
+}
+
+// As many objects as persons, one more, one less, and two and three times as many.
+fn objects_of_shape(n: u32, shape: u32) -> u32 {
+    match shape {
+        0 => n,
+        1 => n.wrapping_add(1),
+        2 => n.wrapping_sub(1).max(1),
+        3 => n.wrapping_mul(2),
+        _ => n.wrapping_mul(3),
+    }
+}
+
+// A call without a budget finds what is confirmed.
+#[test]
+fn each_size_up_to_40_is_decided(rt: HostRuntime) -> Result<(), Fail> {
+    let mut seed = 70;
+    for turn in 0..400 {
+        let n = (turn / 10 + 1).min(40);
+        let m = objects_of_shape(n, turn % 5);
+        let problem = if turn % 10 < 5 {
+            dense_problem(rt.alloc(), &mut seed, turn / 5, n, m)?
+        } else {
+            sparse_problem(rt.alloc(), &mut seed, turn / 5, n, m, turn % 4)?
+        };
+        let found = solve_twice(&rt, &problem, 500)?;
+        assert!(rt;
+            matches!(found, Finding::Best(_) | Finding::Hall),
+            "problem {turn}"
+        );
     }
     Ok(())
 }

@@ -5,6 +5,8 @@
 #[cfg(test)]
 mod called;
 #[cfg(test)]
+mod decided;
+#[cfg(test)]
 mod drawn;
 #[cfg(test)]
 mod given;

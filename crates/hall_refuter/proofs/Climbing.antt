@@ -1,5 +1,7 @@
 -- The path from the first person of a search to an object, traced back from its end.
-use Rattle.std.proofs.Common.{◌≡◌, ℕ, ◌<◌, List, [], ◌∷◌, ◌++◌, Option, None, Some, Bool, false, length, get_or, nat_eq, ap, append_assoc, append-nil, arith, refl, sym, subst, ◌∙◌, inl, inr, ◌⊎◌, reverse}
+use Rattle.std.proofs.Common.{◌≡◌, ℕ, ◌<◌, List, [], ◌∷◌, ◌++◌, Option, None, Some, Bool, false, length, get_or}
+use Rattle.std.proofs.Common.{nat_eq, ap, append_assoc, append-nil, arith, refl, sym, subst, ◌∙◌, inl, inr, ◌⊎◌}
+use Rattle.std.proofs.Common.{reverse}
 use Rattle.std.specs.List.{AllByRecursion, IsDistinct}
 use Rattle.std.proofs.lemmas.Bool.Decides.{eqb_tells}
 use Rattle.std.proofs.lemmas.List.{reverse-append, get_or_default}
@@ -40,7 +42,8 @@ record IsPathOn (rows : List Listing) (owners : List (Option ℕ)) (found : List
   apart : IsDistinct nat_eq ks
   beyond : AllByRecursion (IsBeyond owners found t) ks
 
-alternates_on : (rows : List Listing) (owners : List (Option ℕ)) (x y j : ℕ) (ks : List ℕ) → IsListed rows y j → owner_of owners j ≡ Some x → Alternates rows owners x ks → Alternates rows owners y (j ∷ ks)
+alternates_on : (rows : List Listing) (owners : List (Option ℕ)) (x y j : ℕ) (ks : List ℕ) → IsListed rows y j →
+    owner_of owners j ≡ Some x → Alternates rows owners x ks → Alternates rows owners y (j ∷ ks)
 alternates_on rows owners x y j [] l o a = absurd a
 alternates_on rows owners x y j (k ∷ ks) l o a = (l, x, o, a)
 
@@ -48,12 +51,15 @@ beyond_more : (owners : List (Option ℕ)) (found : List Found) (p t k : ℕ) �
 unfolding IsBeyond
 beyond_more owners found p t k lt b = elim b [ inl free ↦ inl free | inr s ↦ inr (s.0, (let l = s.1 in omega arith), s.2, s.3) ]
 
-all_beyond_more : (owners : List (Option ℕ)) (found : List Found) (p t : ℕ) (ks : List ℕ) → p < t → AllByRecursion (IsBeyond owners found t) ks → AllByRecursion (IsBeyond owners found p) ks
+all_beyond_more : (owners : List (Option ℕ)) (found : List Found) (p t : ℕ) (ks : List ℕ) → p < t →
+    AllByRecursion (IsBeyond owners found t) ks → AllByRecursion (IsBeyond owners found p) ks
 all_beyond_more owners found p t [] lt b = tt
 all_beyond_more owners found p t (k ∷ ks) lt b = (beyond_more owners found p t k lt b.0, all_beyond_more owners found p t ks lt b.1)
 
 -- the object through which the person at place t was reached isn't among those after it
-differs : (rows : List Listing) (owners : List (Option ℕ)) (found : List Found) (met : List Bool) (t j x k : ℕ) → IsReach rows owners found met → owner_of owners j ≡ Some x → object_at found t ≡ Some j → IsBeyond owners found t k → nat_eq j k ≡ false
+differs : (rows : List Listing) (owners : List (Option ℕ)) (found : List Found) (met : List Bool) (t j x k : ℕ) →
+    IsReach rows owners found met → owner_of owners j ≡ Some x → object_at found t ≡ Some j →
+    IsBeyond owners found t k → nat_eq j k ≡ false
 unfolding IsBeyond
 differs rows owners found met t j x k r o at b = elim (eqb_tells j k) [
   | inr e ↦ e.0
@@ -63,19 +69,27 @@ differs rows owners found met t j x k r o at b = elim (eqb_tells j k) [
   ]
 ]
 
-all_differ : (rows : List Listing) (owners : List (Option ℕ)) (found : List Found) (met : List Bool) (t j x : ℕ) (ks : List ℕ) → IsReach rows owners found met → owner_of owners j ≡ Some x → object_at found t ≡ Some j →
+all_differ : (rows : List Listing) (owners : List (Option ℕ)) (found : List Found) (met : List Bool) (t j x : ℕ)
+    (ks : List ℕ) → IsReach rows owners found met → owner_of owners j ≡ Some x → object_at found t ≡ Some j →
     AllByRecursion (IsBeyond owners found t) ks → AllByRecursion (λ k. nat_eq j k ≡ false) ks
 all_differ rows owners found met t j x [] r o at b = tt
-all_differ rows owners found met t j x (k ∷ ks) r o at b = (differs rows owners found met t j x k r o at b.0, all_differ rows owners found met t j x ks r o at b.1)
+all_differ rows owners found met t j x (k ∷ ks) r o at b = (
+  differs rows owners found met t j x k r o at b.0,
+  all_differ rows owners found met t j x ks r o at b.1,
+)
 
 here_beyond : (owners : List (Option ℕ)) (found : List Found) (p t j : ℕ) → p < t → t < length found → object_at found t ≡ Some j → IsBeyond owners found p j
 unfolding IsBeyond
 here_beyond owners found p t j lt last at = inr (t, lt, last, at)
 
-pub arrived_as : (rows : List Listing) (owners : List (Option ℕ)) (found : List Found) (met : List Bool) (t : ℕ) (o : Option Arrival) → IsReach rows owners found met → t < length found → arrival_at found t ≡ o → IsArrived rows owners found t (person_at found t) o
+pub arrived_as : (rows : List Listing) (owners : List (Option ℕ)) (found : List Found) (met : List Bool) (t : ℕ)
+    (o : Option Arrival) → IsReach rows owners found met → t < length found → arrival_at found t ≡ o →
+    IsArrived rows owners found t (person_at found t) o
 arrived_as rows owners found met t o r lt e = subst (IsArrived rows owners found t (person_at found t)) e (r.arrived t lt)
 
-path_up : (rows : List Listing) (owners : List (Option ℕ)) (found : List Found) (met : List Bool) (t : ℕ) (ks : List ℕ) (a : Arrival) → IsReach rows owners found met → t < length found → arrival_at found t ≡ Some a → IsPathOn rows owners found t ks →
+path_up : (rows : List Listing) (owners : List (Option ℕ)) (found : List Found) (met : List Bool) (t : ℕ)
+    (ks : List ℕ) (a : Arrival) → IsReach rows owners found met → t < length found → arrival_at found t ≡ Some a →
+    IsPathOn rows owners found t ks →
     IsPathOn rows owners found a.parent (a.object ∷ ks)
 path_up rows owners found met t ks a r lt e p =
     let h = arrived_as rows owners found met t (Some a) r lt e in
@@ -89,7 +103,9 @@ path_up rows owners found met t ks a r lt e p =
 turned : (j : ℕ) (js ks : List ℕ) → reverse (j ∷ js) ++ ks ≡ reverse js ++ (j ∷ ks)
 turned j js ks = ap (λ l. l ++ ks) (reverse-append (j ∷ []) js) ∙ append_assoc (reverse js) (j ∷ []) ks
 
-climbed : (rows : List Listing) (owners : List (Option ℕ)) (found : List Found) (met : List Bool) (t : ℕ) (js ks : List ℕ) → IsReach rows owners found met → t < length found → Climbs found t js → IsPathOn rows owners found t ks →
+climbed : (rows : List Listing) (owners : List (Option ℕ)) (found : List Found) (met : List Bool) (t : ℕ)
+    (js ks : List ℕ) → IsReach rows owners found met → t < length found → Climbs found t js →
+    IsPathOn rows owners found t ks →
     IsPath rows owners (person_at found 0) (reverse js ++ ks)
 climbed rows owners found met t [] ks r lt c p =
     let h = arrived_as rows owners found met t None r lt c in
@@ -102,11 +118,18 @@ climbed rows owners found met t (j ∷ js) ks r lt c p =
     rw turned (climbed rows owners found met c.0.parent js (j ∷ ks) r (omega arith) c.3 on)
 
 -- the objects up to an unowned one, from the first person on
-pub path_found : (rows : List Listing) (owners : List (Option ℕ)) (found : List Found) (met : List Bool) (last j : ℕ) (js path : List ℕ) → IsReach rows owners found met → last < length found →
-    IsListed rows (person_at found last) j → owner_of owners j ≡ None → Climbs found last js → path ≡ reverse (j ∷ js) → IsPath rows owners (person_at found 0) path
+pub path_found : (rows : List Listing) (owners : List (Option ℕ)) (found : List Found) (met : List Bool)
+    (last j : ℕ) (js path : List ℕ) → IsReach rows owners found met → last < length found →
+    IsListed rows (person_at found last) j → owner_of owners j ≡ None → Climbs found last js →
+    path ≡ reverse (j ∷ js) → IsPath rows owners (person_at found 0) path
 unfolding IsDistinct IsBeyond
 path_found rows owners found met last j js path r lt l free c e =
-    let end : IsPathOn rows owners found last (j ∷ []) = record { alternates = (l, free); apart = IsDistinct-cons nat_eq j [] tt nothing_apart; beyond = (free_beyond, tt) } in
+    let end : IsPathOn rows owners found last (j ∷ []) = record {
+      alternates = (l, free);
+      apart =
+          IsDistinct-cons nat_eq j [] tt nothing_apart;
+      beyond = (free_beyond, tt);
+    } in
     let p = climbed rows owners found met last js (j ∷ []) r lt c end in
     let t : reverse (j ∷ js) ≡ reverse js ++ (j ∷ []) = reverse-append (j ∷ []) js in
     rw (e, t) p where

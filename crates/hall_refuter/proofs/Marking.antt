@@ -1,5 +1,6 @@
 -- Marks of the persons found, and lists of the marked numbers.
-use Rattle.std.proofs.Common.{◌≡◌, ℕ, ◌+◌, ◌-◌, ◌<◌, ◌↔◌, zero, suc, List, [], ◌∷◌, Bool, true, false, Less, length, get_or, set, ap, arith, refl, sym, subst, ◌∙◌, inl, inr}
+use Rattle.std.proofs.Common.{◌≡◌, ℕ, ◌+◌, ◌-◌, ◌<◌, ◌↔◌, zero, suc, List, [], ◌∷◌, Bool, true, false, Less, length}
+use Rattle.std.proofs.Common.{get_or, set, ap, arith, refl, sym, subst, ◌∙◌, inl, inr}
 use Rattle.std.specs.List.{All, AllByRecursion, Contains}
 use Rattle.std.specs.List.Sorted.{IsStrictlyIncreasing, IsStrictlySortedBy}
 use Rattle.std.specs.Ordering.{nat_cmp}
@@ -17,7 +18,9 @@ use Rattle.hall_refuter.proofs.Growing.{person_read}
 set_is : (marks : List Bool) (i j : ℕ) → i ≡ j - 1 → 0 < j → set marks i true ≡ renumbered marks j true
 set_is marks i j e some = ap (λ q. set marks q true) e ∙ sym (renumber-set marks j true some)
 
-one_marked : (found : List Found) (marks : List Bool) (h j x : ℕ) → person_at found h ≡ j → IsNumber (length marks) j → (IsMarked marks x ↔ IsAmongFirst found x h) → IsMarked (renumbered marks j true) x ↔ IsAmongFirst found x (h + 1)
+one_marked : (found : List Found) (marks : List Bool) (h j x : ℕ) → person_at found h ≡ j →
+    IsNumber (length marks) j → (IsMarked marks x ↔ IsAmongFirst found x h) → IsMarked (renumbered marks j true) x ↔
+    IsAmongFirst found x (h + 1)
 one_marked found marks h j x at number before = (
   (λ m. elim (cases_eq x j) [
     | inl e ↦ (h, omega arith, at ∙ sym e)
@@ -32,11 +35,13 @@ one_marked found marks h j x at number before = (
 )
 
 -- one more person is marked
-pub marked_more : (found : List Found) (marks : List Bool) (n h i : ℕ) (f : Found) → i ≡ f.person - 1 → h < length found → f ≡ get_or found h f → All (λ g. IsNumber n g.person) found → length marks ≡ n →
+pub marked_more : (found : List Found) (marks : List Bool) (n h i : ℕ) (f : Found) → i ≡ f.person - 1 →
+    h < length found → f ≡ get_or found h f → All (λ g. IsNumber n g.person) found → length marks ≡ n →
     ((x : ℕ) → IsMarked marks x ↔ IsAmongFirst found x h) → (x : ℕ) → IsMarked (set marks i true) x ↔ IsAmongFirst found x (h + 1)
 marked_more found marks n h i f e lt at within long before x =
     let w : IsNumber n f.person = subst (λ g. IsNumber n g.person) (sym at) (within h f lt) in
-    rw (set_is marks i f.person e w.first) (one_marked found marks h f.person x (person_read found h f lt at) (subst (λ m. IsNumber m f.person) (sym long) w) (before x))
+    rw (set_is marks i f.person e w.first) (one_marked found marks h f.person x (person_read found h f lt at)
+    (subst (λ m. IsNumber m f.person) (sym long) w) (before x))
 
 -- a marked number is in the list
 listed_mark : (j : ℕ) (marks : List Bool) (i x : ℕ) → j + i ≡ x → get_or marks i false ≡ true → Contains (marked_from j marks) x
@@ -47,7 +52,8 @@ listed_mark j (true ∷ marks) (suc i) x e m = contains_later j (marked_from (j 
 listed_mark j (false ∷ marks) (suc i) x e m = listed_mark (j + 1) marks i x (omega arith) m
 
 -- a number of the list is marked
-mark_listed : (j : ℕ) (marks : List Bool) (k x : ℕ) → k < length (marked_from j marks) → get_or (marked_from j marks) k x ≡ x → (i : ℕ) × (j + i ≡ x) × (get_or marks i false ≡ true)
+mark_listed : (j : ℕ) (marks : List Bool) (k x : ℕ) → k < length (marked_from j marks) →
+    get_or (marked_from j marks) k x ≡ x → (i : ℕ) × (j + i ≡ x) × (get_or marks i false ≡ true)
 mark_listed j [] k x lt at = absurd (omega arith)
 mark_listed j (true ∷ marks) zero x lt at = (0, omega arith, refl)
 mark_listed j (true ∷ marks) (suc k) x lt at = let r = mark_listed (j + 1) marks k x (omega arith) at in (suc r.0, (let e = r.1 in omega arith), r.2)
@@ -58,7 +64,8 @@ pub marked_contains : (marks : List Bool) (x : ℕ) → Contains (marked_from 1 
 marked_contains marks x = (to x, from x) where
   to : (y : ℕ) → Contains (marked_from 1 marks) y → IsMarked marks y
   to zero h = let r = mark_listed 1 marks h.0 0 h.1 h.2 in let e = r.1 in absurd (omega arith)
-  to (suc k) h = let r = mark_listed 1 marks h.0 (suc k) h.1 h.2 in let e = r.1 in let same : r.0 ≡ k = omega arith in subst (λ q. get_or marks q false ≡ true) same r.2
+  to (suc k) h = let r = mark_listed 1 marks h.0 (suc k) h.1 h.2 in let e = r.1 in let same : r.0 ≡ k =
+      omega arith in subst (λ q. get_or marks q false ≡ true) same r.2
 
   from : (y : ℕ) → IsMarked marks y → Contains (marked_from 1 marks) y
   from zero m = absurd cc
@@ -81,7 +88,8 @@ pub marked_rise : (marks : List Bool) → IsStrictlyIncreasing (marked_from 1 ma
 marked_rise marks = IsStrictlyIncreasing-from_sorted (marked_from 1 marks) (sorted_marks 1 marks)
 
 -- the list of the marked numbers has just the numbers that the marks say
-pub listed_as : (P : ℕ → Type 0) (xs : List ℕ) (marks given : List Bool) → xs ≡ marked_from 1 given → given ≡ marks → ((x : ℕ) → IsMarked marks x ↔ P x) → (x : ℕ) → Contains xs x ↔ P x
+pub listed_as : (P : ℕ → Type 0) (xs : List ℕ) (marks given : List Bool) → xs ≡ marked_from 1 given →
+    given ≡ marks → ((x : ℕ) → IsMarked marks x ↔ P x) → (x : ℕ) → Contains xs x ↔ P x
 listed_as P xs marks given e same h x =
     let at : xs ≡ marked_from 1 marks = e ∙ ap (marked_from 1) same in
     let c = marked_contains marks x in

@@ -15,7 +15,8 @@ marked_kept marks j i number m = elim (cases_eq i j) [
 ]
 
 -- a mark that is set counts
-pub count_more : (marks : List Bool) (j : ℕ) → IsNumber (length marks) j → numbered marks j false ≡ false → count_by (λ b. b) (renumbered marks j true) ≡ count_by (λ b. b) marks + 1
+pub count_more : (marks : List Bool) (j : ℕ) → IsNumber (length marks) j → numbered marks j false ≡ false →
+    count_by (λ b. b) (renumbered marks j true) ≡ count_by (λ b. b) marks + 1
 count_more marks j number clear =
     let s = count-renumbered (λ b. b) marks j true false number.first number.last in
     let z : cond {A = ℕ} (numbered marks j false) 1 0 ≡ 0 = ap (λ b. cond {A = ℕ} b 1 0) clear in

@@ -4,18 +4,19 @@ use lib.Ieee.{Float}
 use Rattle.assign_core.specs.declared.sense.Sense.{Sense}
 use Rattle.assign_core.specs.Assignment.{IsAssignment, IsBest}
 use Rattle.assign_core.specs.Hall.{IsHallSet}
-use Rattle.double_costs.specs.Prices.{AreChoicesBy, IsPricedBest}
+use Rattle.double_costs.specs.Prices.{IsPricedBest}
 use Rattle.double_costs.specs.Units.{units_of}
-use Rattle.double_checker.specs.Verdicts.{AreLong, price_units}
+use Rattle.double_checker.specs.Verdicts.{AreLong, IsBestByMargin, price_units}
 use Rattle.lent_doubles.specs.declared.answer.Answer.{Answer}
 use Rattle.lent_doubles.specs.declared.answer.Answer.TheVariants.{Best, Hall, Undecided}
 use Rattle.lent_doubles.specs.Faults.{IsWhole}
 use Rattle.lent_doubles.specs.Given.{GivenDoubles, rows_in}
 
--- by some margin each other pair of a person is worse than its own
+-- by some margin, which is above 0 and at least 2 ^ -52 of the size of each cost, each other pair of a
+-- person is worse than its own
 pub record IsByMargin (g : GivenDoubles) (sense : Sense) (objects : List ℕ) (prices : List Float) : Type 0 where
   pub margin : Float
-  pub worse : AreChoicesBy (units_of margin) sense (price_units prices) (rows_in g) objects
+  pub worse : IsBestByMargin sense (units_of margin) (rows_in g) g.costs objects (price_units prices)
 
 -- an optimal plan with prices that prove it
 pub record IsBestBy (g : GivenDoubles) (sense : Sense) (objects : List ℕ) (prices : List Float) (by_margin : Bool) : Type 0 where

@@ -181,13 +181,31 @@ pub fn refused(shape: Shape, given: &Given<'_>) -> Fault
     }
 }
 
-/// Searches from there. An error is the first fault of what is given.
+// Where nothing is accepted that a search from there found: a search from nothing.
+fn search_on_both(
+    alloc: Global,
+    shape: Shape,
+    given: &Given<'_>,
+    start: Start<'_>,
+) -> Result<Answer, AllocError>
+    requires { IsShape given.now shape }
+    ensures { IfOk result (λ answer. IsAccepted given.now answer) }
+{
+    let answer = search_on(alloc, shape, given, start)?;
+    match (start, answer) {
+        (Start::Plan(_, _), Answer::Undecided) => search_on(alloc, shape, given, Start::Nothing),
+        (_, answer) => Ok(answer),
+    }
+}
+
+/// Searches from there, and from nothing where that finds no answer. An error is the first fault of
+/// what is given.
 pub fn answer_on(alloc: Global, given: &Given<'_>, start: Start<'_>) -> Result<Answer, Fault>
     ensures found { IfOk result (IsFound given.now) }
     ensures fault { IfErr result (HasFault given.now) }
 {
     let shape = judge(given)?;
-    match search_on(alloc, shape, given, start) {
+    match search_on_both(alloc, shape, given, start) {
         Ok(Answer::Undecided) => undecided(shape, given),
         Ok(answer) => Ok(answer),
         Err(_) => Err(refused(shape, given)),

@@ -1,6 +1,7 @@
 // Plans of any program, checked against the given problem.
 ghost use Rattle.std.specs.Prelude.{◌≡◌, ◌⊎◌, IfErr, IfOk};
-ghost use Rattle.lent_doubles.specs.Checks.{IsJudged, IsOfGiven, IsRefused, verdict_code, with_verdict};
+ghost use Rattle.lent_doubles.specs.Checks.{IsJudged, IsOfGiven, IsRefused, verdict_code};
+ghost use Rattle.lent_doubles.specs.Checks.{with_verdict};
 ghost use Rattle.lent_doubles.specs.Ends.{flag};
 ghost use Rattle.lent_doubles.specs.Faults.{HasFault, IsShape};
 

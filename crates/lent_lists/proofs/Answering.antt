@@ -7,7 +7,8 @@ use Rattle.lent_lists.specs.Given.{GivenLists, lists_in}
 use Rattle.lent_lists.specs.Shapes.{IsShape}
 
 -- what holds of the costs in these lists holds of what is given
-pub of_given : (g : GivenLists) (shape : Shape) (l : ListedCosts) (Holds : ListedCosts → Type 0) → IsShape g shape → IsWhole g → l ≡ lists_in shape.sense g → Holds l → IsOfGiven g Holds
+pub of_given : (g : GivenLists) (shape : Shape) (l : ListedCosts) (Holds : ListedCosts → Type 0) → IsShape g shape →
+    IsWhole g → l ≡ lists_in shape.sense g → Holds l → IsOfGiven g Holds
 of_given g shape l Holds is whole same h = record {
   sense = shape.sense;
   wanted = is.wanted;

@@ -20,14 +20,12 @@ abbrev pub end_of : Answer → End
 end_of (answer.Best sum) = end.Best
 end_of (answer.Hall set) = end.Hall
 end_of answer.Stopped = end.Stopped
-end_of answer.Unfound = end.Unfound
 
 -- the best: an assignment with exact prices, and the sum of its costs; a Hall set; or no claim
 abbrev pub IsAnswer : ListedCosts → Standing → Answer → Type 0
 IsAnswer l s (answer.Best sum) = IsOptimum l s.objects.items s.prices.items × (sum ≡ total l.rows s.objects.items)
 IsAnswer l s (answer.Hall set) = IsHallSet l.rows set.persons.items set.objects.items
 IsAnswer l s answer.Stopped = Unit {0}
-IsAnswer l s answer.Unfound = Unit {0}
 
 -- a search of a given problem without a fault, with an answer that the budget allows
 pub record IsSearched (g : GivenLists) (budget : ℕ) (s : Searched) : Type 0 where

@@ -7,7 +7,7 @@ use Rattle.cost_lists.specs.ListedCosts.{ListedCosts}
 use Rattle.lent_lists.specs.declared.fault.Fault.{Fault}
 use Rattle.lent_lists.specs.declared.fault.Fault.TheVariants as fault
 use Rattle.lent_lists.specs.declared.end.End.{End}
-use Rattle.lent_lists.specs.declared.end.End.TheVariants.{Best, Hall, Stopped, Unfound}
+use Rattle.lent_lists.specs.declared.end.End.TheVariants.{Best, Hall, Stopped}
 use Rattle.lent_lists.specs.declared.info.Info.{Info}
 use Rattle.lent_lists.specs.Given.{GivenLists}
 use Rattle.lent_lists.specs.Faults.{HasFault, IsOfGiven}
@@ -39,7 +39,6 @@ abbrev pub end_code : Result End Fault → ℤ
 end_code (Ok Best) = pos 0
 end_code (Ok Hall) = pos 1
 end_code (Ok Stopped) = pos 21
-end_code (Ok Unfound) = pos 22
 end_code (Err f) = fault_code f
 
 -- the caller's buffers
@@ -84,14 +83,12 @@ abbrev pub HoldsEnd : ListedCosts → Buffers → Buffers → End → Type 0
 HoldsEnd l before after Best = HoldsBest l before after
 HoldsEnd l before after Hall = HoldsHall l before after
 HoldsEnd l before after Stopped = HoldsStanding before after
-HoldsEnd l before after Unfound = after ≡ before
 
 -- a call stops only where it has a budget, which isn't 0
 abbrev pub IsAllowed : ℕ → End → Type 0
 IsAllowed budget Best = Unit {0}
 IsAllowed budget Hall = Unit {0}
 IsAllowed budget Stopped = budget ≢ 0
-IsAllowed budget Unfound = Unit {0}
 
 -- the buffers with the place of a fault, if it has one; otherwise unchanged
 abbrev pub with_place : Fault → Buffers → Buffers

@@ -1,6 +1,6 @@
 // Proved answers to given problems.
 ghost use Rattle.std.specs.Prelude.{◌≡◌, IfErr, IfOk, length};
-ghost use Rattle.list_solver.specs.Found.{IsFound};
+ghost use Rattle.list_solver.specs.Found.{IsFound, MayStop};
 ghost use Rattle.lent_lists.specs.Answers.{IsAnswer, IsSearched, end_of};
 ghost use Rattle.lent_lists.specs.Ends.{IsAllowed};
 ghost use Rattle.lent_lists.specs.Faults.{HasFault, IsWhole};
@@ -26,11 +26,9 @@ pub enum Answer {
     Hall(HallSet),
     /// The budget is spent.
     Stopped,
-    /// Nothing that the checker accepts.
-    Unfound,
 }
 
-// What a search found, as an answer. Only a search with a budget may stop.
+// What a search found, as an answer.
 fn answer_of(
     alloc: Global,
     lists: &CostLists<'_>,
@@ -38,7 +36,8 @@ fn answer_of(
     budget: u64,
     found: Found,
 ) -> Result<Answer, AllocError>
-    requires { IsFound lists.now standing.now found }
+    requires found { IsFound lists.now standing.now found }
+    requires allowed { MayStop budget found }
     ensures answer { IfOk result (IsAnswer lists.now standing.now) }
     ensures allowed { IfOk result (λ answer. IsAllowed budget (end_of answer)) }
 {
@@ -48,8 +47,7 @@ fn answer_of(
             Ok(Answer::Best(total))
         }
         Found::Hall(set) => Ok(Answer::Hall(set)),
-        Found::Stopped if budget != 0 => Ok(Answer::Stopped),
-        Found::Stopped | Found::Unfound => Ok(Answer::Unfound),
+        Found::Stopped => Ok(Answer::Stopped),
     }
 }
 

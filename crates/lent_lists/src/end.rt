@@ -14,8 +14,6 @@ pub enum End {
     Hall,
     /// The budget is spent.
     Stopped,
-    /// With nothing that the checker accepts.
-    Unfound,
 }
 
 /// The code of an end.
@@ -26,7 +24,6 @@ pub fn code_of_end(end: End) -> i32
         End::Best => 0,
         End::Hall => 1,
         End::Stopped => 21,
-        End::Unfound => 22,
     }
 }
 

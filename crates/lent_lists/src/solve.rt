@@ -84,7 +84,6 @@ fn put_answer(
             put_standing(objects, prices, standing);
             End::Stopped
         }
-        Answer::Unfound => End::Unfound,
     }
 }
 

@@ -1,5 +1,7 @@
 -- The lists of rows that a caller gives.
-use Rattle.std.specs.Prelude.{◌≡◌, ℕ, zero, suc, ◌+◌, ◌-◌, ◌<◌, ◌==◌, nat_le, nat_lt, ℤ, pos, negsuc, ◌^◌, List, [], ◌∷◌, ◌++◌, Bool, true, false, ◌&&◌, ◌||◌, Option, None, Some, if◌then◌else◌, length, slice_index_or}
+use Rattle.std.specs.Prelude.{◌≡◌, ℕ, zero, suc, ◌+◌, ◌-◌, ◌<◌, ◌==◌, nat_le, nat_lt, ℤ, pos, negsuc, ◌^◌, List, []}
+use Rattle.std.specs.Prelude.{◌∷◌, ◌++◌, Bool, true, false, ◌&&◌, ◌||◌, Option, None, Some, if◌then◌else◌, length}
+use Rattle.std.specs.Prelude.{slice_index_or}
 use Rattle.std.specs.Ordering.{int_eq}
 use Rattle.row_checker.specs.declared.row.Multiple.{Multiple}
 

@@ -18,8 +18,6 @@ pub enum Found {
     Hall(HallSet),
     /// The budget is spent. The next call goes on from the prices, the objects and the record.
     Stopped,
-    /// The search found nothing that the checker accepts.
-    Unfound,
 }
 
 // How a search ends, before the checker has seen it.

@@ -1,6 +1,8 @@
 // The checker's word on what a search found.
-ghost use Rattle.std.specs.Prelude.{IfOk};
-ghost use Rattle.list_solver.specs.Found.{IsFound};
+ghost use Rattle.std.specs.Prelude.{◌≡◌, true, IfOk, MatchOption};
+ghost use Rattle.assign_core.specs.Hall.{IsHallSet};
+ghost use Rattle.cost_lists.specs.Exact.{IsOptimum};
+ghost use Rattle.list_solver.specs.Found.{IsFound, MayStop};
 
 use super::found::{Ended, Found, HallSet};
 use super::standing::Standing;
@@ -8,48 +10,51 @@ use cost_lists::CostLists;
 use exact_checker::{HallVerdict, Verdict, check, check_hall};
 use std::alloc::{AllocError, Global};
 
-fn judge_best(
-    alloc: Global,
-    lists: &CostLists<'_>,
-    standing: &Standing,
-) -> Result<Found, AllocError>
-    ensures { IfOk result (IsFound lists.now standing.now) }
+fn is_best(alloc: Global, lists: &CostLists<'_>, standing: &Standing) -> Result<bool, AllocError>
+    ensures { IfOk result (λ yes. yes ≡ true
+        → IsOptimum lists.now standing.now.objects.items standing.now.prices.items) }
 {
     let (objects, prices) = (standing.objects.as_slice(), standing.prices.as_slice());
-    if check(alloc, lists, objects, prices)? == Verdict::Yes {
-        return Ok(Found::Best);
-    }
-    Ok(Found::Unfound)
+    Ok(check(alloc, lists, objects, prices)? == Verdict::Yes)
 }
 
-fn judge_hall(
-    alloc: Global,
-    lists: &CostLists<'_>,
-    standing: &Standing,
-    set: HallSet,
-) -> Result<Found, AllocError>
-    ensures { IfOk result (IsFound lists.now standing.now) }
+fn is_hall(alloc: Global, lists: &CostLists<'_>, set: &HallSet) -> Result<bool, AllocError>
+    ensures { IfOk result (λ yes. yes ≡ true
+        → IsHallSet lists.now.rows set.now.persons.items set.now.objects.items) }
 {
     let (persons, objects) = (set.persons.as_slice(), set.objects.as_slice());
-    if check_hall(alloc, lists, persons, objects)? == HallVerdict::Yes {
-        return Ok(Found::Hall(set));
-    }
-    Ok(Found::Unfound)
+    Ok(check_hall(alloc, lists, persons, objects)? == HallVerdict::Yes)
 }
 
-// What a search found, if the checker accepts it.
+// What a search found, if the checker accepts it. Only a search with a budget may stop.
 pub fn judge(
     alloc: Global,
     lists: &CostLists<'_>,
     standing: &Standing,
+    budget: u64,
     ended: Ended,
-) -> Result<Found, AllocError>
-    ensures { IfOk result (IsFound lists.now standing.now) }
+) -> Result<Option<Found>, AllocError>
+    ensures found { IfOk result
+        (λ found. MatchOption found (Unit {0}) (IsFound lists.now standing.now)) }
+    ensures allowed { IfOk result (λ found. MatchOption found (Unit {0}) (MayStop budget)) }
 {
     match ended {
-        Ended::Best => judge_best(alloc, lists, standing),
-        Ended::Hall(set) => judge_hall(alloc, lists, standing, set),
-        Ended::Stopped => Ok(Found::Stopped),
-        Ended::Lost => Ok(Found::Unfound),
+        Ended::Best => {
+            if is_best(alloc, lists, standing)? {
+                return Ok(Some(Found::Best));
+            }
+        }
+        Ended::Hall(set) => {
+            if is_hall(alloc, lists, &set)? {
+                return Ok(Some(Found::Hall(set)));
+            }
+        }
+        Ended::Stopped => {
+            if budget != 0 {
+                return Ok(Some(Found::Stopped));
+            }
+        }
+        Ended::Lost => {}
     }
+    Ok(None)
 }

@@ -1,5 +1,5 @@
 //! Optimal assignments with exact prices, and Hall sets, over lent lists of costs: an untrusted
-//! search finds them, and the checker of exact prices decides.
+//! search finds them, and the checker of exact prices accepts them. Else a proved search answers.
 #![tactic(auto)]
 
 mod dense_lists;
@@ -8,6 +8,7 @@ mod grouped;
 mod judging;
 mod listed_pairs;
 mod places;
+mod proved;
 mod record;
 mod solver;
 mod standing;

@@ -1,5 +1,7 @@
 -- The bytes of a text, read one by one, give what its tokens give.
-use Rattle.std.proofs.Common.{◌≡◌, ℕ, ◌+◌, ◌*◌, ◌%◌, ◌≤◌, ℤ, pos, negsuc, List, [], ◌∷◌, ◌++◌, Option, Some, None, Ok, Err, Result, IfSome, true, refl, ◌⊎◌, inl, inr, rules, length, sym, ap, ◌∙◌, nat_lt, nat_le, nat_eq, nat_abs}
+use Rattle.std.proofs.Common.{◌≡◌, ℕ, ◌+◌, ◌*◌, ◌%◌, ◌≤◌, ℤ, pos, negsuc, List, [], ◌∷◌, ◌++◌, Option, Some, None}
+use Rattle.std.proofs.Common.{Ok, Err, Result, IfSome, true, refl, ◌⊎◌, inl, inr, rules, length, sym, ap, ◌∙◌}
+use Rattle.std.proofs.Common.{nat_lt, nat_le, nat_eq, nat_abs}
 use Rattle.std.proofs.lemmas.Bool.{cases_Bool, and_parts, leb-true}
 use Rattle.assign_core.specs.declared.numbers.TheConstants.{MOST_PERSONS}
 use Rattle.assign_core.specs.Rows.{Listing}
@@ -8,7 +10,9 @@ use Rattle.orlib_reader.proofs.Streams.{after_err, fails_along}
 use Rattle.orlib_reader.proofs.Numbers.{IsRead, IsBounded, read_begun, read_on, judged_same}
 use Rattle.orlib_reader.specs.Tokens.{Token, Piece, beyond, grown, closed, left_open, cut, is_space}
 use Rattle.orlib_reader.specs.Numbers.{is_digit, judged, judged_number, is_among}
-use Rattle.orlib_reader.specs.Texts.{wanted_in, ended, and_then, judged_open, numbers_from, numbers_in, dense_problem, dense_reading, sparse_list, sparse_reading, Answers, SparseAnswers, Meets}
+use Rattle.orlib_reader.specs.Texts.{wanted_in, ended, and_then, judged_open, numbers_from, numbers_in}
+use Rattle.orlib_reader.specs.Texts.{dense_problem, dense_reading, sparse_list, sparse_reading, Answers}
+use Rattle.orlib_reader.specs.Texts.{SparseAnswers, Meets}
 use Rattle.orlib_reader.specs.inside.Steps.{State, begun, continued, begun_where, in_token, with_token, token_number, after, start, finished}
 use Rattle.orlib_reader.specs.declared.fault.InputFault.{InputFault}
 use Rattle.orlib_reader.specs.declared.fault.InputFault.TheVariants as faults
@@ -71,7 +75,8 @@ size_small place (Some k) v h = elim (cases_Bool (is_among MOST_PERSONS k)) [
   | inr t ↦ absurd (let e : Err faults.Size ≡ Ok v = simp t at h in cc)
 ]
 
-sized_more : (layout : Layout) (found : List ℤ) (place : ℕ) (o : Option ℤ) (v : ℤ) → IsSized found → judged_number (wanted_in layout found) place o ≡ Ok v → IsSized (found ++ v ∷ [])
+sized_more : (layout : Layout) (found : List ℤ) (place : ℕ) (o : Option ℤ) (v : ℤ) → IsSized found →
+    judged_number (wanted_in layout found) place o ≡ Ok v → IsSized (found ++ v ∷ [])
 sized_more layout [] place o v h e = size_small place o v (rw (size_is layout) at e)
 sized_more layout (n ∷ others) place o v h e = h
 
@@ -87,7 +92,8 @@ abbrev token_gives : Layout → List ℤ → Option Token → Result (List ℤ) 
 token_gives layout found None = Ok found
 token_gives layout found (Some t) = and_then (judged (wanted_in layout found) t) (λ v. Ok (found ++ v ∷ []))
 
-with_is : (layout : Layout) (found : List ℤ) (b : Option Token) (o : Option OpenToken) → IsSized found → IsBegun layout found b o → with_token layout o found ≡ token_gives layout found b
+with_is : (layout : Layout) (found : List ℤ) (b : Option Token) (o : Option OpenToken) → IsSized found →
+    IsBegun layout found b o → with_token layout o found ≡ token_gives layout found b
 with_is layout found None None z h = refl
 with_is layout found None (Some p) z h = absurd h
 with_is layout found (Some t) None z h = absurd h
@@ -98,12 +104,15 @@ with_is layout found (Some t) (Some p) z h =
 
 sized_with : (layout : Layout) (found : List ℤ) (o : Option OpenToken) (new : List ℤ) → IsSized found → with_token layout o found ≡ Ok new → IsSized new
 sized_with layout found None new z e = let same : found ≡ new = cc in rw (sym same) z
-sized_with layout found (Some p) new z e = elim (judged_number (wanted_in layout found) p.place (token_number p)) as (λ r. judged_number (wanted_in layout found) p.place (token_number p) ≡ r → and_then r (λ v. Ok (found ++ v ∷ [])) ≡ Ok new → IsSized new) [
-  | Ok v ↦ λ is h. let same : found ++ v ∷ [] ≡ new = cc in rw (sym same) (sized_more layout found p.place (token_number p) v z is)
-  | Err f ↦ λ is h. absurd cc
-] refl e
+sized_with layout found (Some p) new z e = elim (judged_number (wanted_in layout found) p.place (token_number p)) as
+    (λ r. judged_number (wanted_in layout found) p.place (token_number p) ≡ r →
+    and_then r (λ v. Ok (found ++ v ∷ [])) ≡ Ok new → IsSized new) [
+      | Ok v ↦ λ is h. let same : found ++ v ∷ [] ≡ new = cc in rw (sym same) (sized_more layout found p.place (token_number p) v z is)
+      | Err f ↦ λ is h. absurd cc
+    ] refl e
 
-assoc : {X Y Z : Type 0} (r : Result X InputFault) (g : X → Y) (k : Y → Result Z InputFault) → and_then (and_then r (λ x. Ok (g x))) k ≡ and_then r (λ x. k (g x))
+assoc : {X Y Z : Type 0} (r : Result X InputFault) (g : X → Y) (k : Y → Result Z InputFault) →
+    and_then (and_then r (λ x. Ok (g x))) k ≡ and_then r (λ x. k (g x))
 assoc (Ok x) g k = refl
 assoc (Err e) g k = refl
 
@@ -130,7 +139,8 @@ extra_stays layout found at t (b ∷ bytes) h = elim (cases_Bool (nat_le TEXT_LI
   ]
 ]
 
-beyond_is : (layout : Layout) (found : List ℤ) (b : Option Token) (o : Option OpenToken) → IsBegun layout found b o → numbers_from layout found (left_open b ++ beyond ∷ []) ≡ Err faults.TooLong
+beyond_is : (layout : Layout) (found : List ℤ) (b : Option Token) (o : Option OpenToken) →
+    IsBegun layout found b o → numbers_from layout found (left_open b ++ beyond ∷ []) ≡ Err faults.TooLong
 beyond_is layout found None None h = refl
 beyond_is layout found None (Some p) h = refl
 beyond_is layout found (Some t) None h = absurd h
@@ -151,7 +161,8 @@ place_first at x = elim (cases_Bool (is_digit x)) [ inl d ↦ simp d refl | inr 
 -- white space
 space_is : (bytes : List ℕ) (s : State) (b : Option Token) → IsSized s.found → IsBegun s.layout s.found b s.token →
     ((new : List ℤ) → IsSized new → finished (after (Ok (passed s new)) bytes) ≡ numbers_from s.layout new (cut (s.at + 1) None bytes)) →
-    finished (after (and_then (with_token s.layout s.token s.found) (λ new. Ok (passed s new))) bytes) ≡ numbers_from s.layout s.found (closed b ++ cut (s.at + 1) None bytes)
+    finished (after (and_then (with_token s.layout s.token s.found) (λ new. Ok (passed s new))) bytes)
+    ≡ numbers_from s.layout s.found (closed b ++ cut (s.at + 1) None bytes)
 space_is bytes s b z h then =
     let given = with_is s.layout s.found b s.token z h in
     let other = closed_is s.layout s.found b (cut (s.at + 1) None bytes) in
@@ -165,8 +176,10 @@ space_is bytes s b z h then =
 
 -- a byte other than white space, with no token open
 first_is : (x : ℕ) (bytes : List ℕ) (s : State) →
-    (IsOpen (wanted_in s.layout s.found) → finished (after (Ok (held s (begun s.at x))) bytes) ≡ numbers_from s.layout s.found (cut (s.at + 1) (Some (grown s.at None x)) bytes)) →
-    finished (after (and_then (begun_where (wanted_in s.layout s.found) s.at x) (λ p. Ok (held s p))) bytes) ≡ numbers_from s.layout s.found (cut (s.at + 1) (Some (grown s.at None x)) bytes)
+    (IsOpen (wanted_in s.layout s.found) → finished (after (Ok (held s (begun s.at x))) bytes)
+    ≡ numbers_from s.layout s.found (cut (s.at + 1) (Some (grown s.at None x)) bytes)) →
+    finished (after (and_then (begun_where (wanted_in s.layout s.found) s.at x) (λ p. Ok (held s p))) bytes)
+    ≡ numbers_from s.layout s.found (cut (s.at + 1) (Some (grown s.at None x)) bytes)
 first_is x bytes s then = elim (nothing_or (wanted_in s.layout s.found)) [
   | inl none ↦ simp none (ap finished (after_err (faults.Extra s.at) bytes)) ∙ sym (extra_stays s.layout s.found (s.at + 1) (grown s.at None x) bytes none)
   | inr some ↦ ap (λ r. finished (after (and_then r (λ p. Ok (held s p))) bytes)) (begun_is (wanted_in s.layout s.found) s.at x some) ∙ then some
@@ -174,10 +187,12 @@ first_is x bytes s then = elim (nothing_or (wanted_in s.layout s.found)) [
 
 -- a byte other than white space
 token_is : (x : ℕ) (bytes : List ℕ) (s : State) (o : Option OpenToken) (b : Option Token) → IsBegun s.layout s.found b o →
-    (IsOpen (wanted_in s.layout s.found) → finished (after (Ok (held s (begun s.at x))) bytes) ≡ numbers_from s.layout s.found (cut (s.at + 1) (Some (grown s.at None x)) bytes)) →
+    (IsOpen (wanted_in s.layout s.found) → finished (after (Ok (held s (begun s.at x))) bytes)
+    ≡ numbers_from s.layout s.found (cut (s.at + 1) (Some (grown s.at None x)) bytes)) →
     ((t : Token) (p : OpenToken) → IsBegun s.layout s.found (Some (grown s.at (Some t) x)) (Some (continued p x)) →
     finished (after (Ok (held s (continued p x))) bytes) ≡ numbers_from s.layout s.found (cut (s.at + 1) (Some (grown s.at (Some t) x)) bytes)) →
-    finished (after (and_then (in_token s.layout s.at o s.found x) (λ p. Ok (held s p))) bytes) ≡ numbers_from s.layout s.found (cut (s.at + 1) (Some (grown s.at b x)) bytes)
+    finished (after (and_then (in_token s.layout s.at o s.found x) (λ p. Ok (held s p))) bytes)
+    ≡ numbers_from s.layout s.found (cut (s.at + 1) (Some (grown s.at b x)) bytes)
 token_is x bytes s None None h first next = first_is x bytes s first
 token_is x bytes s (Some p) None h first next = absurd h
 token_is x bytes s None (Some t) h first next = absurd h
@@ -204,20 +219,24 @@ weaker : (o : Option (List ℕ)) (P Q : List ℕ → Type 0) → IfSome o P → 
 weaker None P Q h f = search rules
 weaker (Some x) P Q h f = f x h
 
-dense_meets : (result : Result (List Listing) InputFault) (numbers : Result (List ℤ) InputFault) → Meets layouts.Dense result numbers → Answers result (and_then numbers (λ ns. Ok (dense_problem ns)))
+dense_meets : (result : Result (List Listing) InputFault) (numbers : Result (List ℤ) InputFault) →
+    Meets layouts.Dense result numbers → Answers result (and_then numbers (λ ns. Ok (dense_problem ns)))
 dense_meets (Ok rows) (Ok numbers) h = ap Ok h
 dense_meets (Ok rows) (Err e) h = absurd h
 dense_meets (Err e) numbers h = fails_along (λ r. and_then r (λ ns. Ok (dense_problem ns))) (λ _. refl) e numbers h
 
-pub by_tokens : (o : Option (List ℕ)) (result : Result (List Listing) InputFault) → IfSome o (λ bytes. Meets layouts.Dense result (finished (after (Ok (start layouts.Dense)) bytes))) →
+pub by_tokens : (o : Option (List ℕ)) (result : Result (List Listing) InputFault) →
+    IfSome o (λ bytes. Meets layouts.Dense result (finished (after (Ok (start layouts.Dense)) bytes))) →
     IfSome o (λ bytes. Answers result (dense_reading bytes))
 by_tokens o result h = weaker o _ _ h (λ bytes g. dense_meets result (numbers_in layouts.Dense bytes) (rw (sym (reads_whole layouts.Dense bytes)) g))
 
-sparse_meets : (result : Result (List Listing) InputFault) (numbers : Result (List ℤ) InputFault) → Meets layouts.Sparse result numbers → SparseAnswers result (and_then numbers (λ ns. Ok (sparse_list ns)))
+sparse_meets : (result : Result (List Listing) InputFault) (numbers : Result (List ℤ) InputFault) →
+    Meets layouts.Sparse result numbers → SparseAnswers result (and_then numbers (λ ns. Ok (sparse_list ns)))
 sparse_meets (Ok rows) (Ok numbers) h = h
 sparse_meets (Ok rows) (Err e) h = absurd h
 sparse_meets (Err e) numbers h = fails_along (λ r. and_then r (λ ns. Ok (sparse_list ns))) (λ _. refl) e numbers h
 
-pub by_triples : (o : Option (List ℕ)) (result : Result (List Listing) InputFault) → IfSome o (λ bytes. Meets layouts.Sparse result (finished (after (Ok (start layouts.Sparse)) bytes))) →
+pub by_triples : (o : Option (List ℕ)) (result : Result (List Listing) InputFault) →
+    IfSome o (λ bytes. Meets layouts.Sparse result (finished (after (Ok (start layouts.Sparse)) bytes))) →
     IfSome o (λ bytes. SparseAnswers result (sparse_reading bytes))
 by_triples o result h = weaker o _ _ h (λ bytes g. sparse_meets result (numbers_in layouts.Sparse bytes) (rw (sym (reads_whole layouts.Sparse bytes)) g))

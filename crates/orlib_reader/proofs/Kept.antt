@@ -1,5 +1,7 @@
 -- Rows that are filled as costs come.
-use Rattle.std.proofs.Common.{◌≡◌, ℕ, ℤ, suc, ◌<◌, ◌≤◌, ◌+◌, ◌*◌, List, [], ◌∷◌, ◌++◌, length, take, drop, map, flat_map, refl, arith, sym, ◌∙◌, ap, append_assoc, append-nil, length-append, nat_lt, nat_le, nat_eq, cond, inl, inr, subst, Ok, Err, ◌-◌}
+use Rattle.std.proofs.Common.{◌≡◌, ℕ, ℤ, suc, ◌<◌, ◌≤◌, ◌+◌, ◌*◌, List, [], ◌∷◌, ◌++◌, length, take, drop, map}
+use Rattle.std.proofs.Common.{flat_map, refl, arith, sym, ◌∙◌, ap, append_assoc, append-nil, length-append, nat_lt}
+use Rattle.std.proofs.Common.{nat_le, nat_eq, cond, inl, inr, subst, Ok, Err, ◌-◌}
 use Rattle.std.specs.List.{All}
 use Rattle.std.proofs.Math.Seq.{take-append_seam, drop-append_seam}
 use Rattle.std.proofs.lemmas.List.{map-append, length-map}
@@ -28,14 +30,17 @@ no_gap_push row c h =
     ∙ ap (λ k. row ++ (k, c) ∷ []) same)
 
 pub costs_pushed : (rows : List Listing) (row : Listing) (j : ℕ) (c : ℤ) → kept_costs rows (row ++ (j, c) ∷ []) ≡ kept_costs rows row ++ c ∷ []
-costs_pushed rows row j c = ap (λ cs. flat_map costs_of rows ++ cs) (costs_of-push row j c) ∙ sym (append_assoc (flat_map costs_of rows) (costs_of row) (c ∷ []))
+costs_pushed rows row j c = ap (λ cs. flat_map costs_of rows ++ cs) (costs_of-push row j c) ∙
+    sym (append_assoc (flat_map costs_of rows) (costs_of row) (c ∷ []))
 
 pub costs_moved : (rows : List Listing) (row : Listing) → kept_costs (rows ++ row ∷ []) [] ≡ kept_costs rows row
 costs_moved rows row =
-    append-nil (flat_map costs_of (rows ++ row ∷ [])) ∙ flat_map-append costs_of rows (row ∷ []) ∙ ap (λ cs. flat_map costs_of rows ++ cs) (append-nil (costs_of row))
+    append-nil (flat_map costs_of (rows ++ row ∷ [])) ∙ flat_map-append costs_of rows (row ∷ []) ∙
+    ap (λ cs. flat_map costs_of rows ++ cs) (append-nil (costs_of row))
 
 -- one more cost
-pub kept_more : (n : ℕ) (rows : List Listing) (row : Listing) (c : ℤ) → IsKept n rows row → length rows < n → IsCost c → length row + 1 < n → IsKept n rows (row ++ (length row + 1, c) ∷ [])
+pub kept_more : (n : ℕ) (rows : List Listing) (row : Listing) (c : ℤ) → IsKept n rows row → length rows < n →
+    IsCost c → length row + 1 < n → IsKept n rows (row ++ (length row + 1, c) ∷ [])
 kept_more n rows row c h room cost lt = record {
   size = h.size;
   few = h.few;
@@ -47,7 +52,8 @@ kept_more n rows row c h room cost lt = record {
 }
 
 -- the last cost of a row
-pub kept_full : (n : ℕ) (rows : List Listing) (row : Listing) (c : ℤ) → IsKept n rows row → length rows < n → IsCost c → length row + 1 ≡ n → IsKept n (rows ++ (row ++ (length row + 1, c) ∷ []) ∷ []) []
+pub kept_full : (n : ℕ) (rows : List Listing) (row : Listing) (c : ℤ) → IsKept n rows row → length rows < n →
+    IsCost c → length row + 1 ≡ n → IsKept n (rows ++ (row ++ (length row + 1, c) ∷ []) ∷ []) []
 kept_full n rows row c h room cost e =
     let whole : Listing = row ++ (length row + 1, c) ∷ [] in
     record {
@@ -104,7 +110,8 @@ rows_are_cut n (r ∷ rows) h =
     rw (front, back, ← full.no_gap) (ap (λ rs. r ∷ rs) (rows_are_cut n rows (All-tail (IsFull n) r rows h)))
 
 -- the same for rows as they are kept
-pub kept_moved : {V : Type 0} (f : V → Listing) (n : ℕ) (vs : List V) (v : V) (row : Listing) (k : ℕ) (c : ℤ) → IsKept n (map f vs) row → length vs < n → IsCost c → k ≡ length row →
+pub kept_moved : {V : Type 0} (f : V → Listing) (n : ℕ) (vs : List V) (v : V) (row : Listing) (k : ℕ) (c : ℤ) →
+    IsKept n (map f vs) row → length vs < n → IsCost c → k ≡ length row →
     f v ≡ row ++ (k + 1, c) ∷ [] → length (f v) ≡ n → IsKept n (map f (vs ++ v ∷ [])) []
 kept_moved f n vs v row k c h room cost at e whole =
     let same : length (map f vs) ≡ length vs = length-map vs f in
@@ -129,13 +136,15 @@ room_left n m k lt short = let e : n ≡ (n - (m + 1)) + (m + 1) = omega arith i
 pub dense_count : (n : ℕ) (rows : List Listing) (row : Listing) → IsKept n rows row → length (kept_numbers n rows row) ≡ 1 + length rows * n + length row
 dense_count n rows row h = let long = kept_length n rows row h in omega arith
 
-pub dense_wants_cost : (n : ℕ) (rows : List Listing) (row : Listing) → IsKept n rows row → length rows < n → wanted_in Dense (kept_numbers n rows row) ≡ wanted.Cost
+pub dense_wants_cost : (n : ℕ) (rows : List Listing) (row : Listing) → IsKept n rows row → length rows < n →
+    wanted_in Dense (kept_numbers n rows row) ≡ wanted.Cost
 dense_wants_cost n rows row h lt =
     let long = kept_length n rows row h in
     let room = room_left n (length rows) (length row) lt h.short in
     cond-true (nat_lt (length (kept_costs rows row)) (n * n)) wanted.Cost wanted.Nothing (lt-ltb _ _ (omega arith))
 
-pub dense_wants_nothing : (n : ℕ) (rows : List Listing) (row : Listing) → IsKept n rows row → n ≤ length rows → wanted_in Dense (kept_numbers n rows row) ≡ wanted.Nothing
+pub dense_wants_nothing : (n : ℕ) (rows : List Listing) (row : Listing) → IsKept n rows row → n ≤ length rows →
+    wanted_in Dense (kept_numbers n rows row) ≡ wanted.Nothing
 dense_wants_nothing n rows row h le =
     let long = kept_length n rows row h in
     let few = h.few in
@@ -144,14 +153,17 @@ dense_wants_nothing n rows row h le =
     cond-false (nat_lt (length (kept_costs rows row)) (n * n)) wanted.Cost wanted.Nothing (le-ltb _ _ (omega arith))
 
 -- what is expected, by the test for full rows
-pub dense_wants : (n : ℕ) (rows : List Listing) (row : Listing) (numbers : List ℤ) → IsKept n rows row → kept_numbers n rows row ≡ numbers → wanted_in Dense numbers ≡ cond (nat_le n (length rows)) wanted.Nothing wanted.Cost
+pub dense_wants : (n : ℕ) (rows : List Listing) (row : Listing) (numbers : List ℤ) → IsKept n rows row →
+    kept_numbers n rows row ≡ numbers → wanted_in Dense numbers ≡ cond (nat_le n (length rows))
+    wanted.Nothing wanted.Cost
 dense_wants n rows row numbers h shown = ap (wanted_in Dense) (sym shown) ∙ elim (cases_Bool (nat_le n (length rows))) [
   | inl full ↦ dense_wants_nothing n rows row h (leb-true _ _ full) ∙ sym (cond-true (nat_le n (length rows)) wanted.Nothing wanted.Cost full)
   | inr open_yet ↦ dense_wants_cost n rows row h (leb-false _ _ open_yet) ∙ sym (cond-false (nat_le n (length rows)) wanted.Nothing wanted.Cost open_yet)
 ]
 
 -- where a cost is expected, a row is missing
-pub dense_room : (n : ℕ) (rows : List Listing) (row : Listing) (numbers : List ℤ) → IsKept n rows row → kept_numbers n rows row ≡ numbers → wanted_in Dense numbers ≡ wanted.Cost → length rows < n
+pub dense_room : (n : ℕ) (rows : List Listing) (row : Listing) (numbers : List ℤ) → IsKept n rows row →
+    kept_numbers n rows row ≡ numbers → wanted_in Dense numbers ≡ wanted.Cost → length rows < n
 dense_room n rows row numbers h shown w = elim (cases_Bool (nat_lt (length rows) n)) [
   | inl lt ↦ ltb-true _ _ lt
   | inr le ↦ absurd (let no : wanted.Nothing ≡ wanted.Cost = sym (dense_wants_nothing n rows row h (ltb-false _ _ le)) ∙ ap (wanted_in Dense) shown ∙ w in cc)
@@ -175,20 +187,23 @@ dense_whole n rows row h le =
     let flat : flat_map costs_of rows ≡ kept_costs rows row = sym (ap (kept_costs rows) none ∙ append-nil (flat_map costs_of rows)) in
     let last = ap length none in
     let whole : length (kept_costs rows row) ≡ n * n = omega arith in
-    let cut : dense_rows n (kept_costs rows row) ≡ rows = sym (ap (λ m. rows_cut n m (kept_costs rows row)) all ∙ refl) ∙ sym (ap (rows_cut n (length rows)) flat) ∙ rows_are_cut n rows h.full in (
+    let cut : dense_rows n (kept_costs rows row) ≡ rows = sym (ap (λ m. rows_cut n m (kept_costs rows row)) all ∙
+    refl) ∙ sym (ap (rows_cut n (length rows)) flat) ∙ rows_are_cut n rows h.full in (
       cond-true (nat_eq (length (kept_costs rows row)) (n * n)) _ _ (eq-eqb _ _ whole),
       cut,
       subst IsProblem cut (IsProblem-dense n (kept_costs rows row) h.size whole h.costs),
     )
 
 -- the fault at the end of a text that lacks costs
-pub dense_short : (n : ℕ) (rows : List Listing) (row : Listing) (numbers : List ℤ) (count : ℕ) → IsKept n rows row → length rows < n → kept_numbers n rows row ≡ numbers → count ≡ length numbers →
+pub dense_short : (n : ℕ) (rows : List Listing) (row : Listing) (numbers : List ℤ) (count : ℕ) → IsKept n rows row →
+    length rows < n → kept_numbers n rows row ≡ numbers → count ≡ length numbers →
     ended Dense numbers ≡ Err (faults.Truncated count)
 dense_short n rows row numbers count h lt v k =
     ap (ended Dense) (sym v) ∙ dense_truncated n rows row h lt ∙ ap (λ m. Err (faults.Truncated m)) (ap length v ∙ sym k)
 
 -- the problem at the end of a text that has all costs
-pub dense_done : (n : ℕ) (rows : List Listing) (row : Listing) (numbers : List ℤ) (new : List Listing) → IsKept n rows row → n ≤ length rows → kept_numbers n rows row ≡ numbers →
+pub dense_done : (n : ℕ) (rows : List Listing) (row : Listing) (numbers : List ℤ) (new : List Listing) →
+    IsKept n rows row → n ≤ length rows → kept_numbers n rows row ≡ numbers →
     new ≡ rows → Meets Dense (Ok new) (ended Dense numbers)
 dense_done n rows row numbers new h le v e =
     let all = dense_whole n rows row h le in

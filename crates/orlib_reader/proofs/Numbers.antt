@@ -1,9 +1,12 @@
 -- A token that is read byte by byte is the number of its bytes.
-use Rattle.std.proofs.Common.{◌≡◌, ℕ, zero, suc, ◌+◌, ◌-◌, ◌*◌, ◌≤◌, ◌<◌, List, [], ◌∷◌, ◌++◌, Option, Some, None, Bool, true, false, cond, refl, inl, inr, arith, length, length-append, sym, ap, ◌∙◌, nat_abs, nat_le, nat_eq, option_map}
+use Rattle.std.proofs.Common.{◌≡◌, ℕ, zero, suc, ◌+◌, ◌-◌, ◌*◌, ◌≤◌, ◌<◌, List, [], ◌∷◌, ◌++◌, Option, Some, None}
+use Rattle.std.proofs.Common.{Bool, true, false, cond, refl, inl, inr, arith, length, length-append, sym, ap, ◌∙◌}
+use Rattle.std.proofs.Common.{nat_abs, nat_le, nat_eq, option_map}
 use Rattle.std.proofs.lemmas.Bool.{cases_Bool, cond-true, cond-false, lt-leb, le-ltb, leb-true, leb-false, ne_eqb, and_right, and_parts, or_from}
 use Rattle.assign_core.specs.declared.numbers.TheConstants.{MOST_PERSONS, GREATEST_COST}
 use Rattle.orlib_reader.specs.declared.token.TheConstants.{VALUE_LIMIT}
-use Rattle.orlib_reader.specs.Numbers.{is_digit, is_sign, is_negative, unsigned, digits_from, digits_value, signed, number_of, is_among, is_cost, in_range, judged_number}
+use Rattle.orlib_reader.specs.Numbers.{is_digit, is_sign, is_negative, unsigned, digits_from, digits_value, signed}
+use Rattle.orlib_reader.specs.Numbers.{number_of, is_among, is_cost, in_range, judged_number}
 use Rattle.orlib_reader.specs.inside.Steps.{saturated, begun, continued, token_number}
 use Rattle.orlib_reader.specs.Wanted.{Wanted}
 use Rattle.orlib_reader.specs.Wanted as wanted
@@ -97,7 +100,8 @@ read_on bytes p b h = elim (cases_Bool (is_digit b)) [
   | inr d ↦ simp d record {
     begun = rw length-append (omega arith);
     negative = h.negative ∙ sym (negative_more bytes b h.begun);
-    value = ap (λ bs. option_map saturated (digits_from 0 bs)) (unsigned_more bytes b h.begun) ∙ ap (option_map saturated) (digits_more 0 (unsigned bytes) b ∙ bad_next (digits_from 0 (unsigned bytes)) b d);
+    value = ap (λ bs. option_map saturated (digits_from 0 bs)) (unsigned_more bytes b h.begun) ∙
+        ap (option_map saturated) (digits_more 0 (unsigned bytes) b ∙ bad_next (digits_from 0 (unsigned bytes)) b d);
     digits = λ e. absurd cc;
   }
 ]
@@ -117,14 +121,19 @@ cost_great true zero h = absurd (omega arith)
 cost_great true (suc v) h = le-ltb v (nat_abs GREATEST_COST) (omega arith)
 cost_great false v h = lt-leb v (nat_abs GREATEST_COST) (omega arith)
 
-range_great : (w : Wanted) (place : ℕ) (negative : Bool) (v : ℕ) → IsBounded w → VALUE_LIMIT ≤ v → in_range w place (signed negative v) ≡ in_range w place (signed negative (VALUE_LIMIT))
-range_great wanted.Size place negative v bound h = simp (among_great MOST_PERSONS negative v (omega arith) h, among_great MOST_PERSONS negative (VALUE_LIMIT) (omega arith) (omega arith)) refl
+range_great : (w : Wanted) (place : ℕ) (negative : Bool) (v : ℕ) → IsBounded w → VALUE_LIMIT ≤ v →
+    in_range w place (signed negative v) ≡ in_range w place (signed negative (VALUE_LIMIT))
+range_great wanted.Size place negative v bound h = simp (
+  among_great MOST_PERSONS negative v (omega arith) h,
+  among_great MOST_PERSONS negative (VALUE_LIMIT) (omega arith) (omega arith),
+) refl
 range_great wanted.Cost place negative v bound h = simp (cost_great negative v h, cost_great negative (VALUE_LIMIT) (omega arith)) refl
 range_great (wanted.Index n) place negative v bound h = simp (among_great n negative v bound h, among_great n negative (VALUE_LIMIT) bound (omega arith)) refl
 range_great wanted.Nothing place negative v bound h = refl
 
 -- a saturated value is out of range if the value is
-range_saturated : (w : Wanted) (place : ℕ) (negative : Bool) (v : ℕ) → IsBounded w → in_range w place (signed negative (saturated v)) ≡ in_range w place (signed negative v)
+range_saturated : (w : Wanted) (place : ℕ) (negative : Bool) (v : ℕ) → IsBounded w →
+    in_range w place (signed negative (saturated v)) ≡ in_range w place (signed negative v)
 range_saturated w place negative v bound = elim (cases_Bool (nat_le (VALUE_LIMIT) v)) [
   | inl g ↦ let great : VALUE_LIMIT ≤ v = leb-true (VALUE_LIMIT) v g in
       ap (λ k. in_range w place (signed negative k)) (saturated_great v great) ∙ sym (range_great w place negative v bound great)
@@ -152,7 +161,8 @@ some_value None k h = absurd cc
 some_value (Some v) k h = (v, refl, cc)
 
 -- the kept state of a token is judged like the token
-pub judged_same : (w : Wanted) (place : ℕ) (bytes : List ℕ) (p : OpenToken) → IsBounded w → IsRead bytes p → judged_number w place (token_number p) ≡ judged_number w place (number_of bytes)
+pub judged_same : (w : Wanted) (place : ℕ) (bytes : List ℕ) (p : OpenToken) → IsBounded w → IsRead bytes p →
+    judged_number w place (token_number p) ≡ judged_number w place (number_of bytes)
 judged_same w place bytes p bound h = elim (cases_Bool p.is_bad) [
   | inl t ↦
       let none = value_none (unsigned bytes) (no_value (digits_from 0 (unsigned bytes)) (h.value ∙ cond-true p.is_bad None (Some p.value) t)) in

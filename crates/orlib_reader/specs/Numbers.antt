@@ -1,5 +1,7 @@
 -- The number of a token, and the numbers that may stand at a place.
-use Rattle.std.specs.Prelude.{◌≡◌, ℕ, ◌+◌, ◌-◌, ◌*◌, ℤ, pos, negsuc, neg_ℤ, List, [], ◌∷◌, Option, None, Some, Result, Ok, Err, nat_lt, nat_le, nat_abs, ◌==◌, ◌&&◌, ◌||◌, if◌then◌else◌, Bool, false, option_map}
+use Rattle.std.specs.Prelude.{◌≡◌, ℕ, ◌+◌, ◌-◌, ◌*◌, ℤ, pos, negsuc, neg_ℤ, List, [], ◌∷◌, Option, None, Some}
+use Rattle.std.specs.Prelude.{Result, Ok, Err, nat_lt, nat_le, nat_abs, ◌==◌, ◌&&◌, ◌||◌, if◌then◌else◌, Bool}
+use Rattle.std.specs.Prelude.{false, option_map}
 use Rattle.assign_core.specs.declared.numbers.TheConstants.{MOST_PERSONS, GREATEST_COST}
 use Rattle.orlib_reader.specs.Tokens.{Token}
 use Rattle.orlib_reader.specs.declared.fault.InputFault.{InputFault}

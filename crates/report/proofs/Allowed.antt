@@ -1,12 +1,14 @@
 -- What is written is a report that can be read.
-use Rattle.std.proofs.Common.{◌≡◌, ℕ, ℤ, pos, negsuc, neg_ℤ, nat_abs, ◌+ℤ◌, ◌≤ℤ◌, suc, zero, ◌<◌, ◌≤◌, ◌+◌, ◌*◌, List, [], ◌∷◌, Bool, true, false, Some, IsSome, length, get_or, refl, ap, subst, arith, rules}
+use Rattle.std.proofs.Common.{◌≡◌, ℕ, ℤ, pos, negsuc, neg_ℤ, nat_abs, ◌+ℤ◌, ◌≤ℤ◌, suc, zero, ◌<◌, ◌≤◌, ◌+◌, ◌*◌}
+use Rattle.std.proofs.Common.{List, [], ◌∷◌, Bool, true, false, Some, IsSome, length, get_or, refl, ap, subst}
+use Rattle.std.proofs.Common.{arith, rules}
 use Rattle.std.specs.Prelude.{All, Contains}
 use Rattle.std.specs.List.{AllByRecursion}
 use Rattle.std.specs.List.Sorted.{IsStrictlyIncreasing}
 use Rattle.std.proofs.lemmas.Int.{ints}
 use Rattle.std.proofs.lemmas.List.Elements.{All-head, All-tail, recursion_from_All}
 use Rattle.std.proofs.lemmas.Bool.{lt-ltb, le-leb}
-use Rattle.report.proofs.LineLemmas.{rising_more}
+use Rattle.report.proofs.LineWords.{rising_more}
 use Rattle.assign_core.specs.declared.numbers.TheConstants.{MOST_PERSONS, GREATEST_COST}
 use Rattle.assign_core.specs.declared.sense.Sense.{Sense}
 use Rattle.assign_core.specs.declared.outcome.Outcome.{Outcome}
@@ -32,7 +34,8 @@ abs_between (negsuc n) k l h = omega (arith, ints, l)
 cost_here : (n : ℕ) (row : Listing) (j : ℕ) → IsRow n row → IsSome (listed_in row j) → rows.IsCost (listed_or_zero row j)
 cost_here n row j r s = all_listed (λ e. rows.IsCost e.1) row j r.costs s
 
-entries_allowed : (n : ℕ) (s : Sense) (rows : List Listing) (xs : List ℕ) → n ≤ MOST_PERSONS → All (IsRow n) rows → AreListed rows xs → AllByRecursion (λ e. is_entry (Some s) e ≡ true) (pairs_of rows xs)
+entries_allowed : (n : ℕ) (s : Sense) (rows : List Listing) (xs : List ℕ) → n ≤ MOST_PERSONS → All (IsRow n) rows →
+    AreListed rows xs → AllByRecursion (λ e. is_entry (Some s) e ≡ true) (pairs_of rows xs)
 entries_allowed n s [] xs l a h = tt
 entries_allowed n s (row ∷ rows) [] l a h = tt
 entries_allowed n s (row ∷ rows) (j ∷ xs) l a h =
@@ -54,14 +57,18 @@ IsBetween k c = (neg_ℤ (pos k) ≤ℤ c) × (c ≤ℤ pos k)
 sum_between : (a b : ℤ) (m k n : ℕ) → IsBetween m a → IsBetween k b → n ≡ m + k → IsBetween n (a +ℤ b)
 sum_between a b m k n f g e = (omega (arith, ints, f, g, e), omega (arith, ints, f, g, e))
 
-total_between : (n : ℕ) (rows : List Listing) (xs : List ℕ) → All (IsRow n) rows → AreListed rows xs → IsBetween (length rows * nat_abs GREATEST_COST) (total rows xs)
+total_between : (n : ℕ) (rows : List Listing) (xs : List ℕ) → All (IsRow n) rows → AreListed rows xs →
+    IsBetween (length rows * nat_abs GREATEST_COST) (total rows xs)
 total_between n [] xs a h = (omega (arith, ints), omega (arith, ints))
 total_between n (row ∷ rows) [] a h = absurd h
 total_between n (row ∷ rows) (j ∷ xs) a h =
     let c = cost_here n row j (All-head (IsRow n) row rows a) h.0 in
-    sum_between (listed_or_zero row j) (total rows xs) (nat_abs GREATEST_COST) (length rows * nat_abs GREATEST_COST) (suc (length rows) * nat_abs GREATEST_COST) (c.least, c.greatest) (total_between n rows xs (All-tail (IsRow n) row rows a) h.1) (omega arith)
+    sum_between (listed_or_zero row j) (total rows xs) (nat_abs GREATEST_COST) (length rows * nat_abs GREATEST_COST)
+    (suc (length rows) * nat_abs GREATEST_COST) (c.least, c.greatest)
+    (total_between n rows xs (All-tail (IsRow n) row rows a) h.1) (omega arith)
 
-total_allowed : (n : ℕ) (s : Sense) (rows : List Listing) (xs : List ℕ) → length rows ≤ MOST_PERSONS → All (IsRow n) rows → AreListed rows xs → is_total (Some s) (total rows xs) ≡ true
+total_allowed : (n : ℕ) (s : Sense) (rows : List Listing) (xs : List ℕ) → length rows ≤ MOST_PERSONS →
+    All (IsRow n) rows → AreListed rows xs → is_total (Some s) (total rows xs) ≡ true
 total_allowed n s rows xs l a h =
     let b = total_between n rows xs a h in
     le-leb _ _ (omega (arith, abs_between (total rows xs) (length rows * nat_abs GREATEST_COST) b.0 b.1))
@@ -71,12 +78,14 @@ prices_allowed s [] h = tt
 prices_allowed s (pos p ∷ ps) h = let b = h.0.below in (lt-ltb p (price_end (Some s)) (omega (arith, ints, b)), prices_allowed s ps h.1)
 prices_allowed s (negsuc p ∷ ps) h = let b = h.0.least in absurd (omega (arith, ints, b))
 
-chosen_allowed : (s : Sense) (n : ℕ) (ps : List ℤ) (choice : Bool) → length ps ≡ n → AllByRecursion prices.IsPrice ps → ArePrices (Some s) n (chosen_prices choice ps)
+chosen_allowed : (s : Sense) (n : ℕ) (ps : List ℤ) (choice : Bool) → length ps ≡ n →
+    AllByRecursion prices.IsPrice ps → ArePrices (Some s) n (chosen_prices choice ps)
 chosen_allowed s n ps true e h = (e, prices_allowed s ps h)
 chosen_allowed s n ps false e h = tt
 
 -- the report on an optimal assignment
-pub best_allowed : (rows : List Listing) (s : Sense) (xs : List ℕ) (ps : List ℤ) (choice : Bool) → IsProblem rows → IsAssignment rows xs → length ps ≡ length rows → All prices.IsPrice ps
+pub best_allowed : (rows : List Listing) (s : Sense) (xs : List ℕ) (ps : List ℤ) (choice : Bool) → IsProblem rows →
+    IsAssignment rows xs → length ps ≡ length rows → All prices.IsPrice ps
     → IsBestReport (Some s) (total rows xs) (pairs_of rows xs) (chosen_prices choice ps)
 best_allowed rows s xs ps choice p a e h =
     let zip = length_zip (λ row j. IsSome (listed_in row j)) rows xs a.listed in
@@ -91,13 +100,15 @@ best_allowed rows s xs ps choice p a e h =
 
 -- ---- Hall sets
 
-rising_by_index : (last : ℕ) (xs : List ℕ) → (0 < length xs → last < get_or xs 0 0) → ((k : ℕ) → suc k < length xs → get_or xs k 0 < get_or xs (suc k) 0) → AllByRecursion (λ x. x ≤ MOST_PERSONS) xs → is_rising last xs ≡ true
+rising_by_index : (last : ℕ) (xs : List ℕ) → (0 < length xs → last < get_or xs 0 0) → ((k : ℕ) → suc k < length xs →
+    get_or xs k 0 < get_or xs (suc k) 0) → AllByRecursion (λ x. x ≤ MOST_PERSONS) xs → is_rising last xs ≡ true
 rising_by_index last [] f s h = refl
 rising_by_index last (x ∷ xs) f s h =
     rising_more last x xs (f (omega arith)) h.0 (rising_by_index x xs (λ some. s 0 (omega arith)) (λ k l. s (suc k) (omega arith)) h.1)
 
 pub rises : (xs : List ℕ) → IsStrictlyIncreasing xs → AllByRecursion (IsNumber MOST_PERSONS) xs → is_rising 0 xs ≡ true
-rises xs s h = rising_by_index 0 xs (first xs h) (λ k l. let e : k + 1 ≡ suc k = omega arith in subst (λ n. get_or xs k 0 < get_or xs n 0) e (s k (omega arith))) (below xs h)
+rises xs s h = rising_by_index 0 xs (first xs h) (λ k l. let e : k + 1 ≡ suc k = omega arith in
+    subst (λ n. get_or xs k 0 < get_or xs n 0) e (s k (omega arith))) (below xs h)
   where
     first : (xs : List ℕ) → AllByRecursion (IsNumber MOST_PERSONS) xs → 0 < length xs → 0 < get_or xs 0 0
     first [] h l = absurd (omega arith)
@@ -129,13 +140,15 @@ numbered_range n rows (suc k) j a h = listed_range n rows k j a h
 pub hall_allowed : (rows : List Listing) (persons objects : List ℕ) → IsProblem rows → IsHallSet rows persons objects → IsHallReport persons objects
 hall_allowed rows persons objects p h =
     let n = length rows in
-    let objects_in : AllByRecursion (IsNumber n) objects = each_member (IsNumber n) objects (λ j m. let b = (h.neighbours j).0 m in numbered_range n rows b.0 j p.each b.2) in
+    let objects_in : AllByRecursion (IsNumber n) objects = each_member (IsNumber n) objects (λ j m. let b =
+    (h.neighbours j).0 m in numbered_range n rows b.0 j p.each b.2) in
     record {
       some = omega (arith, h.fewer);
       persons_rise = rises persons h.persons_rise (few_all n persons p.size.few (recursion_from_All (IsNumber n) persons h.within));
       objects_rise = rises objects h.objects_rise (few_all n objects p.size.few objects_in);
     }
 
-pub outcome_allowed : (rows : List Listing) (s : Sense) (outcome : Outcome) (choice : Bool) → IsProblem rows → IsOutcome rows outcome → IsReport (outcome_report rows s outcome choice)
+pub outcome_allowed : (rows : List Listing) (s : Sense) (outcome : Outcome) (choice : Bool) → IsProblem rows →
+    IsOutcome rows outcome → IsReport (outcome_report rows s outcome choice)
 outcome_allowed rows s (Best c) choice p h = best_allowed rows s c.assignment c.prices choice p h.0 h.1 h.2
 outcome_allowed rows s (Hall l) choice p h = hall_allowed rows l.persons l.objects p h

@@ -1,6 +1,7 @@
 pub mod Elements
 pub mod WordLemmas
 pub mod NumeralLemmas
+pub mod LineWords
 pub mod LineLemmas
 pub mod RisingLoop
 pub mod OrderLemmas
@@ -9,6 +10,7 @@ pub mod SaidLemmas
 pub mod Openings
 pub mod StepLemmas
 pub mod TextLengths
+pub mod Answered
 pub mod Judged
 pub mod Written
 pub mod TextParts

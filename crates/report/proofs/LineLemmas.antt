@@ -1,9 +1,10 @@
 -- Lines: what is read was written like this, and what is written is read again.
-use Rattle.std.proofs.Common.{◌≡◌, ℕ, ℤ, pos, negsuc, nat_abs, suc, ◌<◌, ◌≤◌, ◌+◌, ◌^◌, List, [], ◌∷◌, Bool, true, false, cond, eqb, ltb, leb, ◌&&◌, Option, Some, None, length, map, refl, sym, ap, subst, ◌∙◌, arith, decimal, codes}
+use Rattle.std.proofs.Common.{◌≡◌, ℕ, pos, List, [], ◌∷◌, Bool, true}
+use Rattle.std.proofs.Common.{false, cond, eqb, ltb, Option, Some, None, length, map, refl, sym, ap}
+use Rattle.std.proofs.Common.{subst, ◌∙◌, decimal, codes}
 use Rattle.std.specs.Fmt.{signed_decimal}
-use Rattle.std.specs.List.{AllByRecursion}
 use Rattle.std.specs.Str.{bytes_eq}
-use Rattle.std.proofs.lemmas.Bool.{eqb-true, eq-eqb, lt-ltb, ltb-true, le-leb, leb-true, and_parts}
+use Rattle.std.proofs.lemmas.Bool.{eqb-true, ltb-true}
 use Rattle.std.proofs.lemmas.Option.{cond_some}
 use Rattle.std.proofs.lemmas.Slice.Eq.{bytes_eq-Decides}
 use Rattle.assign_core.specs.declared.numbers.TheConstants.{MOST_PERSONS}
@@ -12,98 +13,20 @@ use Rattle.assign_core.specs.declared.sense.Sense.TheVariants.{Min, Max}
 use Rattle.report.specs.Words.{joined}
 use Rattle.report.specs.inside.WordsLeft.{words_of}
 use Rattle.report.specs.Reports.{is_rising}
-use Rattle.report.specs.Lines.{Line, sense_line, cost_line, assign_line, price_line, infeasible_line, persons_line, objects_line, sense_word, line_words, line_text}
+use Rattle.report.specs.Lines.{Line, sense_line, cost_line, assign_line, price_line, infeasible_line, persons_line}
+use Rattle.report.specs.Lines.{objects_line, sense_word, line_words, line_text}
 use Rattle.report.specs.inside.Numerals.{◌>>=◌, cost_in, price_in, number_in}
-use Rattle.report.specs.inside.Reading.{first_by, at_end, sense_in, read_sense, read_cost, read_assign, read_price, read_infeasible, read_rising, read_list, read_behind, read_words, line_in, IsInRange}
-use Rattle.report.specs.Answers.{IsWithinLine}
-use Rattle.report.proofs.WordLemmas.{IsWord, words_again, word_by_test, joined-words_of, within_joined}
-use Rattle.report.proofs.NumeralLemmas.{bind_some, word_decimal, number_again, cost_again, price_again, within_takes, cost_takes, price_takes}
-
--- ---- numbers that rise
-
--- the first of them, and the others
-pub rising_parts : (last x : ℕ) (xs : List ℕ) → is_rising last (x ∷ xs) ≡ true → (last < x) × (x ≤ MOST_PERSONS) × (is_rising x xs ≡ true)
-rising_parts last x xs e =
-    let a = and_parts (ltb last x && leb x MOST_PERSONS) (is_rising x xs) e in
-    let b = and_parts (ltb last x) (leb x MOST_PERSONS) a.0 in
-    (ltb-true last x b.0, leb-true x MOST_PERSONS b.1, a.1)
-
-pub rising_more : (last x : ℕ) (xs : List ℕ) → last < x → x ≤ MOST_PERSONS → is_rising x xs ≡ true → is_rising last (x ∷ xs) ≡ true
-rising_more last x xs l m e = rw (lt-ltb last x l, le-leb x MOST_PERSONS m) e
-
--- ---- the words of a line are words
-
-word_signed : (c : ℤ) → nat_abs c < 10 ^ 64 → IsWord (signed_decimal c)
-word_signed (pos n) h = word_decimal n h
-word_signed (negsuc n) h = (omega arith, word_decimal (suc n) h)
-
-words_rising : (last : ℕ) (xs : List ℕ) → is_rising last xs ≡ true → AllByRecursion IsWord (map decimal xs)
-words_rising last [] h = tt
-words_rising last (x ∷ xs) h = let p = rising_parts last x xs h in (word_decimal x (omega (arith, p.1)), words_rising x xs p.2)
-
-pub rising_short : (last : ℕ) (xs : List ℕ) → last ≤ MOST_PERSONS → is_rising last xs ≡ true → length xs + last ≤ MOST_PERSONS
-rising_short last [] l h = omega arith
-rising_short last (x ∷ xs) l h = let p = rising_parts last x xs h in omega (arith, p.0, rising_short x xs p.1 p.2)
-
-line_words_are : (line : Line) → IsInRange line → AllByRecursion IsWord (line_words line)
-line_words_are (sense_line Min) h = (word_by_test (codes "sense") refl, (word_by_test (codes "min") refl, tt))
-line_words_are (sense_line Max) h = (word_by_test (codes "sense") refl, (word_by_test (codes "max") refl, tt))
-line_words_are (cost_line c) h = (word_by_test (codes "cost") refl, (word_signed c (omega (arith, h)), tt))
-line_words_are (assign_line i j c) h = (word_by_test (codes "assign") refl, (word_decimal i (omega (arith, h.0)), (word_decimal j (omega (arith, h.1)), (word_signed c (omega (arith, h.2)), tt))))
-line_words_are (price_line j (pos p)) h = (word_by_test (codes "price") refl, (word_decimal j (omega (arith, h.0)), (word_decimal p (omega (arith, h.1)), tt)))
-line_words_are (price_line j (negsuc p)) h = absurd h
-line_words_are infeasible_line h = (word_by_test (codes "infeasible") refl, tt)
-line_words_are (persons_line xs) h = (word_by_test (codes "persons") refl, (word_decimal (length xs) (omega (arith, rising_short 0 xs (omega arith) h)), words_rising 0 xs h))
-line_words_are (objects_line xs) h = (word_by_test (codes "objects") refl, (word_decimal (length xs) (omega (arith, rising_short 0 xs (omega arith) h)), words_rising 0 xs h))
-
-line_some : (line : Line) → 0 < length (line_words line)
-line_some (sense_line sense) = omega arith
-line_some (cost_line c) = omega arith
-line_some (assign_line i j c) = omega arith
-line_some (price_line j p) = omega arith
-line_some infeasible_line = omega arith
-line_some (persons_line xs) = omega arith
-line_some (objects_line xs) = omega arith
-
-pub line_within : (line : Line) → IsInRange line → IsWithinLine (line_text line)
-line_within line h = within_joined (line_words line) (line_words_are line h)
-
--- ---- what is written is read
-
-rising_again : (last : ℕ) (xs : List ℕ) → is_rising last xs ≡ true → read_rising last (map decimal xs) ≡ Some xs
-unfolding read_rising
-rising_again last [] h = refl
-rising_again last (x ∷ xs) h =
-    let p = rising_parts last x xs h in
-    let above : ltb last x ≡ true = lt-ltb _ _ p.0 in
-    rw (number_again x p.1, above, rising_again x xs p.2) refl
-
-list_again : (xs : List ℕ) → is_rising 0 xs ≡ true → read_list (decimal (length xs) ∷ map decimal xs) ≡ Some xs
-unfolding read_list
-list_again xs h =
-    let few : length xs ≤ MOST_PERSONS = omega (arith, rising_short 0 xs (omega arith) h) in
-    let same : eqb (length xs) (length xs) ≡ true = eq-eqb _ _ refl in
-    rw (number_again (length xs) few, rising_again 0 xs h, same) refl
-
-read_again : (line : Line) → IsInRange line → read_words (line_words line) ≡ Some line
-unfolding read_sense read_cost read_assign read_price read_infeasible
-read_again (sense_line Min) h = refl
-read_again (sense_line Max) h = refl
-read_again (cost_line c) h = rw (cost_again c h) refl
-read_again (assign_line i j c) h = rw (number_again i h.0, number_again j h.1, cost_again c h.2) refl
-read_again (price_line j (pos p)) h = rw (number_again j h.0, price_again p h.1) refl
-read_again (price_line j (negsuc p)) h = absurd h
-read_again infeasible_line h = refl
-read_again (persons_line xs) h = rw (list_again xs h) refl
-read_again (objects_line xs) h = rw (list_again xs h) refl
-
-pub line_again : (line : Line) → IsInRange line → line_in (line_text line) ≡ Some line
-unfolding line_in
-line_again line h = ap read_words (words_again (line_words line) (line_some line) (line_words_are line h)) ∙ read_again line h
+use Rattle.report.specs.inside.Reading.{first_by, at_end, sense_in, read_sense, read_cost, read_assign, read_price}
+use Rattle.report.specs.inside.Reading.{read_infeasible, read_rising, read_list, read_behind, read_words, line_in}
+use Rattle.report.specs.inside.Reading.{IsInRange}
+use Rattle.report.proofs.WordLemmas.{joined-words_of}
+use Rattle.report.proofs.NumeralLemmas.{bind_some, within_takes, cost_takes, price_takes}
+use Rattle.report.proofs.LineWords.{rising_more}
 
 -- ---- what is read was written so
 
-first_takes : {A : Type 0} (read : List ℕ → Option A) (ws : List (List ℕ)) (x : A × List (List ℕ)) → first_by read ws ≡ Some x → (w : List ℕ) × (ws ≡ w ∷ x.1) × (read w ≡ Some x.0)
+first_takes : {A : Type 0} (read : List ℕ → Option A) (ws : List (List ℕ)) (x : A × List (List ℕ)) →
+    first_by read ws ≡ Some x → (w : List ℕ) × (ws ≡ w ∷ x.1) × (read w ≡ Some x.0)
 first_takes read [] x e = absurd cc
 first_takes {A} read (w ∷ ws) x e =
     let b = bind_some (read w) (λ y. Some (y, ws)) x e in
@@ -123,7 +46,8 @@ one_written word ws r w x e f g = cc
 two_written : (word : List ℕ) (ws r s : List (List ℕ)) (v w x y : List ℕ) → ws ≡ v ∷ r → r ≡ w ∷ s → s ≡ [] → v ≡ x → w ≡ y → word ∷ x ∷ y ∷ [] ≡ word ∷ ws
 two_written word ws r s v w x y e f g h k = cc
 
-three_written : (word : List ℕ) (ws r s t : List (List ℕ)) (u v w x y z : List ℕ) → ws ≡ u ∷ r → r ≡ v ∷ s → s ≡ w ∷ t → t ≡ [] → u ≡ x → v ≡ y → w ≡ z → word ∷ x ∷ y ∷ z ∷ [] ≡ word ∷ ws
+three_written : (word : List ℕ) (ws r s t : List (List ℕ)) (u v w x y z : List ℕ) → ws ≡ u ∷ r → r ≡ v ∷ s →
+    s ≡ w ∷ t → t ≡ [] → u ≡ x → v ≡ y → w ≡ z → word ∷ x ∷ y ∷ z ∷ [] ≡ word ∷ ws
 three_written word ws r s t u v w x y z e f g h i j k = cc
 
 pushed : (w x : List ℕ) (ws xs : List (List ℕ)) → w ≡ x → ws ≡ xs → w ∷ ws ≡ x ∷ xs
@@ -135,7 +59,8 @@ listed ws r w x y xs e f g h = cc
 sense_word_is : (word : List ℕ) (sense : Sense) → sense_in word ≡ Some sense → word ≡ sense_word sense
 sense_word_is word sense e = picked_sense (bytes_eq word (codes "min")) (bytes_eq word (codes "max")) refl refl e
   where
-    picked_sense : (s t : Bool) → bytes_eq word (codes "min") ≡ s → bytes_eq word (codes "max") ≡ t → cond s (Some Min) (cond t (Some Max) None) ≡ Some sense → word ≡ sense_word sense
+    picked_sense : (s t : Bool) → bytes_eq word (codes "min") ≡ s → bytes_eq word (codes "max") ≡ t →
+        cond s (Some Min) (cond t (Some Max) None) ≡ Some sense → word ≡ sense_word sense
     picked_sense true t p q e = let is : Min ≡ sense = cc in (bytes_eq-Decides word (codes "min")).0 p ∙ ap sense_word is
     picked_sense false true p q e = let is : Max ≡ sense = cc in (bytes_eq-Decides word (codes "max")).0 q ∙ ap sense_word is
     picked_sense false false p q e = absurd cc
@@ -162,7 +87,8 @@ cost_line_takes ws line e = one_takes cost_in cost_line (codes "cost") signed_de
 assign_takes : (ws : List (List ℕ)) (line : Line) → read_assign ws ≡ Some line → IsWritten (codes "assign") ws line
 unfolding read_assign
 assign_takes ws line e =
-    let i = bind_some (first_by number_in ws) (λ i. first_by number_in i.1 >>= λ j. first_by cost_in j.1 >>= λ c. at_end (assign_line i.0 j.0 c.0) c.1) line e in
+    let i = bind_some (first_by number_in ws) (λ i. first_by number_in i.1 >>= λ j. first_by cost_in j.1 >>= λ c.
+    at_end (assign_line i.0 j.0 c.0) c.1) line e in
     let j = bind_some (first_by number_in i.0.1) (λ j. first_by cost_in j.1 >>= λ c. at_end (assign_line i.0.0 j.0 c.0) c.1) line i.2 in
     let c = bind_some (first_by cost_in j.0.1) (λ c. at_end (assign_line i.0.0 j.0.0 c.0) c.1) line j.2 in
     let wi = first_takes number_in ws i.0 i.1 in
@@ -172,7 +98,11 @@ assign_takes ws line e =
     let ti = within_takes MOST_PERSONS wi.0 i.0.0 wi.2 in
     let tj = within_takes MOST_PERSONS wj.0 j.0.0 wj.2 in
     let tc = cost_takes wc.0 c.0.0 wc.2 in
-    subst (IsWritten (codes "assign") ws) z.1 (three_written (codes "assign") ws i.0.1 j.0.1 c.0.1 wi.0 wj.0 wc.0 (decimal i.0.0) (decimal j.0.0) (signed_decimal c.0.0) wi.1 wj.1 wc.1 z.0 ti.0 tj.0 tc.0, (ti.1, tj.1, tc.1))
+    subst (IsWritten (codes "assign") ws) z.1 (
+      three_written (codes "assign") ws i.0.1 j.0.1 c.0.1 wi.0 wj.0 wc.0
+          (decimal i.0.0) (decimal j.0.0) (signed_decimal c.0.0) wi.1 wj.1 wc.1 z.0 ti.0 tj.0 tc.0,
+      (ti.1, tj.1, tc.1),
+    )
 
 price_line_takes : (ws : List (List ℕ)) (line : Line) → read_price ws ≡ Some line → IsWritten (codes "price") ws line
 unfolding read_price
@@ -185,11 +115,16 @@ price_line_takes ws line e =
     let tj = within_takes MOST_PERSONS wj.0 j.0.0 wj.2 in
     let tp = price_takes wp.0 p.0.0 wp.2 in
     let price : price_line j.0.0 (pos tp.0) ≡ line = ap (price_line j.0.0) (sym tp.1) ∙ z.1 in
-    subst (IsWritten (codes "price") ws) price (two_written (codes "price") ws j.0.1 p.0.1 wj.0 wp.0 (decimal j.0.0) (decimal tp.0) wj.1 wp.1 z.0 tj.0 tp.2, (tj.1, tp.3))
+    subst (IsWritten (codes "price") ws) price (
+      two_written (codes "price") ws j.0.1 p.0.1 wj.0 wp.0 (decimal j.0.0)
+          (decimal tp.0) wj.1 wp.1 z.0 tj.0 tp.2,
+      (tj.1, tp.3),
+    )
 
 infeasible_takes : (ws : List (List ℕ)) (line : Line) → read_infeasible ws ≡ Some line → IsWritten (codes "infeasible") ws line
 unfolding read_infeasible
-infeasible_takes ws line e = let z = end_takes infeasible_line line ws e in subst (IsWritten (codes "infeasible") ws) z.1 (ap (λ (r : List (List ℕ)). codes "infeasible" ∷ r) (sym z.0), tt)
+infeasible_takes ws line e = let z = end_takes infeasible_line line ws e in
+    subst (IsWritten (codes "infeasible") ws) z.1 (ap (λ (r : List (List ℕ)). codes "infeasible" ∷ r) (sym z.0), tt)
 
 rising_takes : (last : ℕ) (ws : List (List ℕ)) (xs : List ℕ) → read_rising last ws ≡ Some xs → (ws ≡ map decimal xs) × (is_rising last xs ≡ true)
 unfolding read_rising
@@ -201,7 +136,8 @@ rising_takes last (w ∷ ws) xs e =
     let c = cond_same (ltb last n.0) (read_rising n.0 ws) ns.0 ns.1 in
     let r = rising_takes n.0 ws ns.0 c.1 in
     let is : n.0 ∷ ns.0 ≡ xs = cc (ns.2) in
-    subst (λ ys. (w ∷ ws ≡ map decimal ys) × (is_rising last ys ≡ true)) is (pushed w (decimal n.0) ws (map decimal ns.0) t.0 r.0, rising_more last n.0 ns.0 (ltb-true _ _ c.0) t.1 r.1)
+    subst (λ ys. (w ∷ ws ≡ map decimal ys) × (is_rising last ys ≡ true)) is
+    (pushed w (decimal n.0) ws (map decimal ns.0) t.0 r.0, rising_more last n.0 ns.0 (ltb-true _ _ c.0) t.1 r.1)
   where
     cond_same : (b : Bool) (x : Option (List ℕ)) (y : List ℕ) → cond b x None ≡ Some y → (b ≡ true) × (x ≡ Some y)
     cond_same true x y e = (refl, e)
@@ -217,10 +153,16 @@ list_takes ws xs e =
     let r = rising_takes 0 n.0.1 ns.0 ns.1 in
     let c = cond_some (eqb (length ns.0) n.0.0) ns.0 xs ns.2 in
     let count = eqb-true (length ns.0) n.0.0 c.0 in
-    subst (λ ys. (ws ≡ decimal (length ys) ∷ map decimal ys) × (is_rising 0 ys ≡ true)) c.1 (listed ws n.0.1 w.0 (decimal n.0.0) (decimal (length ns.0)) (map decimal ns.0) w.1 t.0 (ap decimal count) r.0, r.1)
+    subst (λ ys. (ws ≡ decimal (length ys) ∷ map decimal ys) × (is_rising 0 ys ≡ true)) c.1 (
+      listed ws n.0.1 w.0 (decimal n.0.0) (decimal (length ns.0)) (map decimal ns.0) w.1 t.0 (ap decimal count)
+          r.0,
+      r.1,
+    )
 
 -- a line with a list after its name
-list_line_takes : (made : List ℕ → Line) (name : List ℕ) → ((xs : List ℕ) → line_words (made xs) ≡ name ∷ decimal (length xs) ∷ map decimal xs) → ((xs : List ℕ) → is_rising 0 xs ≡ true → IsInRange (made xs))
+list_line_takes : (made : List ℕ → Line) (name : List ℕ) →
+    ((xs : List ℕ) → line_words (made xs) ≡ name ∷ decimal (length xs) ∷ map decimal xs) →
+    ((xs : List ℕ) → is_rising 0 xs ≡ true → IsInRange (made xs))
     → (ws : List (List ℕ)) (line : Line) → (read_list ws >>= λ xs. Some (made xs)) ≡ Some line → IsWritten name ws line
 list_line_takes made name words range ws line e =
     let xs = bind_some (read_list ws) (λ xs. Some (made xs)) line e in
@@ -264,10 +206,14 @@ behind_takes w ws line e =
     picked (bytes_eq w (codes "sense")) (read_sense ws) (from_cost w ws) line e (λ t r. at_word w (codes "sense") ws line t (sense_takes ws line r)) (λ e.
     picked (bytes_eq w (codes "cost")) (read_cost ws) (from_assign w ws) line e (λ t r. at_word w (codes "cost") ws line t (cost_line_takes ws line r)) (λ e.
     picked (bytes_eq w (codes "assign")) (read_assign ws) (from_price w ws) line e (λ t r. at_word w (codes "assign") ws line t (assign_takes ws line r)) (λ e.
-    picked (bytes_eq w (codes "price")) (read_price ws) (from_infeasible w ws) line e (λ t r. at_word w (codes "price") ws line t (price_line_takes ws line r)) (λ e.
-    picked (bytes_eq w (codes "infeasible")) (read_infeasible ws) (from_persons w ws) line e (λ t r. at_word w (codes "infeasible") ws line t (infeasible_takes ws line r)) (λ e.
-    picked (bytes_eq w (codes "persons")) (read_list ws >>= λ xs. Some (persons_line xs)) (from_objects w ws) line e (λ t r. at_word w (codes "persons") ws line t (persons_takes ws line r)) (λ e.
-    picked (bytes_eq w (codes "objects")) (read_list ws >>= λ xs. Some (objects_line xs)) None line e (λ t r. at_word w (codes "objects") ws line t (objects_takes ws line r)) (λ e. absurd cc)))))))
+    picked (bytes_eq w (codes "price")) (read_price ws) (from_infeasible w ws) line e
+    (λ t r. at_word w (codes "price") ws line t (price_line_takes ws line r)) (λ e.
+    picked (bytes_eq w (codes "infeasible")) (read_infeasible ws) (from_persons w ws) line e
+    (λ t r. at_word w (codes "infeasible") ws line t (infeasible_takes ws line r)) (λ e.
+    picked (bytes_eq w (codes "persons")) (read_list ws >>= λ xs. Some (persons_line xs)) (from_objects w ws) line e
+    (λ t r. at_word w (codes "persons") ws line t (persons_takes ws line r)) (λ e.
+    picked (bytes_eq w (codes "objects")) (read_list ws >>= λ xs. Some (objects_line xs)) None line e
+    (λ t r. at_word w (codes "objects") ws line t (objects_takes ws line r)) (λ e. absurd cc)))))))
 
 words_take : (ws : List (List ℕ)) (line : Line) → read_words ws ≡ Some line → (line_words line ≡ ws) × IsInRange line
 words_take [] line e = absurd cc

@@ -1,5 +1,7 @@
 -- Numbers and their digits: what is read was written like this, and what is written is read again.
-use Rattle.std.proofs.Common.{◌≡◌, ℕ, ℤ, pos, negsuc, nat_abs, suc, zero, ◌<◌, ◌≤◌, ◌+◌, ◌*◌, ◌^◌, List, [], ◌∷◌, Bool, true, false, cond, eqb, leb, ◌&&◌, Option, Some, None, length, refl, ap, ◌∙◌, arith, decimal, rules}
+use Rattle.std.proofs.Common.{◌≡◌, ℕ, ℤ, pos, negsuc, nat_abs, suc, zero, ◌<◌, ◌≤◌, ◌+◌, ◌*◌, ◌^◌, List, [], ◌∷◌}
+use Rattle.std.proofs.Common.{Bool, true, false, cond, eqb, leb, ◌&&◌, Option, Some, None, length, refl, ap, ◌∙◌}
+use Rattle.std.proofs.Common.{arith, decimal, rules}
 use Rattle.std.specs.Fmt.{signed_decimal}
 use Rattle.std.specs.Char.{digit_value}
 use Rattle.std.specs.Str.{bytes_eq}
@@ -78,14 +80,17 @@ cost_digits (d ∷ ds) n h e = let no : eqb d 45 ≡ false = not_minus d (word_o
 
 pub cost_again : (c : ℤ) → nat_abs c ≤ widest_cost → cost_in (signed_decimal c) ≡ Some c
 cost_again (pos n) h = cost_digits (decimal n) n (decimal_is_IsNumeral_wide n (omega arith)).0 (within_again widest_cost n h (omega arith))
-cost_again (negsuc n) h = let no : eqb (suc n) 0 ≡ false = ne_eqb (suc n) 0 (λ e. omega (arith, e)) in rw (within_again widest_cost (suc n) h (omega arith), no) refl
+cost_again (negsuc n) h = let no : eqb (suc n) 0 ≡ false = ne_eqb (suc n) 0 (λ e. omega (arith, e)) in
+    rw (within_again widest_cost (suc n) h (omega arith), no) refl
 
 negated_takes : (o : Option ℕ) (c : ℤ) → negated o ≡ Some c → (n : ℕ) × (o ≡ Some (suc n)) × (c ≡ negsuc n)
 negated_takes None c e = absurd cc
 negated_takes (Some zero) c e = absurd cc
 negated_takes (Some (suc n)) c e = let no : eqb (suc n) 0 ≡ false = ne_eqb (suc n) 0 (λ e. omega (arith, e)) in let f = rw no at e in (n, refl, cc)
 
-cost_tested : (t : Bool) (b : ℕ) (bs : List ℕ) (c : ℤ) → eqb b 45 ≡ t → cond t (negated (numeral_within widest_cost bs)) (numeral_within widest_cost (b ∷ bs) >>= λ n. Some (pos n)) ≡ Some c
+cost_tested : (t : Bool) (b : ℕ) (bs : List ℕ) (c : ℤ) → eqb b 45 ≡ t →
+    cond t (negated (numeral_within widest_cost bs)) (numeral_within widest_cost (b ∷ bs) >>= λ n. Some (pos n))
+    ≡ Some c
     → (b ∷ bs ≡ signed_decimal c) × (nat_abs c ≤ widest_cost)
 cost_tested true b bs c t e =
     let n = negated_takes (numeral_within widest_cost bs) c e in

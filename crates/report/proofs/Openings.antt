@@ -1,12 +1,14 @@
 -- Lines that may stand at the start of a text are those with which some report begins.
-use Rattle.std.proofs.Common.{◌≡◌, ℕ, ℤ, pos, suc, true, ◌+◌, ◌-◌, List, [], ◌∷◌, ◌++◌, Option, Some, None, length, refl, sym, ap, ◌∙◌, arith, append_assoc, append-nil, length-append}
+use Rattle.std.proofs.Common.{◌≡◌, ℕ, ℤ, pos, suc, true, ◌+◌, ◌-◌, List, [], ◌∷◌, ◌++◌, Option, Some, None, length}
+use Rattle.std.proofs.Common.{refl, sym, ap, ◌∙◌, arith, append_assoc, append-nil, length-append}
 use Rattle.std.specs.List.{AllByRecursion}
 use Rattle.std.proofs.Math.ListN.{replicate}
 use Rattle.std.proofs.lemmas.List.{length-replicate}
 use Rattle.std.proofs.lemmas.List.Elements.{All-replicate, recursion_from_All}
 use Rattle.assign_core.specs.declared.sense.Sense.{Sense}
 use Rattle.report.specs.Reports.{Report, best, hall, is_entry, is_price, IsReport, IsHallReport}
-use Rattle.report.specs.Lines.{Line, cost_line, assign_line, price_line, infeasible_line, persons_line, objects_line, sense_lines, assign_lines, price_lines, report_lines}
+use Rattle.report.specs.Lines.{Line, cost_line, assign_line, price_line, infeasible_line, persons_line}
+use Rattle.report.specs.Lines.{objects_line, sense_lines, assign_lines, price_lines, report_lines}
 use Rattle.report.specs.Order.{Draft, nothing, with_sense, with_rows, with_prices, infeasible, with_persons, with_objects, finish, follow_all, said_by}
 use Rattle.report.specs.Answers.{BeginsReport}
 use Rattle.report.proofs.Elements.{all-append}
@@ -42,7 +44,8 @@ prices_begin : (s : Option Sense) (c : ℤ) (rows : List (ℕ × ℤ)) (prices m
     ≡ draft_lines (with_prices s c rows prices) ++ price_lines (1 + length prices) more
 prices_begin s c rows prices more =
     ap (λ (ls : List Line). sense_lines s ++ cost_line c ∷ (assign_lines 1 rows ++ ls)) (prices-append 1 prices more)
-    ∙ ap (λ (ls : List Line). sense_lines s ++ cost_line c ∷ ls) (sym (append_assoc (assign_lines 1 rows) (price_lines 1 prices) (price_lines (1 + length prices) more)))
+    ∙ ap (λ (ls : List Line). sense_lines s ++ cost_line c ∷ ls)
+    (sym (append_assoc (assign_lines 1 rows) (price_lines 1 prices) (price_lines (1 + length prices) more)))
     ∙ sym (append_assoc (sense_lines s) (cost_line c ∷ (assign_lines 1 rows ++ price_lines 1 prices)) (price_lines (1 + length prices) more))
 
 goes_on : (d : Draft) → IsDraft d → BeginsReport (draft_lines d)
@@ -58,14 +61,22 @@ goes_on (with_rows s c (r ∷ rows)) h = (
   best s c (r ∷ rows) None,
   [],
   record { total = h.0; some = omega arith; few = h.1; each = h.2; priced = tt },
-  ap (λ (ls : List Line). sense_lines s ++ cost_line c ∷ ls) (append-nil (assign_lines 1 (r ∷ rows))) ∙ sym (append-nil (sense_lines s ++ cost_line c ∷ assign_lines 1 (r ∷ rows))),
+  ap (λ (ls : List Line). sense_lines s ++ cost_line c ∷ ls) (append-nil (assign_lines 1 (r ∷ rows))) ∙
+      sym (append-nil (sense_lines s ++ cost_line c ∷ assign_lines 1 (r ∷ rows))),
 )
 goes_on (with_prices s c rows prices) h =
     let left = length rows - length prices in
     let long : length (prices ++ zeros left) ≡ length rows = omega (arith, h.4, length-append prices (zeros left), length-replicate left (pos 0)) in (
       best s c rows (Some (prices ++ zeros left)),
       price_lines (1 + length prices) (zeros left),
-      record { total = h.0; some = omega (arith, h.3, h.4); few = h.1; each = h.2; priced = (long, all-append (λ p. is_price s p ≡ true) prices (zeros left) h.5 (zeros_price s left)) },
+      record {
+        total = h.0;
+        some = omega (arith, h.3, h.4);
+        few = h.1;
+        each = h.2;
+        priced =
+            (long, all-append (λ p. is_price s p ≡ true) prices (zeros left) h.5 (zeros_price s left));
+      },
       prices_begin s c rows prices (zeros left),
     )
 goes_on (infeasible s) h = (

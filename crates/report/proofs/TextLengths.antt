@@ -1,5 +1,7 @@
 -- How long the text of a report may be.
-use Rattle.std.proofs.Common.{◌≡◌, ℕ, ℤ, pos, negsuc, nat_abs, suc, ◌≤◌, ◌+◌, ◌*◌, true, List, [], ◌∷◌, ◌++◌, Option, Some, None, length, map, refl, sym, ap, ◌∙◌, arith, append_assoc, decimal, codes}
+use Rattle.std.proofs.Common.{◌≡◌, ℕ, ℤ, pos, negsuc, nat_abs, suc, ◌≤◌, ◌+◌, ◌*◌, true, List, [], ◌∷◌, ◌++◌}
+use Rattle.std.proofs.Common.{Option, Some, None, length, map, refl, sym, ap, ◌∙◌, arith, append_assoc, decimal}
+use Rattle.std.proofs.Common.{codes}
 use Rattle.std.specs.Fmt.{signed_decimal}
 use Rattle.std.specs.List.{AllByRecursion}
 use Rattle.std.proofs.lemmas.Fmt.{length-decimal-le_wide}
@@ -11,11 +13,13 @@ use Rattle.assign_core.specs.declared.sense.Sense.{Sense}
 use Rattle.assign_core.specs.declared.sense.Sense.TheVariants.{Min, Max}
 use Rattle.report.specs.Words.{behind_spaces}
 use Rattle.report.specs.Reports.{Report, best, hall, is_rising, IsReport, ArePrices}
-use Rattle.report.specs.Lines.{Line, cost_line, assign_line, price_line, infeasible_line, persons_line, objects_line, line_text, lines_text, sense_lines, assign_lines, price_lines, lines_of_prices, report_lines, report_text}
+use Rattle.report.specs.Lines.{Line, cost_line, assign_line, price_line, infeasible_line, persons_line}
+use Rattle.report.specs.Lines.{objects_line, line_text, lines_text, sense_lines, assign_lines, price_lines}
+use Rattle.report.specs.Lines.{lines_of_prices, report_lines, report_text}
 use Rattle.report.specs.inside.Numerals.{widest_cost, last_price}
 use Rattle.report.specs.inside.Reading.{IsInRange}
 use Rattle.report.proofs.Elements.{all_split}
-use Rattle.report.proofs.LineLemmas.{rising_parts, rising_short}
+use Rattle.report.proofs.LineWords.{rising_parts, rising_short}
 
 -- bounds on the bytes of words
 abbrev All_upto : ℕ → List (List ℕ) → Type 0
@@ -63,7 +67,8 @@ price_short j (negsuc p) h = absurd h
 
 pub lines-append : (xs ys : List Line) → lines_text (xs ++ ys) ≡ lines_text xs ++ lines_text ys
 lines-append [] ys = refl
-lines-append (x ∷ xs) ys = ap (λ (t : List ℕ). line_text x ++ 10 ∷ t) (lines-append xs ys) ∙ sym (append_assoc (line_text x) (10 ∷ lines_text xs) (lines_text ys))
+lines-append (x ∷ xs) ys = ap (λ (t : List ℕ). line_text x ++ 10 ∷ t) (lines-append xs ys) ∙
+    sym (append_assoc (line_text x) (10 ∷ lines_text xs) (lines_text ys))
 
 line_more : (line : Line) (lines : List Line) → length (lines_text (line ∷ lines)) ≡ length (line_text line) + suc (length (lines_text lines))
 line_more line lines = length-append (line_text line) (10 ∷ lines_text lines)
@@ -102,7 +107,8 @@ sense_short None lines = omega arith
 sense_short (Some Min) lines = omega arith
 sense_short (Some Max) lines = omega arith
 
-rest_short : (prices : Option (List ℤ)) → AllByRecursion IsInRange (lines_of_prices prices) → (n : ℕ) → (s : Option Sense) → ArePrices s n prices → n ≤ MOST_PERSONS → length (lines_text (lines_of_prices prices)) ≤ 491520
+rest_short : (prices : Option (List ℤ)) → AllByRecursion IsInRange (lines_of_prices prices) → (n : ℕ) →
+    (s : Option Sense) → ArePrices s n prices → n ≤ MOST_PERSONS → length (lines_text (lines_of_prices prices)) ≤ 491520
 rest_short None h n s a l = omega arith
 rest_short (Some prices) h n s a l = let k = prices_short 1 prices h in omega (arith, k, a.0)
 
@@ -112,7 +118,10 @@ text_short (best s c rows prices) h n =
     let b = all_split IsInRange (assign_lines 1 rows) (lines_of_prices prices) a.1.1 in
     let cost = cost_short c a.1.0 in
     let one = line_more (cost_line c) (assign_lines 1 rows ++ lines_of_prices prices) in
-    let parts : length (lines_text (assign_lines 1 rows ++ lines_of_prices prices)) ≡ length (lines_text (assign_lines 1 rows)) + length (lines_text (lines_of_prices prices)) = ap length (lines-append (assign_lines 1 rows) (lines_of_prices prices)) ∙ length-append (lines_text (assign_lines 1 rows)) (lines_text (lines_of_prices prices)) in
+    let parts : length (lines_text (assign_lines 1 rows ++ lines_of_prices prices)) ≡ length
+    (lines_text (assign_lines 1 rows)) + length (lines_text (lines_of_prices prices)) =
+    ap length (lines-append (assign_lines 1 rows) (lines_of_prices prices)) ∙
+    length-append (lines_text (assign_lines 1 rows)) (lines_text (lines_of_prices prices)) in
     let x = assigns_short 1 rows b.0 in
     let y = rest_short prices b.1 (length rows) s h.priced h.few in
     let z = sense_short s (cost_line c ∷ (assign_lines 1 rows ++ lines_of_prices prices)) in

@@ -1,5 +1,6 @@
 -- Words, joined and parted.
-use Rattle.std.proofs.Common.{◌≡◌, ◌≢◌, ℕ, suc, ◌<◌, ◌+◌, List, [], ◌∷◌, ◌++◌, Bool, true, false, cond, eqb, ltb, ◌&&◌, length, take, drop, get_or, zero, Option, Some, None, refl, sym, ap, ◌∙◌, arith}
+use Rattle.std.proofs.Common.{◌≡◌, ◌≢◌, ℕ, suc, ◌<◌, ◌+◌, List, [], ◌∷◌, ◌++◌, Bool, true, false, cond, eqb, ltb}
+use Rattle.std.proofs.Common.{◌&&◌, length, take, drop, get_or, zero, Option, Some, None, refl, sym, ap, ◌∙◌, arith}
 use Rattle.std.specs.Prelude.{◌↔◌, IsTrue, not, is_some}
 use Rattle.std.specs.Option.{option_copied}
 use denote.Ref.{Bor}
@@ -52,14 +53,17 @@ words_whole (b ∷ bytes) h =
     ap (λ t. cond t ([] ∷ words_of bytes) (with_byte b (words_of bytes))) no ∙ ap (with_byte b) (words_whole bytes (λ k lt. h (suc k) (omega arith)))
 
 -- the word before the first space, and the words after it
-pub words_parted : (bytes : List ℕ) (at : ℕ) → at < length bytes → get_or bytes at 0 ≡ 32 → HasNoSpace bytes at → words_of bytes ≡ take at bytes ∷ words_of (drop (suc at) bytes)
+pub words_parted : (bytes : List ℕ) (at : ℕ) → at < length bytes → get_or bytes at 0 ≡ 32 → HasNoSpace bytes at →
+    words_of bytes ≡ take at bytes ∷ words_of (drop (suc at) bytes)
 words_parted [] at lt e h = absurd (omega arith)
 words_parted (b ∷ bytes) zero lt e h = ap (λ t. cond t ([] ∷ words_of bytes) (with_byte b (words_of bytes))) (eq-eqb b 32 e)
 words_parted (b ∷ bytes) (suc at) lt e h =
     let no : eqb b 32 ≡ false = ne_eqb b 32 (h 0 (omega arith)) in
-    ap (λ t. cond t ([] ∷ words_of bytes) (with_byte b (words_of bytes))) no ∙ ap (with_byte b) (words_parted bytes at (omega arith) e (λ k l. h (suc k) (omega arith)))
+    ap (λ t. cond t ([] ∷ words_of bytes) (with_byte b (words_of bytes))) no ∙
+    ap (with_byte b) (words_parted bytes at (omega arith) e (λ k l. h (suc k) (omega arith)))
 
-pub words_split : (line word behind rest : List ℕ) (at : ℕ) → at < length line → get_or line at 0 ≡ 32 → HasNoSpace line at → word ≡ take at line → behind ≡ drop at line → rest ≡ drop 1 behind
+pub words_split : (line word behind rest : List ℕ) (at : ℕ) → at < length line → get_or line at 0 ≡ 32 →
+    HasNoSpace line at → word ≡ take at line → behind ≡ drop at line → rest ≡ drop 1 behind
     → words_of line ≡ word ∷ words_of rest
 words_split line word behind rest at lt e h w b r =
     let next : at + 1 ≡ suc at = omega arith in

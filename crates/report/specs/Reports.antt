@@ -1,5 +1,6 @@
 -- The content of a report, and the ranges of its numbers.
-use Rattle.std.specs.Prelude.{◌≡◌, ℕ, ℤ, pos, negsuc, ◌*◌, ◌<◌, ◌≤◌, List, [], ◌∷◌, Option, None, Some, Bool, true, false, IsTrue, nat_lt, nat_le, ◌&&◌, length, nat_abs}
+use Rattle.std.specs.Prelude.{◌≡◌, ℕ, ℤ, pos, negsuc, ◌*◌, ◌<◌, ◌≤◌, List, [], ◌∷◌, Option, None, Some, Bool, true}
+use Rattle.std.specs.Prelude.{false, IsTrue, nat_lt, nat_le, ◌&&◌, length, nat_abs}
 use Rattle.std.specs.List.{AllByRecursion}
 use Rattle.assign_core.specs.declared.numbers.TheConstants.{MOST_PERSONS, GREATEST_COST, PRICE_END}
 use Rattle.assign_core.specs.declared.sense.Sense.{Sense}

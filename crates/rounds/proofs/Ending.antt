@@ -37,7 +37,9 @@ same_certificate : (c d : Certificate) → c.assignment ≡ d.assignment → c.p
 same_certificate c d e f = ap (λ (xs : List ℕ). record c { assignment = xs }) e ∙ ap (λ (p : List ℤ). record d { prices = p }) f
 
 same_outcome : (s : ScaledProblem) (end : End) (first second : Outcome) → IsOutcome s end first → IsOutcome s end second → first ≡ second
-same_outcome s (Finished b) (Best c) (Best d) f g = ap Best (same_certificate c d (owned_once b.owners (length s.problem) c.assignment d.assignment f.0 g.0) (f.1 ∙ sym g.1))
+same_outcome s (Finished b) (Best c) (Best d) f g =
+    ap Best (same_certificate c d (owned_once b.owners (length s.problem) c.assignment d.assignment f.0 g.0) (f.1 ∙
+    sym g.1))
 same_outcome s (Finished b) (Best c) (Hall h) f g = absurd g
 same_outcome s (Finished b) (Hall h) second f g = absurd f
 same_outcome s (Halted person b) (Hall h) (Hall l) f g = ap Hall (refuted_once s.problem b.owners person h l f g)

@@ -4,6 +4,7 @@ pub mod Runs
 pub mod Waiting
 pub mod Claiming
 pub mod Rooms
+pub mod Offered
 pub mod Submitting
 pub mod Phasing
 pub mod Running

@@ -1,5 +1,6 @@
 -- Phases follow each other, and a round is one of the plain definition.
-use Rattle.std.proofs.Common.{◌≡◌, ℕ, pos, ◌+◌, ◌<◌, ◌&&◌, List, [], ◌∷◌, None, Some, option_map, Bool, true, false, not, cond, length, refl, ap, sym, ◌∙◌, subst, arith}
+use Rattle.std.proofs.Common.{◌≡◌, ℕ, pos, ◌+◌, ◌<◌, ◌&&◌, List, [], ◌∷◌, None, Some, option_map, Bool, true, false}
+use Rattle.std.proofs.Common.{not, cond, length, refl, ap, sym, ◌∙◌, subst, arith}
 use Rattle.std.specs.Ordering.{int_eq}
 use Rattle.std.specs.Cmp.Derive.{both_true}
 use Rattle.std.proofs.lemmas.Bool.{and_parts, not-false}
@@ -64,7 +65,8 @@ pub next_rests : (b mid : BookData) → IsAtRest b → mid ≡ next_if_over b �
 next_rests b mid rest e free = subst IsAtRest (sym e) (rest_next b (is_over b) rest (subst IsFree e free))
 
 -- what follows a book at rest, once its next phase has begun where it does
-pub went_on : (b : BookData) (t : Bool) → IsAtRest b → is_over b ≡ t → 0 < length (cond t (phased b) b).queue → ready b.base (plain_of b) ≡ Some (plain_of (cond t (phased b) b))
+pub went_on : (b : BookData) (t : Bool) → IsAtRest b → is_over b ≡ t → 0 < length (cond t (phased b) b).queue →
+    ready b.base (plain_of b) ≡ Some (plain_of (cond t (phased b) b))
 went_on b true rest over some = phase_ready b rest.going.free over
 went_on b false rest over some = some_ready b.base (plain_of b) some
 

@@ -14,7 +14,8 @@ use Rattle.rounds.specs.Rounds.{room}
 room_less : (p q : ℤ) → IsPrice p → IsPrice q → p <ℤ q → unsigned_abs (PRICE_END -ℤ q) < unsigned_abs (PRICE_END -ℤ p)
 room_less p q f g h = let a = f.least in let b = g.below in omega (arith, ints)
 
-room_set : (prices : List ℤ) (j : ℕ) (level : ℤ) → 0 < j → j ≤ length prices → All IsPrice prices → IsPrice level → price_of prices j <ℤ level → room (renumbered prices j level) < room prices
+room_set : (prices : List ℤ) (j : ℕ) (level : ℤ) → 0 < j → j ≤ length prices → All IsPrice prices → IsPrice level →
+    price_of prices j <ℤ level → room (renumbered prices j level) < room prices
 room_set prices zero level first last each fit above = absurd (omega arith)
 room_set prices (suc k) level first last each fit above =
     let lt : k < length prices = omega arith in
@@ -23,7 +24,10 @@ room_set prices (suc k) level first last each fit above =
     omega arith
 
 -- a price that rises, to a price
-pub room_falls : (prices : List ℤ) (j : ℕ) (level : ℤ) → 0 < j → j ≤ length prices → All IsPrice prices → All IsPrice (renumbered prices j level) → price_of prices j <ℤ level → room (renumbered prices j level) < room prices
+pub room_falls : (prices : List ℤ) (j : ℕ) (level : ℤ) → 0 < j → j ≤ length prices → All IsPrice prices →
+    All IsPrice (renumbered prices j level) → price_of prices j <ℤ level →
+    room (renumbered prices j level) < room prices
 room_falls prices j level first last each after above =
     let long : length (renumbered prices j level) ≡ length prices = length-renumbered prices j level in
-    room_set prices j level first last each (subst IsPrice (numbered-same prices j level (pos 0) first last) (price_in (renumbered prices j level) j after first (omega arith))) above
+    room_set prices j level first last each (subst IsPrice (numbered-same prices j level (pos 0) first last)
+    (price_in (renumbered prices j level) j after first (omega arith))) above

@@ -1,89 +1,37 @@
 -- Offers are submitted one by one.
-use Rattle.std.proofs.Common.{◌≡◌, ℕ, ℤ, zero, suc, ◌+◌, ◌<◌, ◌≤◌, ◌+ℤ◌, ◌<ℤ◌, ◌⊎◌, inl, inr, List, ◌∷◌, None, Some, Bool, true, false, length, get_or, drop, refl, ap, sym, ◌∙◌, subst, arith}
+use Rattle.std.proofs.Common.{◌≡◌, ℕ, ℤ, zero, suc, ◌+◌, ◌<◌, ◌≤◌, ◌+ℤ◌, ◌<ℤ◌, ◌⊎◌, inl, inr, List, ◌∷◌, None, Some}
+use Rattle.std.proofs.Common.{Bool, true, false, length, get_or, drop, refl, ap, sym, ◌∙◌, subst, arith}
 use Rattle.std.proofs.lemmas.Int.{ints}
-use Rattle.std.proofs.lemmas.List.{at_drop_more, get_or-map, length-map}
-use Rattle.std.proofs.lemmas.Option.{same_Some}
+use Rattle.std.proofs.lemmas.List.{at_drop_more}
 use Rattle.std.specs.Int.Signed.{lt_z}
 use Rattle.assign_core.specs.declared.numbers.TheConstants.{MOST_PERSONS}
-use Rattle.assign_core.specs.Numbered.{IsNumber, numbered}
+use Rattle.assign_core.specs.Numbered.{IsNumber}
 use Rattle.std.specs.List.{All}
 use Rattle.assign_core.specs.Prices.{IsBelow, IsPrice, price_of}
 use Rattle.assign_core.proofs.NumberedLemmas.{length-renumbered, numbered_in}
 use Rattle.assign_core.proofs.Orders.{not_less, where_not_less}
 use Rattle.assign_core.proofs.Matchings.{below_itself, below_through}
-use Rattle.scaled_values.specs.Scaled.{ScaledProblem}
-use Rattle.scaled_values.proofs.RowFacts.{benefit_row_is}
-use Rattle.bidder.specs.declared.offers.Ask.{Ask}
 use Rattle.bidder.specs.declared.offers.Bid.{Bid}
 use Rattle.bidder.specs.declared.offers.BelowFloor.{BelowFloor}
 use Rattle.bidder.specs.declared.offers.Offer.{Offer}
 use Rattle.bidder.specs.declared.offers.Offer.TheVariants as made
-use Rattle.bidder.specs.Offers.{IsBid, IsOffer, IsSound, IsUnder, benefits_at, offer_of}
-use Rattle.bidder.proofs.Sound.{bid_high, bid_sound, offer_is}
-use Rattle.price_log.proofs.Histories.{today-after_raise, today_is_table}
+use Rattle.bidder.specs.Offers.{IsBid, IsSound, IsUnder, benefits_at}
+use Rattle.bidder.proofs.Sound.{bid_high, bid_sound}
+use Rattle.price_log.proofs.Versions.{today_is_table}
+use Rattle.price_log.proofs.Histories.{today-after_raise}
 use Rattle.auction_book.specs.Book.{BookData, Holds, prices_of}
 use Rattle.auction_book.specs.Changes.{accepted, released}
 use Rattle.auction_book.specs.Follows.{GoesOn}
 use Rattle.auction_book.proofs.Following.{goes_on_itself, goes_on_through}
 use Rattle.auction_book.specs.Submissions.{IsFitting, IsHigh}
 use Rattle.auction_book.specs.Free.{IsFree}
-use Rattle.auction_book.proofs.Claiming.{ask_is}
 use Rattle.auction_book.proofs.Accepting.{accepted_follows, bid_range, eps_least, released_follows}
 use Rattle.rounds.specs.Rounds.{AreClaimed, IsGoing, book_after, book_after_bid, book_after_offers, plain_of, room}
 use Rattle.rounds.specs.inside.Books.{AreSubmitted, HaveOffered}
-use Rattle.rounds.specs.Offers.{CanOffer}
-use Rattle.rounds.specs.Plain.{after_bid, after_offers}
+use Rattle.rounds.specs.Plain.{after_offers}
 use Rattle.rounds.proofs.Claiming.{claimed_less}
 use Rattle.rounds.proofs.Rooms.{room_falls}
-use Rattle.auction_book.proofs.Calling.{held_is_person}
-
--- ---- a book's change is the plain one
-pub plain-after : (low : Bool) (b : BookData) (worker : ℕ) (bid : Bid) → plain_of (book_after low b worker bid) ≡ after_bid low (plain_of b) bid
-plain-after true b worker bid = refl
-plain-after false b worker bid = ap (λ (prices : List ℤ). record (after_bid false (plain_of b) bid) { prices = prices }) (today-after_raise b.log bid.object bid.level)
-
--- ---- the offers of a round
--- the offer at a place is that of the person at that place, who is claimed
-pub record IsMade (b : BookData) (persons : List ℕ) (offers : List Offer) (i : ℕ) (offer : Offer) : Type 0 where
-  pub within : i < length offers
-  pub many : i < length persons
-  pub here : get_or offers i offer ≡ offer
-  pub person : ℕ
-  pub held : numbered b.claims (suc i) None ≡ Some person
-  pub at : (d : ℕ) → get_or persons i d ≡ person
-  pub is : IsOffer b.base (prices_of b) 0 b.ask person offer
-
-pub made_at : (b : BookData) (persons : List ℕ) (offers : List Offer) (i : ℕ) (offer : Offer) → HaveOffered b persons offers → i < length offers → get_or offers i offer ≡ offer → IsMade b persons offers i offer
-made_at b persons offers i offer have within here =
-    let f = offer_of b.base (prices_of b) 0 b.ask in
-    let long : length offers ≡ length persons = ap length have.made ∙ length-map persons f in
-    let many : i < length persons = omega arith in
-    let person = get_or persons i 0 in
-    let held = have.claimed.held i 0 (omega arith) many in
-    let number = held_is_person b (suc i) person have.going.free held in
-    let made_is : get_or offers i offer ≡ f person = ap (λ (xs : List Offer). get_or xs i offer) have.made ∙ get_or-map f persons i 0 offer many in
-    record {
-      within = within;
-      many = many;
-      here = here;
-      person = person;
-      held = held;
-      at = λ d. same_Some (get_or persons i d) person (sym (have.claimed.held i d (omega arith) many) ∙ held);
-      is = subst (IsOffer b.base (prices_of b) 0 b.ask person) (sym made_is ∙ here) (offer_is b.base (prices_of b) 0 b.ask person (benefit_row_is b.base person have.going.free.problem number).rising);
-    }
-
--- claimed persons can make offers from the book's prices
-pub can_offer : (b : BookData) (persons : List ℕ) → IsGoing b → AreClaimed persons 0 b.claims → CanOffer b.base (prices_of b) b.ask persons
-can_offer b persons going claimed =
-    record {
-      numbers = λ k d lt. held_is_person b (suc k) (get_or persons k d) going.free (claimed.held k d (omega arith) lt);
-      priced = going.free.sizes.priced;
-      asked = ask_is b going.free;
-    }
-
-pub can_offer_as : (b : BookData) (persons waiting : List ℕ) (s : ScaledProblem) (prices : List ℤ) (ask : Ask) → IsGoing b → AreClaimed persons 0 b.claims → s ≡ b.base → prices ≡ prices_of b → ask ≡ b.ask → waiting ≡ persons → CanOffer s prices ask waiting
-can_offer_as b persons waiting s prices ask going claimed e f g h =
-    subst (λ x. CanOffer x prices ask waiting) (sym e) (subst (λ x. CanOffer b.base x ask waiting) (sym f) (subst (λ x. CanOffer b.base (prices_of b) x waiting) (sym g) (subst (CanOffer b.base (prices_of b) b.ask) (sym h) (can_offer b persons going claimed))))
+use Rattle.rounds.proofs.Offered.{made_at, plain-after}
 
 -- ---- offers are submitted
 -- the first i offers have been submitted
@@ -138,7 +86,9 @@ read_here : (offers : List Offer) (i : ℕ) (read offer : Offer) → ((d : Offer
 read_here offers i read offer h e = sym (h offer) ∙ e
 
 -- the bid that was read at place i
-pub next_bid : {old now : BookData} {offers : List Offer} {i : ℕ} {bid : Bid} (read : Offer) → IsAtOffer old now offers i → i < length offers → ((d : Offer) → read ≡ get_or offers i d) → read ≡ made.Bid bid → IsNext old now i bid
+pub next_bid : {old now : BookData} {offers : List Offer} {i : ℕ} {bid : Bid} (read : Offer) →
+    IsAtOffer old now offers i → i < length offers → ((d : Offer) → read ≡ get_or offers i d) →
+    read ≡ made.Bid bid → IsNext old now i bid
 next_bid {old} {now} {offers} {i} {bid} read is within at e =
     let submitting = is.submitting in
     let m = made_at old is.persons offers i (made.Bid bid) is.offered within (read_here offers i read (made.Bid bid) at e) in
@@ -170,14 +120,24 @@ zero_or_more (suc k) = inr (omega arith)
 first_high : (old now : BookData) (i : ℕ) (bid : Bid) → now ≡ old → IsNext old now i bid → IsHigh now bid
 first_high old now i bid same next = subst (λ b. IsHigh b bid) (sym same) (bid_high old.base (prices_of old) old.ask bid next.made)
 
-submitted_by : (low : Bool) (old now : BookData) (persons : List ℕ) (offers : List Offer) (i : ℕ) (bid : Bid) → lt_z bid.level (price_of (prices_of now) bid.object +ℤ now.ask.eps) ≡ low → IsNext old now i bid → IsFree (book_after low now (suc i) bid) → IsSubmitting old now persons offers i
-    → after_offers (drop (i + 1) offers) (plain_of (book_after low now (suc i) bid)) ≡ after_offers offers (plain_of old) → book_after_offers (drop (i + 1) offers) (i + 1) (book_after low now (suc i) bid) ≡ book_after_offers offers 0 old
+submitted_by : (low : Bool) (old now : BookData) (persons : List ℕ) (offers : List Offer) (i : ℕ) (bid : Bid) →
+    lt_z bid.level (price_of (prices_of now) bid.object +ℤ now.ask.eps) ≡ low → IsNext old now i bid →
+    IsFree (book_after low now (suc i) bid) → IsSubmitting old now persons offers i
+    → after_offers (drop (i + 1) offers) (plain_of (book_after low now (suc i) bid)) ≡ after_offers offers
+    (plain_of old) → book_after_offers (drop (i + 1) offers) (i + 1) (book_after low now (suc i) bid)
+    ≡ book_after_offers offers 0 old
     → IsSubmitting old (book_after low now (suc i) bid) persons offers (i + 1)
 submitted_by true old now persons offers i bid t next free is left whole =
     let low = is_less bid.level (price_of (prices_of now) bid.object +ℤ now.ask.eps) t in
     let place = next.worker.last in
     record {
-      going = record { free = free; unrefuted = is.going.unrefuted; unstopped = is.going.unstopped; workers = length-renumbered now.claims (suc i) None ∙ is.going.workers };
+      going = record {
+        free = free;
+        unrefuted = is.going.unrefuted;
+        unstopped = is.going.unstopped;
+        workers =
+            length-renumbered now.claims (suc i) None ∙ is.going.workers;
+      };
       left = left;
       whole = whole;
       claimed = claimed_less persons now.claims i (omega arith) is.claimed;
@@ -207,7 +167,13 @@ submitted_by false old now persons offers i bid t next free is left whole =
     let one = room_falls (prices_of now) bid.object bid.level first (omega arith) table.each later (omega (arith, ints)) in
     let falls = subst (λ p. room p < room (prices_of now)) (sym after) one in
     record {
-      going = record { free = free; unrefuted = is.going.unrefuted; unstopped = is.going.unstopped; workers = length-renumbered now.claims (suc i) None ∙ is.going.workers };
+      going = record {
+        free = free;
+        unrefuted = is.going.unrefuted;
+        unstopped = is.going.unstopped;
+        workers =
+            length-renumbered now.claims (suc i) None ∙ is.going.workers;
+      };
       left = left;
       whole = whole;
       claimed = claimed_less persons now.claims i (omega arith) is.claimed;
@@ -223,7 +189,8 @@ submitted_by false old now persons offers i bid t next free is left whole =
     }
 
 -- one offer more
-pub offer_more : {old now : BookData} {offers : List Offer} {i : ℕ} {bid : Bid} (new : BookData) (read : Offer) → IsAtOffer old now offers i → i < length offers → ((d : Offer) → read ≡ get_or offers i d) → read ≡ made.Bid bid
+pub offer_more : {old now : BookData} {offers : List Offer} {i : ℕ} {bid : Bid} (new : BookData) (read : Offer) →
+    IsAtOffer old now offers i → i < length offers → ((d : Offer) → read ≡ get_or offers i d) → read ≡ made.Bid bid
     → new ≡ book_after_bid now (i + 1) bid → IsFree new → IsAtOffer old new offers (i + 1)
 offer_more {old} {now} {offers} {i} {bid} new read is within at was e free =
     let here = read_here offers i read (made.Bid bid) at was in
@@ -231,9 +198,11 @@ offer_more {old} {now} {offers} {i} {bid} new read is within at was e free =
     let low = lt_z bid.level (price_of (prices_of now) bid.object +ℤ now.ask.eps) in
     let worker : i + 1 ≡ suc i = omega arith in
     let after : new ≡ book_after low now (suc i) bid = e ∙ ap (λ k. book_after_bid now k bid) worker in
-    let step = at_drop_more (λ l. after_offers l (plain_of now)) offers i (made.Bid bid) within ∙ ap (λ o. after_offers (o ∷ drop (i + 1) offers) (plain_of now)) here in
+    let step = at_drop_more (λ l. after_offers l (plain_of now)) offers i (made.Bid bid) within ∙
+    ap (λ o. after_offers (o ∷ drop (i + 1) offers) (plain_of now)) here in
     let left = ap (after_offers (drop (i + 1) offers)) (plain-after low now (suc i) bid) ∙ sym step ∙ is.submitting.left in
-    let step_book = at_drop_more (λ l. book_after_offers l i now) offers i (made.Bid bid) within ∙ ap (λ o. book_after_offers (o ∷ drop (i + 1) offers) i now) here in
+    let step_book = at_drop_more (λ l. book_after_offers l i now) offers i (made.Bid bid) within ∙
+    ap (λ o. book_after_offers (o ∷ drop (i + 1) offers) i now) here in
     let whole = ap (λ k. book_after_offers (drop (i + 1) offers) k (book_after low now (suc i) bid)) worker ∙ sym step_book ∙ is.submitting.whole in
     let submitted = submitted_by low old now is.persons offers i bid refl next (subst IsFree after free) is.submitting left whole in
     record {
@@ -243,13 +212,16 @@ offer_more {old} {now} {offers} {i} {bid} new read is within at was e free =
     }
 
 -- a person finds nothing worth the floor
-pub below_offer : {old now : BookData} {offers : List Offer} {i : ℕ} {below : BelowFloor} (read : Offer) → IsAtOffer old now offers i → i < length offers → ((d : Offer) → read ≡ get_or offers i d) → read ≡ made.Below below → AreSubmitted old offers (Some below.person) now
+pub below_offer : {old now : BookData} {offers : List Offer} {i : ℕ} {below : BelowFloor} (read : Offer) →
+    IsAtOffer old now offers i → i < length offers → ((d : Offer) → read ≡ get_or offers i d) →
+    read ≡ made.Below below → AreSubmitted old offers (Some below.person) now
 below_offer {old} {now} {offers} {i} {below} read at_offer within at e =
     let here = read_here offers i read (made.Below below) at e in
     let is = at_offer.submitting in
     let m = made_at old at_offer.persons offers i (made.Below below) at_offer.offered within here in
     let held = is.claimed.held i 0 (omega arith) m.many ∙ ap Some (m.at 0 ∙ sym m.is.0) in
-    let step = at_drop_more (λ l. after_offers l (plain_of now)) offers i (made.Below below) within ∙ ap (λ o. after_offers (o ∷ drop (i + 1) offers) (plain_of now)) here in
+    let step = at_drop_more (λ l. after_offers l (plain_of now)) offers i (made.Below below) within ∙
+    ap (λ o. after_offers (o ∷ drop (i + 1) offers) (plain_of now)) here in
     let under = subst (λ p. IsUnder (benefits_at old.base p) (prices_of old) old.ask.floor) (sym m.is.0) m.is.2 in
     let based = subst (λ s. IsUnder (benefits_at s below.person) (prices_of old) old.ask.floor) (sym is.base) under in (
       sym is.left ∙ step,
@@ -264,10 +236,13 @@ below_offer {old} {now} {offers} {i} {below} read at_offer within at e =
     )
 
 -- the whole book then
-pub below_whole : {old now : BookData} {offers : List Offer} {i : ℕ} {below : BelowFloor} (read : Offer) → IsAtOffer old now offers i → i < length offers → ((d : Offer) → read ≡ get_or offers i d) → read ≡ made.Below below → now ≡ book_after_offers offers 0 old
+pub below_whole : {old now : BookData} {offers : List Offer} {i : ℕ} {below : BelowFloor} (read : Offer) →
+    IsAtOffer old now offers i → i < length offers → ((d : Offer) → read ≡ get_or offers i d) →
+    read ≡ made.Below below → now ≡ book_after_offers offers 0 old
 below_whole {old} {now} {offers} {i} {below} read at_offer within at e =
     let here = read_here offers i read (made.Below below) at e in
-    let step = at_drop_more (λ l. book_after_offers l i now) offers i (made.Below below) within ∙ ap (λ o. book_after_offers (o ∷ drop (i + 1) offers) i now) here in
+    let step = at_drop_more (λ l. book_after_offers l i now) offers i (made.Below below) within ∙
+    ap (λ o. book_after_offers (o ∷ drop (i + 1) offers) i now) here in
     sym step ∙ at_offer.submitting.whole
 
 -- a bid that is high is accepted

@@ -1,5 +1,6 @@
 -- Who waits, who is claimed, and when nobody does.
-use Rattle.std.proofs.Common.{◌≡◌, ℕ, pos, suc, ◌≤◌, List, [], ◌∷◌, length, Option, None, Some, true, true≢false, cond, nat_eq, slice_index, refl, ap, arith, sym, ◌∙◌, subst, is_some}
+use Rattle.std.proofs.Common.{◌≡◌, ℕ, pos, suc, ◌≤◌, List, [], ◌∷◌, length, Option, None, Some, true, true≢false}
+use Rattle.std.proofs.Common.{cond, nat_eq, slice_index, refl, ap, arith, sym, ◌∙◌, subst, is_some}
 use Rattle.std.specs.List.{count_by}
 use Rattle.std.specs.Ordering.{int_eq}
 use Rattle.std.proofs.lemmas.List.Sums.{sum_by-cons}
@@ -54,7 +55,8 @@ queue_few b free = let e = everyone (persons_of b) b.owners b.queue b.claims fre
 
 -- ---- what a claim answers
 -- where a claim names nobody, nobody waits
-pub nobody_claimed : (b new : BookData) (worker : ℕ) (answer : Claim) → IsGoing b → answer ≡ claim_of b → new ≡ after_claim b worker answer → ((p : ℕ) (a : Ask) → answer ≡ claim.Person p a → ⊥) → (b.queue ≡ []) × (new ≡ b)
+pub nobody_claimed : (b new : BookData) (worker : ℕ) (answer : Claim) → IsGoing b → answer ≡ claim_of b →
+    new ≡ after_claim b worker answer → ((p : ℕ) (a : Ask) → answer ≡ claim.Person p a → ⊥) → (b.queue ≡ []) × (new ≡ b)
 nobody_claimed b new worker answer going e f h =
     let IsNobody : Claim → Type 0 = λ c. ((p : ℕ) (a : Ask) → c ≡ claim.Person p a → ⊥) → (b.queue ≡ []) × (after_claim b worker c ≡ b) in
     let claimed : IsNobody (claim_of b) = claim_by IsNobody b

@@ -73,7 +73,8 @@ waiting_offers b = offers_of b.base (prices_of b) b.ask b.queue
 abbrev pub IsRound : BookData → Round → BookData → Type 0
 IsRound old came.Over new = (old.queue ≡ []) × (plain_of new ≡ plain_of old) × IsAtRest new
 IsRound old (came.Halted person) new = (0 < length old.queue) × (round old.base (plain_of old) ≡ Ends (Halted person (plain_of new))) × IsBelowFloor new person
-IsRound old came.More new = (0 < length old.queue) × (round old.base (plain_of old) ≡ Goes (plain_of new)) × IsAtRest new × (room (prices_of new) < room (prices_of old))
+IsRound old came.More new = (0 < length old.queue) × (round old.base (plain_of old) ≡ Goes (plain_of new)) ×
+    IsAtRest new × (room (prices_of new) < room (prices_of old))
 
 -- the book after a bid, which is too low or is accepted
 abbrev pub book_after : Bool → BookData → ℕ → Bid → BookData
@@ -93,4 +94,5 @@ book_after_offers (made.Below below ∷ offers) i b = b
 
 -- workers 1, 2, .. claimed all who waited, and these submitted the offers
 abbrev pub IsAfterOffers : BookData → List Offer → BookData → Type 0
-IsAfterOffers old offers new = (claims : List (Option ℕ)) × AreClaimed old.queue 0 claims × (new ≡ book_after_offers offers 0 (record old { queue = []; claims = claims }))
+IsAfterOffers old offers new = (claims : List (Option ℕ)) × AreClaimed old.queue 0 claims ×
+    (new ≡ book_after_offers offers 0 (record old { queue = []; claims = claims }))

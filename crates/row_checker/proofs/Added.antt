@@ -82,7 +82,8 @@ weight_bounded ws terms i k limit times w z t d lt at within read sum small room
           let s = small t.of within in
           omega arith
       | inr n ↦
-          let o : unsigned_abs (get_or (set ws t.of z) k (pos 0)) ≡ unsigned_abs (get_or ws k (pos 0)) = ap unsigned_abs (get_or-set_other ws t.of k z (pos 0) (λ e. n (sym e))) in
+          let o : unsigned_abs (get_or (set ws t.of z) k (pos 0)) ≡ unsigned_abs (get_or ws k (pos 0)) =
+          ap unsigned_abs (get_or-set_other ws t.of k z (pos 0) (λ e. n (sym e))) in
           let s = small k room in
           omega arith
     ]

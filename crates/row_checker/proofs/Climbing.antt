@@ -1,5 +1,6 @@
 -- Down into the halves of splits, and up again.
-use Rattle.std.proofs.Common.{◌≡◌, ℕ, ℤ, pos, suc, ◌+◌, ◌*◌, ◌-◌, ◌<◌, ◌≤◌, ◌^◌, List, [], ◌∷◌, ◌++◌, None, Some, Option, length, length-append, refl, ap, sym, ◌∙◌, subst, arith}
+use Rattle.std.proofs.Common.{◌≡◌, ℕ, ℤ, pos, suc, ◌+◌, ◌*◌, ◌-◌, ◌<◌, ◌≤◌, ◌^◌, List, [], ◌∷◌, ◌++◌, None, Some}
+use Rattle.std.proofs.Common.{Option, length, length-append, refl, ap, sym, ◌∙◌, subst, arith}
 use Rattle.std.specs.Prelude.{◌<ℤ◌}
 use Rattle.row_checker.specs.declared.tree.TheConstants.{MOST_DEPTH}
 use Rattle.row_checker.specs.declared.numbers.Head.TheVariants as head
@@ -29,11 +30,13 @@ snoc_same (u ∷ a) (v ∷ b) x y e =
     (cc, s.1)
 
 -- the same end in other words
-pub with_end : (n : ℕ) (numbers : List ℤ) (given rows : List LinearRow) (all e f : End) → e ≡ f → IsAt n numbers given rows all e → IsAt n numbers given rows all f
+pub with_end : (n : ℕ) (numbers : List ℤ) (given rows : List LinearRow) (all e f : End) → e ≡ f →
+    IsAt n numbers given rows all e → IsAt n numbers given rows all f
 with_end n numbers given rows all e f same at = subst (IsAt n numbers given rows all) same at
 
 pub stops_deep : (n : ℕ) (numbers : List ℤ) (given rows : List LinearRow) (all : End) (p k : ℕ) → MOST_DEPTH ≤ length rows - length given →
-    head_of numbers p ≡ head.Split k → IsAt n numbers given rows all (tree_ends n numbers (left_over given rows) rows p) → IsAt n numbers given rows all (Stops (TooDeep p))
+    head_of numbers p ≡ head.Split k → IsAt n numbers given rows all (tree_ends n numbers (left_over given rows)
+    rows p) → IsAt n numbers given rows all (Stops (TooDeep p))
 stops_deep n numbers given rows all p k full e at =
     let none : left_over given rows ≡ 0 = omega arith in
     with_end n numbers given rows all _ _ (ap (λ d. tree_ends n numbers d rows p) none ∙ too_deep n numbers rows p k e) at
@@ -54,7 +57,8 @@ stops_unnamed n numbers given rows all p k q room e first at =
     let next = tree_ends n numbers (left_over given rows - 1) in
     with_end n numbers given rows all _ _
     (opened n numbers given rows p k room e
-    ∙ ap (λ o. or_stop o (λ q. Variable q) (and_then (next (rows ++ low_row terms t ∷ []) (p + 3 + 2 * k)) (λ q. next (rows ++ high_row terms t ∷ []) q))) (sym first)) at
+    ∙ ap (λ o. or_stop o (λ q. Variable q) (and_then (next (rows ++ low_row terms t ∷ []) (p + 3 + 2 * k))
+    (λ q. next (rows ++ high_row terms t ∷ []) q))) (sym first)) at
 
 -- down into the low half
 pub goes_down : (n : ℕ) (numbers : List ℤ) (given rows : List LinearRow) (all : End) (p k : ℕ) → length rows - length given < MOST_DEPTH →
@@ -78,9 +82,12 @@ goes_down n numbers given rows all p k room e first less at after grown =
     let halves : and_then (next (rows ++ low ∷ []) (p + 3 + 2 * k)) (λ q. next (rows ++ high ∷ []) q)
     ≡ and_then (tree_ends n numbers (left_over given (rows ++ low ∷ [])) (rows ++ low ∷ []) (p + 3 + 2 * k)) (λ q. ends_below n numbers given (high ∷ path) q) =
     ap (λ x. and_then (tree_ends n numbers x (rows ++ low ∷ []) (p + 3 + 2 * k)) (λ q. next (rows ++ high ∷ []) q)) f
-    ∙ ap (λ x. and_then (tree_ends n numbers (left_over given (rows ++ low ∷ [])) (rows ++ low ∷ []) (p + 3 + 2 * k)) (λ q. tree_ends n numbers x (rows ++ high ∷ []) q)) d
-    ∙ ap (λ r. and_then (tree_ends n numbers (left_over given (rows ++ low ∷ [])) (rows ++ low ∷ []) (p + 3 + 2 * k)) (λ q. tree_ends n numbers (MOST_DEPTH - length (high ∷ path)) (r ++ high ∷ []) q)) at.are in
-    let here : IsAt n numbers given (rows ++ low ∷ []) all (tree_ends n numbers (left_over given (rows ++ low ∷ [])) (rows ++ low ∷ []) (p + 3 + 2 * k)) = record {
+    ∙ ap (λ x. and_then (tree_ends n numbers (left_over given (rows ++ low ∷ [])) (rows ++ low ∷ [])
+    (p + 3 + 2 * k)) (λ q. tree_ends n numbers x (rows ++ high ∷ []) q)) d
+    ∙ ap (λ r. and_then (tree_ends n numbers (left_over given (rows ++ low ∷ [])) (rows ++ low ∷ [])
+    (p + 3 + 2 * k)) (λ q. tree_ends n numbers (MOST_DEPTH - length (high ∷ path)) (r ++ high ∷ []) q)) at.are in
+    let here : IsAt n numbers given (rows ++ low ∷ []) all (tree_ends n numbers (left_over given (rows ++ low ∷ []))
+    (rows ++ low ∷ []) (p + 3 + 2 * k)) = record {
       path = low ∷ path;
       are = ap (λ r. r ++ low ∷ []) at.are;
       deep = omega arith;
@@ -92,7 +99,9 @@ goes_down n numbers given rows all p k room e first less at after grown =
 -- the low half is done: the high one comes next
 turned : (n : ℕ) (numbers : List ℤ) (given path : List LinearRow) (row : LinearRow) (all : End) (q : ℕ) (t : ℤ) → length (row ∷ path) ≤ MOST_DEPTH →
     AreLess path → whole_ends n numbers given path (half_ends n numbers given row path row.most (Stands q)) ≡ all → row.most ≡ Some t →
-    IsAt n numbers given (below given path ++ high_row row.terms t ∷ []) all (tree_ends n numbers (left_over given (below given path ++ high_row row.terms t ∷ [])) (below given path ++ high_row row.terms t ∷ []) q)
+    IsAt n numbers given (below given path ++ high_row row.terms t ∷ []) all
+    (tree_ends n numbers (left_over given (below given path ++ high_row row.terms t ∷ []))
+    (below given path ++ high_row row.terms t ∷ []) q)
 turned n numbers given path row all q t deep less ends most =
     let high = high_row row.terms t in
     let long = below_long given path in
@@ -109,22 +118,30 @@ turned n numbers given path row all q t deep less ends most =
 pub turns_low : (n : ℕ) (numbers : List ℤ) (given rows init path : List LinearRow) (row : LinearRow) (all : End) (q : ℕ) (t : ℤ) →
     rows ≡ below given path → length path ≤ MOST_DEPTH → AreLess path → whole_ends n numbers given path (Stands q) ≡ all →
     rows ≡ init ++ row ∷ [] → length given ≤ length init → row.most ≡ Some t →
-    (t <ℤ pos (2 ^ 63 - 1)) × IsAt n numbers given (init ++ high_row row.terms t ∷ []) all (tree_ends n numbers (left_over given (init ++ high_row row.terms t ∷ [])) (init ++ high_row row.terms t ∷ []) q)
-turns_low n numbers given rows init [] row all q t are deep less ends is long most = absurd (omega (arith, ap length are, ap length is, length-append init (row ∷ [])))
+    (t <ℤ pos (2 ^ 63 - 1)) × IsAt n numbers given (init ++ high_row row.terms t ∷ []) all
+    (tree_ends n numbers (left_over given (init ++ high_row row.terms t ∷ []))
+    (init ++ high_row row.terms t ∷ []) q)
+turns_low n numbers given rows init [] row all q t are deep less ends is long most =
+    absurd (omega (arith, ap length are, ap length is, length-append init (row ∷ [])))
 turns_low n numbers given rows init (r ∷ path) row all q t are deep less ends is long most =
     let s = snoc_same init (below given path) row r (sym is ∙ are) in
     let m : r.most ≡ Some t = ap (λ (x : LinearRow). x.most) (sym s.1) ∙ most in
     let here = turned n numbers given path r all q t deep less.1 ends m in (
       subst IsLess m less.0,
-      subst (λ l. IsAt n numbers given (l ++ high_row row.terms t ∷ []) all (tree_ends n numbers (left_over given (l ++ high_row row.terms t ∷ [])) (l ++ high_row row.terms t ∷ []) q)) (sym s.0)
-          (subst (λ (x : LinearRow). IsAt n numbers given (below given path ++ high_row x.terms t ∷ []) all (tree_ends n numbers (left_over given (below given path ++ high_row x.terms t ∷ [])) (below given path ++ high_row x.terms t ∷ []) q)) (sym s.1) here),
+      subst (λ l. IsAt n numbers given (l ++ high_row row.terms t ∷ []) all
+          (tree_ends n numbers (left_over given (l ++ high_row row.terms t ∷ [])) (l ++ high_row row.terms t ∷ [])
+          q)) (sym s.0)
+          (subst (λ (x : LinearRow). IsAt n numbers given (below given path ++ high_row x.terms t ∷ []) all
+          (tree_ends n numbers (left_over given (below given path ++ high_row x.terms t ∷ []))
+          (below given path ++ high_row x.terms t ∷ []) q)) (sym s.1) here),
     )
 
 -- the high half is done, and so the split
 pub turns_high : (n : ℕ) (numbers : List ℤ) (given rows init path : List LinearRow) (row : LinearRow) (all : End) (q : ℕ) →
     rows ≡ below given path → length path ≤ MOST_DEPTH → AreLess path → whole_ends n numbers given path (Stands q) ≡ all →
     rows ≡ init ++ row ∷ [] → length given ≤ length init → row.most ≡ None → IsAt n numbers given init all (Stands q)
-turns_high n numbers given rows init [] row all q are deep less ends is long most = absurd (omega (arith, ap length are, ap length is, length-append init (row ∷ [])))
+turns_high n numbers given rows init [] row all q are deep less ends is long most =
+    absurd (omega (arith, ap length are, ap length is, length-append init (row ∷ [])))
 turns_high n numbers given rows init (r ∷ path) row all q are deep less ends is long most =
     let s = snoc_same init (below given path) row r (sym is ∙ are) in
     let m : r.most ≡ None = ap (λ (x : LinearRow). x.most) (sym s.1) ∙ most in
@@ -137,7 +154,8 @@ turns_high n numbers given rows init (r ∷ path) row all q are deep less ends i
     }
 
 -- above the root there is no split
-pub at_root : (n : ℕ) (numbers : List ℤ) (given rows path : List LinearRow) (all e : End) → rows ≡ below given path → whole_ends n numbers given path e ≡ all → length rows ≤ length given → e ≡ all
+pub at_root : (n : ℕ) (numbers : List ℤ) (given rows path : List LinearRow) (all e : End) →
+    rows ≡ below given path → whole_ends n numbers given path e ≡ all → length rows ≤ length given → e ≡ all
 at_root n numbers given rows [] all e are ends short = ends
 at_root n numbers given rows (r ∷ path) all e are ends short = absurd (omega (arith, ap length are, below_long given (r ∷ path)))
 
@@ -149,4 +167,5 @@ half_stops n numbers given row path (Some t) fault = refl
 -- a fault is the end of the whole
 pub stops_all : (n : ℕ) (numbers : List ℤ) (given path : List LinearRow) (fault : Fault) → whole_ends n numbers given path (Stops fault) ≡ Stops fault
 stops_all n numbers given [] fault = refl
-stops_all n numbers given (row ∷ path) fault = ap (whole_ends n numbers given path) (half_stops n numbers given row path row.most fault) ∙ stops_all n numbers given path fault
+stops_all n numbers given (row ∷ path) fault = ap (whole_ends n numbers given path)
+    (half_stops n numbers given row path row.most fault) ∙ stops_all n numbers given path fault

@@ -1,5 +1,6 @@
 -- Lists of weights of which some are set to 0.
-use Rattle.std.proofs.Common.{◌≡◌, ℕ, ℤ, pos, zero, suc, ◌*ℤ◌, ◌+◌, ◌<◌, ◌≤◌, List, [], ◌∷◌, ◌++◌, false, ◌||◌, length, min, ◌^◌, ◌-◌, get_or, set, drop, refl, ap, sym, ◌∙◌, arith, inl, inr}
+use Rattle.std.proofs.Common.{◌≡◌, ℕ, ℤ, pos, zero, suc, ◌*ℤ◌, ◌+◌, ◌<◌, ◌≤◌, List, [], ◌∷◌, ◌++◌, false, ◌||◌}
+use Rattle.std.proofs.Common.{length, min, ◌^◌, ◌-◌, get_or, set, drop, refl, ap, sym, ◌∙◌, arith, inl, inr}
 use Rattle.std.proofs.lemmas.Int.{ints}
 use Rattle.std.proofs.lemmas.Bool.{cases_eq, ne_eqb, or_parts, or_from, eqb-false}
 use Rattle.std.proofs.lemmas.List.{drop_more, get_or-set_same, get_or-set_other, get_or_past}
@@ -41,7 +42,8 @@ left_less ws touched i v lt at z within k none =
     elim (cases_eq v k) [
       | inl e ↦ ap (λ j. get_or (set ws v (pos 0)) j (pos 0)) (sym e) ∙ get_or-set_same ws v (pos 0) (pos 0) within
       | inr n ↦
-          let d : is_among k (drop i touched) ≡ is_among k (v ∷ drop (i + 1) touched) = ap (is_among k) (drop_more touched i 0 lt) ∙ ap (λ u. is_among k (u ∷ drop (i + 1) touched)) at in
+          let d : is_among k (drop i touched) ≡ is_among k (v ∷ drop (i + 1) touched) =
+          ap (is_among k) (drop_more touched i 0 lt) ∙ ap (λ u. is_among k (u ∷ drop (i + 1) touched)) at in
           get_or-set_other ws v k (pos 0) (pos 0) (λ e. n (sym e)) ∙ z k (d ∙ or_from _ _ (ne_eqb v k n) none)
     ]
 
@@ -53,7 +55,8 @@ left_same ws touched i v lt at z past k none =
     elim (cases_eq v k) [
       | inl e ↦ get_or_past ws k (pos 0) (omega arith)
       | inr n ↦
-          let d : is_among k (drop i touched) ≡ is_among k (v ∷ drop (i + 1) touched) = ap (is_among k) (drop_more touched i 0 lt) ∙ ap (λ u. is_among k (u ∷ drop (i + 1) touched)) at in
+          let d : is_among k (drop i touched) ≡ is_among k (v ∷ drop (i + 1) touched) =
+          ap (is_among k) (drop_more touched i 0 lt) ∙ ap (λ u. is_among k (u ∷ drop (i + 1) touched)) at in
           z k (d ∙ or_from _ _ (ne_eqb v k n) none)
     ]
 

@@ -1,5 +1,7 @@
 -- Weak duality: what multiples of rows come to in a plan that meets the rows.
-use Rattle.std.proofs.Common.{◌≡◌, ℕ, ℤ, pos, negsuc, zero, suc, ◌+ℤ◌, ◌*ℤ◌, ◌≤ℤ◌, ◌+◌, ◌*◌, ◌-◌, List, [], ◌∷◌, Bool, true, false, Option, None, Some, All, length, get_or, refl, ap, sym, ◌∙◌, subst, arith, inl, inr}
+use Rattle.std.proofs.Common.{◌≡◌, ℕ, ℤ, pos, negsuc, zero, suc, ◌+ℤ◌, ◌*ℤ◌, ◌≤ℤ◌, ◌+◌, ◌*◌, ◌-◌, List, [], ◌∷◌}
+use Rattle.std.proofs.Common.{Bool, true, false, Option, None, Some, All, length, get_or, refl, ap, sym, ◌∙◌, subst}
+use Rattle.std.proofs.Common.{arith, inl, inr}
 use Rattle.std.specs.Prelude.{◌==◌, if◌then◌else◌, is_some, int_lt}
 use Rattle.std.specs.Option.{unwrap_or}
 use Rattle.std.proofs.lemmas.Int.{ints}
@@ -55,11 +57,14 @@ chosen_none false = refl
 chosen_one : (plan : Plan) (j : ℕ) (c : ℤ) → chosen plan (λ k. if j == k then c else pos 0) ≡ if_chosen (get_or plan j false) c
 chosen_one [] j c = refl
 chosen_one (x ∷ plan) zero c =
-    let h : chosen plan (λ k. if 0 == suc k then c else pos 0) ≡ pos 0 = same_chosen plan (λ k. if 0 == suc k then c else pos 0) (λ k. pos 0) (λ k. ap (λ b. if b then c else pos 0) (eqb-zero-suc k)) ∙ chosen_0 plan in
+    let h : chosen plan (λ k. if 0 == suc k then c else pos 0) ≡ pos 0 =
+    same_chosen plan (λ k. if 0 == suc k then c else pos 0) (λ k. pos 0) (λ k. ap (λ b. if b then c else pos 0)
+    (eqb-zero-suc k)) ∙ chosen_0 plan in
     omega (arith, ints)
 chosen_one (x ∷ plan) (suc j) c =
     let h : chosen plan (λ k. if suc j == suc k then c else pos 0) ≡ if_chosen (get_or plan j false) c =
-    same_chosen plan (λ k. if suc j == suc k then c else pos 0) (λ k. if j == k then c else pos 0) (λ k. ap (λ b. if b then c else pos 0) (eqb-suc-suc j k)) ∙ chosen_one plan j c in
+    same_chosen plan (λ k. if suc j == suc k then c else pos 0) (λ k. if j == k then c else pos 0)
+    (λ k. ap (λ b. if b then c else pos 0) (eqb-suc-suc j k)) ∙ chosen_one plan j c in
     let z : if_chosen x (if suc j == 0 then c else pos 0) ≡ pos 0 = ap (λ b. if_chosen x (if b then c else pos 0)) (eqb-suc-zero j) ∙ chosen_none x in
     omega (arith, ints)
 
@@ -130,16 +135,19 @@ meets_at plan rows k all =
       | inr ge ↦ subst (Meets plan) (sym (get_or_past rows k (record { least = None; most = None; terms = [] }) ge)) (record { least = tt; most = tt })
     ]
 
-one_below : (plan : Plan) (row : LinearRow) (y : ℤ) (o : Option ℤ) → Meets plan row → side_of row y ≡ o → is_some o ≡ true → (y *ℤ unwrap_or o (pos 0)) ≤ℤ (y *ℤ total plan row.terms)
+one_below : (plan : Plan) (row : LinearRow) (y : ℤ) (o : Option ℤ) → Meets plan row → side_of row y ≡ o →
+    is_some o ≡ true → (y *ℤ unwrap_or o (pos 0)) ≤ℤ (y *ℤ total plan row.terms)
 one_below plan row y None m e some = absurd cc
 one_below plan row y (Some side) m e some = side_below plan row y side m e
 
-bound_below : (plan : Plan) (rows : List LinearRow) (ms : List Multiple) → All (Meets plan) rows → has_sides rows ms ≡ true → bound rows ms ≤ℤ combined plan rows ms
+bound_below : (plan : Plan) (rows : List LinearRow) (ms : List Multiple) → All (Meets plan) rows →
+    has_sides rows ms ≡ true → bound rows ms ≤ℤ combined plan rows ms
 bound_below plan rows [] all have = omega (arith, ints)
 bound_below plan rows (m ∷ ms) all have =
     let row = row_at rows m.of in
     let p = and_parts (is_some (side_of row m.times)) (has_sides rows ms) have in
-    let a : (m.times *ℤ side_or_0 rows m) ≤ℤ (m.times *ℤ total plan row.terms) = one_below plan row m.times (side_of row m.times) (meets_at plan rows m.of all) refl p.0 in
+    let a : (m.times *ℤ side_or_0 rows m) ≤ℤ (m.times *ℤ total plan row.terms) =
+    one_below plan row m.times (side_of row m.times) (meets_at plan rows m.of all) refl p.0 in
     let h = bound_below plan rows ms all p.1 in
     omega (arith, ints)
 

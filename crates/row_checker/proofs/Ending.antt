@@ -20,4 +20,5 @@ pub end_is : (n : ℕ) (rows : List LinearRow) (ms : List Multiple) (most : ℕ)
 end_is n rows ms most b small cut is fits =
     let whole : ℕ = greatest n (weight rows ms) in
     ap (λ t. if has_sides rows ms && t then Shows else Lacks) (same_below whole most b cut fits ∙ ap (λ v. int_lt (pos whole) v) is)
-    ∙ ap (λ t. if t then (if has_sides rows ms && int_lt (pos whole) (bound rows ms) then Shows else Lacks) else TooGreat) (sym (lt-ltb (size rows ms) (2 ^ 127) small))
+    ∙ ap (λ t. if t then (if has_sides rows ms && int_lt (pos whole) (bound rows ms) then Shows else Lacks) else
+    TooGreat) (sym (lt-ltb (size rows ms) (2 ^ 127) small))

@@ -10,17 +10,20 @@ use Rattle.row_checker.specs.Leaves.{end_of}
 use Rattle.row_checker.specs.Trees.{at_head, first_unnamed, head_of, leaf_ends, multiples_at, or_stop, shown_by, split_ends, tree_ends}
 use Rattle.row_checker.specs.inside.Paths.{IsInside}
 
-pub at_none : (n : ℕ) (numbers : List ℤ) (deep : ℕ) (rows : List LinearRow) (p : ℕ) → head_of numbers p ≡ head.None → tree_ends n numbers deep rows p ≡ Stops (Shape p)
+pub at_none : (n : ℕ) (numbers : List ℤ) (deep : ℕ) (rows : List LinearRow) (p : ℕ) →
+    head_of numbers p ≡ head.None → tree_ends n numbers deep rows p ≡ Stops (Shape p)
 unfolding tree_ends
 at_none n numbers zero rows p e = ap (λ h. at_head h p (leaf_ends n numbers rows p) (λ k. Stops (TooDeep p))) e
 at_none n numbers (suc deep) rows p e = ap (λ h. at_head h p (leaf_ends n numbers rows p) (split_ends n numbers (tree_ends n numbers deep) rows p)) e
 
-pub at_leaf : (n : ℕ) (numbers : List ℤ) (deep : ℕ) (rows : List LinearRow) (p k : ℕ) → head_of numbers p ≡ head.Leaf k → tree_ends n numbers deep rows p ≡ leaf_ends n numbers rows p k
+pub at_leaf : (n : ℕ) (numbers : List ℤ) (deep : ℕ) (rows : List LinearRow) (p k : ℕ) →
+    head_of numbers p ≡ head.Leaf k → tree_ends n numbers deep rows p ≡ leaf_ends n numbers rows p k
 unfolding tree_ends
 at_leaf n numbers zero rows p k e = ap (λ h. at_head h p (leaf_ends n numbers rows p) (λ k. Stops (TooDeep p))) e
 at_leaf n numbers (suc deep) rows p k e = ap (λ h. at_head h p (leaf_ends n numbers rows p) (split_ends n numbers (tree_ends n numbers deep) rows p)) e
 
-pub too_deep : (n : ℕ) (numbers : List ℤ) (rows : List LinearRow) (p k : ℕ) → head_of numbers p ≡ head.Split k → tree_ends n numbers zero rows p ≡ Stops (TooDeep p)
+pub too_deep : (n : ℕ) (numbers : List ℤ) (rows : List LinearRow) (p k : ℕ) → head_of numbers p ≡ head.Split k →
+    tree_ends n numbers zero rows p ≡ Stops (TooDeep p)
 unfolding tree_ends
 too_deep n numbers rows p k e = ap (λ h. at_head h p (leaf_ends n numbers rows p) (λ k. Stops (TooDeep p))) e
 
@@ -36,6 +39,8 @@ inside None leaf.Lacks p q long lt le = tt
 inside (Some r) end p q long lt le = tt
 
 -- a leaf that stands ends behind its place
-pub leaf_inside : (n : ℕ) (numbers : List ℤ) (rows : List LinearRow) (p k : ℕ) → p + 2 + 2 * k ≤ length numbers → IsInside p (length numbers) (leaf_ends n numbers rows p k)
+pub leaf_inside : (n : ℕ) (numbers : List ℤ) (rows : List LinearRow) (p k : ℕ) → p + 2 + 2 * k ≤ length numbers →
+    IsInside p (length numbers) (leaf_ends n numbers rows p k)
 leaf_inside n numbers rows p k room =
-    inside (first_unnamed numbers (p + 2) k (length rows)) (end_of n rows (multiples_at numbers (p + 2) k)) p (p + 2 + 2 * k) (length numbers) (omega arith) room
+    inside (first_unnamed numbers (p + 2) k (length rows)) (end_of n rows (multiples_at numbers (p + 2) k)) p
+    (p + 2 + 2 * k) (length numbers) (omega arith) room

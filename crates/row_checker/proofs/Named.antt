@@ -8,7 +8,8 @@ use Rattle.row_checker.specs.declared.numbers.Head.TheVariants as head
 use Rattle.row_checker.specs.Trees.{first_unnamed, head_of, is_leaf, is_named, is_split, number_at}
 
 turn : (numbers : List ℤ) (p k limit i : ℕ) → i < k →
-    first_unnamed numbers (p + 2 * i) (k - i) limit ≡ (if is_named (number_at numbers (p + 2 * i)) limit then first_unnamed numbers (p + 2 * (i + 1)) (k - (i + 1)) limit else Some (p + 2 * i))
+    first_unnamed numbers (p + 2 * i) (k - i) limit ≡ (if is_named (number_at numbers (p + 2 * i)) limit then
+    first_unnamed numbers (p + 2 * (i + 1)) (k - (i + 1)) limit else Some (p + 2 * i))
 turn numbers p k limit i lt =
     let e : k - i ≡ suc (k - (i + 1)) = omega arith in
     let f : p + 2 * i + 2 ≡ p + 2 * (i + 1) = omega arith in

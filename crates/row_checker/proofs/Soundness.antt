@@ -1,5 +1,6 @@
 -- A tree that stands leaves no plan.
-use Rattle.std.proofs.Common.{◌≡◌, ℕ, ℤ, pos, zero, suc, ◌+◌, ◌*◌, ◌+ℤ◌, ◌≤ℤ◌, List, [], ◌∷◌, ◌++◌, Bool, true, false, ◌&&◌, Option, None, Some, length, refl, ap, sym, ◌∙◌, arith}
+use Rattle.std.proofs.Common.{◌≡◌, ℕ, ℤ, pos, zero, suc, ◌+◌, ◌*◌, ◌+ℤ◌, ◌≤ℤ◌, List, [], ◌∷◌, ◌++◌, Bool, true}
+use Rattle.std.proofs.Common.{false, ◌&&◌, Option, None, Some, length, refl, ap, sym, ◌∙◌, arith}
 use Rattle.std.specs.Prelude.{if◌then◌else◌, int_lt, nat_lt, ◌^◌}
 use Rattle.std.proofs.lemmas.Int.{ints, by_lt_z}
 use Rattle.std.proofs.lemmas.List.Elements.{All-push}
@@ -15,11 +16,13 @@ use Rattle.row_checker.specs.declared.verdict.End.{End}
 use Rattle.row_checker.specs.declared.verdict.End.TheVariants.{Stands, Stops}
 use Rattle.row_checker.specs.Rows.{LinearRow, Meets, NoPlan, total}
 use Rattle.row_checker.specs.Leaves.{bound, end_of, greatest, has_sides, size, weight}
-use Rattle.row_checker.specs.Trees.{and_then, first_unnamed, head_of, high_row, leaf_ends, low_row, multiples_at, number_at, or_stop, shown_by, tree_ends, verdict_on, whole}
+use Rattle.row_checker.specs.Trees.{and_then, first_unnamed, head_of, high_row, leaf_ends, low_row, multiples_at}
+use Rattle.row_checker.specs.Trees.{number_at, or_stop, shown_by, tree_ends, verdict_on, whole}
 use Rattle.row_checker.proofs.Duality.{none_meets}
 use Rattle.row_checker.proofs.Ends.{at_leaf, at_none, at_split, too_deep}
 
-leaf_shows : (small have less : Bool) → (if small then (if have && less then leaf.Shows else leaf.Lacks) else leaf.TooGreat) ≡ leaf.Shows → (have ≡ true) × (less ≡ true)
+leaf_shows : (small have less : Bool) → (if small then (if have && less then leaf.Shows else leaf.Lacks) else
+    leaf.TooGreat) ≡ leaf.Shows → (have ≡ true) × (less ≡ true)
 leaf_shows false have less e = absurd cc
 leaf_shows true false less e = absurd cc
 leaf_shows true true false e = absurd cc
@@ -44,7 +47,8 @@ standing_halves None (Stops v) high r e = absurd cc
 standing_halves None (Stands q) high r e = (q, refl, e)
 
 -- a plan meets the rows with that of one half
-pub halves_sound : (n : ℕ) (rows : List LinearRow) (terms : List Multiple) (t : ℤ) → NoPlan n (rows ++ low_row terms t ∷ []) → NoPlan n (rows ++ high_row terms t ∷ []) → NoPlan n rows
+pub halves_sound : (n : ℕ) (rows : List LinearRow) (terms : List Multiple) (t : ℤ) →
+    NoPlan n (rows ++ low_row terms t ∷ []) → NoPlan n (rows ++ high_row terms t ∷ []) → NoPlan n rows
 halves_sound n rows terms t low high = λ plan p.
     by_lt_z {P = ⊥} t (total plan terms)
     (λ lt.
@@ -61,7 +65,8 @@ leaf_case n numbers rows p k q e =
     (standing_leaf (first_unnamed numbers (p + 2) k (length rows)) (end_of n rows (multiples_at numbers (p + 2) k)) p (p + 2 + 2 * k) q e)
 
 -- no split may stand here
-shallow : (n : ℕ) (numbers : List ℤ) (rows : List LinearRow) (p q : ℕ) (h : Head) → head_of numbers p ≡ h → tree_ends n numbers zero rows p ≡ Stands q → NoPlan n rows
+shallow : (n : ℕ) (numbers : List ℤ) (rows : List LinearRow) (p q : ℕ) (h : Head) → head_of numbers p ≡ h →
+    tree_ends n numbers zero rows p ≡ Stands q → NoPlan n rows
 shallow n numbers rows p q head.None at e = let s = at_none n numbers zero rows p at in absurd cc
 shallow n numbers rows p q (head.Leaf k) at e = leaf_case n numbers rows p k q (sym (at_leaf n numbers zero rows p k at) ∙ e)
 shallow n numbers rows p q (head.Split k) at e = let s = too_deep n numbers rows p k at in absurd cc
@@ -75,7 +80,8 @@ deeper n numbers deep below rows p q (head.Split k) at e =
     let terms = multiples_at numbers (p + 3) k in
     let t = number_at numbers (p + 2) in
     let next = tree_ends n numbers deep in
-    let s = standing_halves (first_unnamed numbers (p + 3) k n) (next (rows ++ low_row terms t ∷ []) (p + 3 + 2 * k)) (λ q. next (rows ++ high_row terms t ∷ []) q) q
+    let s = standing_halves (first_unnamed numbers (p + 3) k n) (next (rows ++ low_row terms t ∷ [])
+    (p + 3 + 2 * k)) (λ q. next (rows ++ high_row terms t ∷ []) q) q
     (sym (at_split n numbers deep rows p k at) ∙ e) in
     halves_sound n rows terms t (below (rows ++ low_row terms t ∷ []) (p + 3 + 2 * k) s.0 s.1) (below (rows ++ high_row terms t ∷ []) s.0 q s.2)
 

@@ -1,5 +1,6 @@
 -- What whole multiples of rows show: weak duality.
-use Rattle.std.specs.Prelude.{ℕ, zero, suc, ◌+◌, ◌*◌, ◌^◌, nat_lt, ℤ, pos, negsuc, ◌+ℤ◌, ◌*ℤ◌, List, [], ◌∷◌, ◌++◌, Bool, int_lt, if◌then◌else◌, ◌==◌, ◌&&◌, is_some, true}
+use Rattle.std.specs.Prelude.{ℕ, zero, suc, ◌+◌, ◌*◌, ◌^◌, nat_lt, ℤ, pos, negsuc, ◌+ℤ◌, ◌*ℤ◌, List, [], ◌∷◌, ◌++◌}
+use Rattle.std.specs.Prelude.{Bool, int_lt, if◌then◌else◌, ◌==◌, ◌&&◌, is_some, true}
 use Rattle.std.specs.Option.{unwrap_or}
 use Rattle.std.specs.Int.RustNames.{unsigned_abs}
 use Rattle.row_checker.specs.declared.row.Multiple.{Multiple}

@@ -1,5 +1,6 @@
 -- Rows over variables that are 0 or 1, and plans that meet them.
-use Rattle.std.specs.Prelude.{◌≡◌, ℕ, zero, suc, ℤ, pos, negsuc, ◌+ℤ◌, ◌≤ℤ◌, List, [], ◌∷◌, Bool, false, Option, None, Some, if◌then◌else◌, All, length, slice_index_or}
+use Rattle.std.specs.Prelude.{◌≡◌, ℕ, zero, suc, ℤ, pos, negsuc, ◌+ℤ◌, ◌≤ℤ◌, List, [], ◌∷◌, Bool, false, Option}
+use Rattle.std.specs.Prelude.{None, Some, if◌then◌else◌, All, length, slice_index_or}
 use Rattle.row_checker.specs.declared.row.Multiple.{Multiple}
 use Rattle.row_checker.specs.declared.row.Row.{Row}
 

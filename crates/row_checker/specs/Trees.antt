@@ -2,7 +2,9 @@
 --     leaf    0, k, and k pairs of a row and a multiplier
 --     split   1, k, t, and k pairs of a variable and a coefficient; then the node where their sum is at
 --             most t, then that where it is at least t + 1
-use Rattle.std.specs.Prelude.{ℕ, zero, suc, ◌+◌, ◌*◌, ◌^◌, ◌-◌, ◌==◌, nat_le, nat_lt, ℤ, pos, ◌+ℤ◌, int_lt, List, [], ◌∷◌, ◌++◌, Bool, not, ◌&&◌, Option, None, Some, if◌then◌else◌, length, slice_index_or}
+use Rattle.std.specs.Prelude.{ℕ, zero, suc, ◌+◌, ◌*◌, ◌^◌, ◌-◌, ◌==◌, nat_le, nat_lt, ℤ, pos, ◌+ℤ◌, int_lt, List}
+use Rattle.std.specs.Prelude.{[], ◌∷◌, ◌++◌, Bool, not, ◌&&◌, Option, None, Some, if◌then◌else◌, length}
+use Rattle.std.specs.Prelude.{slice_index_or}
 use Rattle.std.specs.Ordering.{int_eq}
 use Rattle.std.specs.Int.RustNames.{unsigned_abs}
 use Rattle.row_checker.specs.declared.row.Multiple.{Multiple}

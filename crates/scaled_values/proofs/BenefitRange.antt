@@ -8,7 +8,8 @@ use Rattle.assign_core.specs.Rows.{Listing, IsCost, IsRow, IsSize, IsProblem, Ha
 use Rattle.assign_core.specs.Benefits.{benefit, benefit_row, IsBenefit}
 use Rattle.assign_core.proofs.BenefitRows.{IsBenefit-benefit}
 use Rattle.assign_core.proofs.Members.{contains_first, contains_later}
-use Rattle.scaled_values.specs.Scaled.{ScaledProblem, benefits_of, values_in, least_of, greatest_of, least_benefit, greatest_benefit, spread, IsLeastOf, IsGreatestOf}
+use Rattle.scaled_values.specs.Scaled.{ScaledProblem, benefits_of, values_in, least_of, greatest_of, least_benefit}
+use Rattle.scaled_values.specs.Scaled.{greatest_benefit, spread, IsLeastOf, IsGreatestOf}
 use Rattle.scaled_values.specs.Limits.{most_spread}
 use Rattle.scaled_values.specs.declared.row.StoredRow.{StoredRow}
 use Rattle.scaled_values.specs.inside.Stored.{IsStored}
@@ -16,7 +17,8 @@ use Rattle.scaled_values.specs.inside.Stored.{IsStored}
 row_in_range : (sense : Sense) (n : ℕ) (row : Listing) → IsSize n → HasCosts row → All IsBenefit (map (λ e. e.1) (benefit_row sense n row))
 row_in_range sense n row size h =
     All-map IsBenefit (λ e. e.1) (benefit_row sense n row)
-    (All-map (λ e. IsBenefit e.1) (λ e. (e.0, benefit sense n e.1)) row (All-weaker (λ e. IsCost e.1) (λ e. IsBenefit (benefit sense n e.1)) (λ e k. IsBenefit-benefit sense n e.1 size k) row h))
+    (All-map (λ e. IsBenefit e.1) (λ e. (e.0, benefit sense n e.1)) row (All-weaker (λ e. IsCost e.1)
+    (λ e. IsBenefit (benefit sense n e.1)) (λ e k. IsBenefit-benefit sense n e.1 size k) row h))
 
 rows_in_range : (sense : Sense) (n : ℕ) (rows : List Listing) → IsSize n → All (IsRow n) rows → All IsBenefit (values_in (map (benefit_row sense n) rows))
 rows_in_range sense n [] size h = All-nil IsBenefit

@@ -1,5 +1,6 @@
 -- The slacknesses of the phases: in range, and few.
-use Rattle.std.proofs.Common.{◌≡◌, ℕ, zero, suc, ℤ, pos, negsuc, ◌+ℤ◌, ◌≤ℤ◌, ◌<◌, ◌≤◌, ◌+◌, ◌-◌, inl, inr, Bool, true, false, cond, Option, None, Some, refl, arith, sym, ◌∙◌, ap, subst}
+use Rattle.std.proofs.Common.{◌≡◌, ℕ, zero, suc, ℤ, pos, negsuc, ◌+ℤ◌, ◌≤ℤ◌, ◌<◌, ◌≤◌, ◌+◌, ◌-◌, inl, inr, Bool}
+use Rattle.std.proofs.Common.{true, false, cond, Option, None, Some, refl, arith, sym, ◌∙◌, ap, subst}
 use Rattle.std.specs.Option.{option_and_then}
 use Rattle.std.specs.Cmp.{signed_Decides}
 use Rattle.std.specs.Ordering.{int_eq}
@@ -131,7 +132,8 @@ true_where_none false z h = cc
 one_at_last : (eps : ℤ) → next_eps eps ≡ None → eps ≡ pos 1
 one_at_last eps h = (signed_Decides eps (pos 1)).0 (true_where_none (int_eq eps (pos 1)) (fifth eps) h)
 
-one_at : (s : ScaledProblem) (k : ℕ) (o : Option ℤ) → eps_after s k ≡ o → option_and_then next_eps o ≡ None → (eps_after s k ≡ None → IsEps s (pos 1)) → IsEps s (pos 1)
+one_at : (s : ScaledProblem) (k : ℕ) (o : Option ℤ) → eps_after s k ≡ o → option_and_then next_eps o ≡ None →
+    (eps_after s k ≡ None → IsEps s (pos 1)) → IsEps s (pos 1)
 one_at s k None e h before = before e
 one_at s k (Some eps) e h before = record { phases = k; at = e ∙ ap Some (one_at_last eps h) }
 

@@ -45,6 +45,8 @@ row_in_order n row rising within long =
     entry_is (get_or row k d) (get_or (row_from 1 values) k d) (1 + k) (get_or values k (pos 0)) here value (row_from-index 1 k values d (pos 0) (omega arith)))
 
 -- the benefits of a full row
-pub full_entries : (sense : Sense) (n : ℕ) (row : Listing) → IsRow n row → length row ≡ n → row_from 1 (map (λ e. e.1) (benefit_row sense n row)) ≡ benefit_row sense n row
+pub full_entries : (sense : Sense) (n : ℕ) (row : Listing) → IsRow n row → length row ≡ n →
+    row_from 1 (map (λ e. e.1) (benefit_row sense n row)) ≡ benefit_row sense n row
 full_entries sense n row h long =
-    sym (row_in_order n (benefit_row sense n row) (IsRising-benefit_row sense n row h.rising) (IsWithin-benefit_row sense n n row h.within) (length-benefit_row sense n row ∙ long))
+    sym (row_in_order n (benefit_row sense n row) (IsRising-benefit_row sense n row h.rising)
+    (IsWithin-benefit_row sense n n row h.within) (length-benefit_row sense n row ∙ long))

@@ -34,7 +34,8 @@ values_next sense n row i e lt at =
     ap (λ l. map (λ f. f.1) (benefit_row sense n l)) (drop_more row i e lt ∙ ap (λ f. f ∷ drop (i + 1) row) (sym at))
 
 -- the range of what was passed, with one more pair
-pub range_next : (sense : Sense) (n : ℕ) (row : Listing) (i : ℕ) (e : ℕ × ℤ) (range wider : Range) (b : ℤ) → i < length row → e ≡ get_or row i e → b ≡ benefit sense n e.1 → wider ≡ widened range b →
+pub range_next : (sense : Sense) (n : ℕ) (row : Listing) (i : ℕ) (e : ℕ × ℤ) (range wider : Range) (b : ℤ) →
+    i < length row → e ≡ get_or row i e → b ≡ benefit sense n e.1 → wider ≡ widened range b →
     range_with wider (map (λ f. f.1) (benefit_row sense n (drop (i + 1) row))) ≡ range_with range (map (λ f. f.1) (benefit_row sense n (drop i row)))
 range_next sense n row i e range wider b lt at value h =
     let rest : List ℤ = map (λ f. f.1) (benefit_row sense n (drop (i + 1) row)) in
@@ -42,7 +43,8 @@ range_next sense n row i e range wider b lt at value h =
     ∙ sym (ap (range_with range) (values_next sense n row i e lt at))
 
 -- the range of what was passed, with one more row
-pub range_row : (sense : Sense) (n : ℕ) (rows : List Listing) (i : ℕ) (range wider : Range) → i < length rows → wider ≡ range_with range (map (λ e. e.1) (benefit_row sense n (row_of rows (i + 1)))) →
+pub range_row : (sense : Sense) (n : ℕ) (rows : List Listing) (i : ℕ) (range wider : Range) → i < length rows →
+    wider ≡ range_with range (map (λ e. e.1) (benefit_row sense n (row_of rows (i + 1)))) →
     range_with wider (values_in (drop (i + 1) (map (benefit_row sense n) rows))) ≡ range_with range (values_in (drop i (map (benefit_row sense n) rows)))
 range_row sense n rows i range wider lt h =
     let rest : List ℤ = values_in (drop (i + 1) (map (benefit_row sense n) rows)) in

@@ -10,7 +10,8 @@ use Rattle.assign_core.proofs.RowLemmas.{IsRow-row_of}
 use Rattle.scaled_values.specs.Scaled.{ScaledProblem, benefits_of, values_in, least_benefit, greatest_benefit, IsBenefitRow, IsBetween}
 use Rattle.scaled_values.proofs.BenefitRange.{least_bounds, greatest_bounds}
 
-pub benefit_row_is : (s : ScaledProblem) (i : ℕ) → IsProblem s.problem → IsNumber (length s.problem) i → IsBenefitRow (length s.problem) (row_of (benefits_of s) i)
+pub benefit_row_is : (s : ScaledProblem) (i : ℕ) → IsProblem s.problem → IsNumber (length s.problem) i →
+    IsBenefitRow (length s.problem) (row_of (benefits_of s) i)
 benefit_row_is s i h number =
     let n = length s.problem in
     let row = row_of s.problem i in
@@ -18,7 +19,9 @@ benefit_row_is s i h number =
     subst (IsBenefitRow n) (sym (row_of-benefits s.sense n s.problem i)) (record {
       rising = IsRising-benefit_row s.sense n row rule.rising;
       within = IsWithin-benefit_row s.sense n n row rule.within;
-      benefits = All-map (λ e. IsBenefit e.1) (λ e. (e.0, benefit s.sense n e.1)) row (All-weaker (λ e. _) (λ e. IsBenefit (benefit s.sense n e.1)) (λ e k. IsBenefit-benefit s.sense n e.1 h.size k) row rule.costs);
+      benefits = All-map (λ e. IsBenefit e.1) (λ e. (e.0, benefit s.sense n e.1)) row
+          (All-weaker (λ e. _) (λ e. IsBenefit (benefit s.sense n e.1))
+          (λ e k. IsBenefit-benefit s.sense n e.1 h.size k) row rule.costs);
     })
 
 split_all : (P : ℤ → Type 0) (row : Listing) (xs : List ℤ) → All P (map (λ e. e.1) row ++ xs) → All (λ e. P e.1) row × All P xs
@@ -40,4 +43,5 @@ both P Q xs h k = λ i d lt. (h i d lt, k i d lt)
 pub benefits_between : (s : ScaledProblem) (i : ℕ) → IsBetween (least_benefit s) (greatest_benefit s) (row_of (benefits_of s) i)
 benefits_between s i =
     values_of_row (λ x. (least_benefit s ≤ℤ x) × (x ≤ℤ greatest_benefit s)) (benefits_of s) i
-    (both (λ x. least_benefit s ≤ℤ x) (λ x. x ≤ℤ greatest_benefit s) (values_in (benefits_of s)) (least_bounds (values_in (benefits_of s))) (greatest_bounds (values_in (benefits_of s))))
+    (both (λ x. least_benefit s ≤ℤ x) (λ x. x ≤ℤ greatest_benefit s) (values_in (benefits_of s))
+    (least_bounds (values_in (benefits_of s))) (greatest_bounds (values_in (benefits_of s))))

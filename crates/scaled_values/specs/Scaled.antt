@@ -1,6 +1,8 @@
 -- A problem with its benefits, the range of the benefits, and what follows from it: the slacknesses of the phases,
 -- the floor and the top.
-use Rattle.std.specs.Prelude.{◌≡◌, ℕ, zero, suc, ℤ, pos, ◌+ℤ◌, ◌-ℤ◌, ◌*ℤ◌, ◌≤ℤ◌, ◌-◌, ◌⊎◌, All, Contains, List, [], ◌∷◌, ◌++◌, Option, None, Some, option_and_then, if◌then◌else◌, length, map, fold, int_div}
+use Rattle.std.specs.Prelude.{◌≡◌, ℕ, zero, suc, ℤ, pos, ◌+ℤ◌, ◌-ℤ◌, ◌*ℤ◌, ◌≤ℤ◌, ◌-◌, ◌⊎◌, All, Contains, List, []}
+use Rattle.std.specs.Prelude.{◌∷◌, ◌++◌, Option, None, Some, option_and_then, if◌then◌else◌, length, map, fold}
+use Rattle.std.specs.Prelude.{int_div}
 use Rattle.std.specs.Int.{int_max, int_min}
 use Rattle.std.specs.Ordering.{int_eq}
 use Rattle.assign_core.specs.declared.sense.Sense.{Sense}

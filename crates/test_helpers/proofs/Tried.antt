@@ -1,5 +1,7 @@
 -- The search that tries each assignment: an optimal one is found among those with each next object.
-use Rattle.std.proofs.Common.{◌≡◌, ℕ, ℤ, pos, ◌<◌, ◌≤◌, ◌+◌, List, [], ◌∷◌, ◌++◌, Option, None, Some, IsSome, MatchOption, length, take, get_or, nat_eq, false, refl, arith, ap, sym, ◌∙◌, subst, ◌⊎◌, inl, inr, add-one, length-append}
+use Rattle.std.proofs.Common.{◌≡◌, ℕ, ℤ, pos, ◌<◌, ◌≤◌, ◌+◌, List, [], ◌∷◌, ◌++◌, Option, None, Some, IsSome}
+use Rattle.std.proofs.Common.{MatchOption, length, take, get_or, nat_eq, false, refl, arith, ap, sym, ◌∙◌, subst}
+use Rattle.std.proofs.Common.{◌⊎◌, inl, inr, add-one, length-append}
 use Rattle.std.specs.Cmp.{IsEquivalence}
 use Rattle.std.specs.List.{AllZip, IsDistinct, Contains, list_any}
 use Rattle.std.proofs.lemmas.Int.{ints}
@@ -85,7 +87,8 @@ narrower rows front row k ys a = elim (eqb_tells a.place k) [
 ]
 
 -- no assignment gives the next person an object of those before
-not_again : (rows : List Listing) (front ys : List ℕ) (j : ℕ) → length front < length rows → Begins rows front ys → Contains front j → j ≡ get_or ys (length front) 0 → ⊥
+not_again : (rows : List Listing) (front ys : List ℕ) (j : ℕ) → length front < length rows → Begins rows front ys →
+    Contains front j → j ≡ get_or ys (length front) 0 → ⊥
 not_again rows front ys j short b c e =
     let n : ℕ = length front in
     let long = assignment_length rows ys b.assigned in
@@ -112,14 +115,16 @@ step_taken sense rows front row k j answer short e c h =
     h
 
 -- an assignment begins with one more object if it begins with these and has this object next
-begins_more : (rows : List Listing) (front ys : List ℕ) (j : ℕ) → length front < length rows → Begins rows front ys → j ≡ get_or ys (length front) 0 → Begins rows (front ++ j ∷ []) ys
+begins_more : (rows : List Listing) (front ys : List ℕ) (j : ℕ) → length front < length rows →
+    Begins rows front ys → j ≡ get_or ys (length front) 0 → Begins rows (front ++ j ∷ []) ys
 begins_more rows front ys j short b e =
     let long = assignment_length rows ys b.assigned in
     let n : length (front ++ j ∷ []) ≡ length front + 1 = length-append front (j ∷ []) in
     let lt : length front < length ys = omega arith in
     record {
       assigned = b.assigned;
-      same = ap (λ i. take i ys) n ∙ take_more ys (length front) 0 lt ∙ ap (λ l. l ++ get_or ys (length front) 0 ∷ []) b.same ∙ ap (λ x. front ++ x ∷ []) (sym e);
+      same = ap (λ i. take i ys) n ∙ take_more ys (length front) 0 lt ∙
+          ap (λ l. l ++ get_or ys (length front) 0 ∷ []) b.same ∙ ap (λ x. front ++ x ∷ []) (sym e);
     }
 
 record IsNext (rows : List Listing) (front ys : List ℕ) (j : ℕ) : Type 0 where
@@ -146,7 +151,8 @@ begins_less rows front ys j b =
           ∙ get_or-take (length front + 1) ys (length front) 0 (omega arith);
     }
 
-pub step_tried : (sense : Sense) (rows : List Listing) (front : List ℕ) (row : Listing) (k j : ℕ) (answer found better : Option (List ℕ)) → length front < length rows →
+pub step_tried : (sense : Sense) (rows : List Listing) (front : List ℕ) (row : Listing) (k j : ℕ)
+    (answer found better : Option (List ℕ)) → length front < length rows →
     j ≡ (get_or row k (0, pos 0)).0 → IsBestSoFar sense rows front row k answer → IsBestIn sense rows (Begins rows (front ++ j ∷ [])) found →
     IsBetterOf sense rows answer found better → IsBestSoFar sense rows front row (k + 1) better
 step_tried sense rows front row k j answer found better short e h f m =
@@ -162,7 +168,8 @@ pub all_tried : (sense : Sense) (rows : List Listing) (front : List ℕ) (row : 
 all_tried sense rows front row k answer short e end h =
     bests_same sense rows (IsAmong rows front row k) (Begins rows front) answer (λ ys a. a.begins)
     (λ ys b.
-    let listed : IsSome (listed_in (get_or rows (length front) []) (get_or ys (length front) 0)) = zip_at (λ row j. IsSome (listed_in row j)) rows ys (length front) [] 0 b.assigned.listed short in
+    let listed : IsSome (listed_in (get_or rows (length front) []) (get_or ys (length front) 0)) =
+    zip_at (λ row j. IsSome (listed_in row j)) rows ys (length front) [] 0 b.assigned.listed short in
     let this : row ≡ get_or rows (length front) [] = e ∙ ap (row_of rows) (add-one (length front)) in
     let p = place_of row (get_or ys (length front) 0) (rw this listed) in
     record { begins = b; place = p.place; below = let l = p.below in omega arith; next = p.object (0, pos 0) })
@@ -195,12 +202,14 @@ longer_front rows front row k j short f e lt o fresh =
       listed =
           subst (λ l. AllZip (λ r i. IsSome (listed_in r i)) l (front ++ j ∷ []))
           (sym (ap (λ i. take i rows) n ∙ take_more rows (length front) [] short))
-          (all_zipped_more (λ r i. IsSome (listed_in r i)) (take (length front) rows) front (get_or rows (length front) []) j f.listed (subst (λ r. IsSome (listed_in r j)) this listed));
+          (all_zipped_more (λ r i. IsSome (listed_in r i)) (take (length front) rows) front
+          (get_or rows (length front) []) j f.listed (subst (λ r. IsSome (listed_in r j)) this listed));
       apart = pushed_apart front j f.apart fresh;
     }
 
 -- the objects of all persons are the only assignment that begins with them
-pub whole_front : (sense : Sense) (rows : List Listing) (front : List ℕ) → length front ≡ length rows → IsFront rows front → IsBestIn sense rows (Begins rows front) (Some front)
+pub whole_front : (sense : Sense) (rows : List Listing) (front : List ℕ) → length front ≡ length rows →
+    IsFront rows front → IsBestIn sense rows (Begins rows front) (Some front)
 whole_front sense rows front long f =
     let all : take (length front) rows ≡ rows = take_all (length front) rows (omega arith) in (
       record {

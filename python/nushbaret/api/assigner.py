@@ -3,17 +3,16 @@ begins."""
 from array import array
 from typing import Any, List, NamedTuple, Optional, Set
 
-from ..costs import reading
+from ..costs import kinds, reading
 from ..costs.limits import GREATEST_COST, MOST_PERSONS
-from ..costs.numbers import of_places
-from ..costs.problem import Problem
+from ..costs.problem import AssignmentProblem
 from ..costs.source import Source
 from ..lap import doubles, library, proved
 from .results import Result
 from .solve import solve
 
-# Floats with so few places are whole numbers of a decimal unit.
-MOST_PLACES = 6
+# Floats with so few decimals are whole numbers of a decimal unit.
+MOST_DECIMALS = 6
 # Whole numbers up to this are doubles.
 _MOST_WHOLE = 2**53
 # From so many costs on an array is worth making.
@@ -115,7 +114,7 @@ class Assigner:
         if self._state is not None:
             for row in self._changed:
                 self._state[0][row] = 0
-        if numbers.places is None:
+        if numbers.decimals is None:
             return self._found_of_doubles(numbers)
         return self._found_of_whole(numbers)
 
@@ -134,18 +133,15 @@ class Assigner:
     def _found_of_doubles(self, numbers: "SquareCosts") -> Optional[proved.ResultParts]:
         n = numbers.n
         objects, prices = self._state or doubles.start(self._maximize, n, n, numbers.flat)
-        try:
-            plan = doubles.search(self._maximize, n, n, numbers.flat, objects, prices)
-        except AttributeError:
-            return None
+        plan = doubles.search(self._maximize, n, n, numbers.flat, objects, prices)
         if plan is None or not plan.by_margin:
             return None
         self._state = objects, prices
         return self._of(numbers, proved.Assignment(n, n, None, array("I", objects), None))
 
     def _of(self, numbers: "SquareCosts", answer: proved.Assignment) -> proved.ResultParts:
-        n, places, flat = numbers.n, numbers.places, numbers.flat
-        shape = Problem(n, n, self._maximize, None, unit=of_places(places or 0), raw=places is None)
+        n, decimals, flat = numbers.n, numbers.decimals, numbers.flat
+        shape = AssignmentProblem(n, n, self._maximize, kinds.shape(decimals))
         own = [flat[place + item] for place, item in zip(range(-1, n * n - 1, n), answer.objects)]
         if not hasattr(self._costs, "dtype"):
             columns = [item - 1 for item in answer.objects]
@@ -157,16 +153,16 @@ class Assigner:
 
 
 class SquareCosts(NamedTuple):
-    """The costs of a square matrix: doubles, or whole numbers of a decimal unit of so many places."""
+    """The costs of a square matrix: doubles, or whole numbers of a decimal unit of so many decimals."""
 
     n: int
-    places: Optional[int]
+    decimals: Optional[int]
     flat: Any
 
     def write(self, row: int, costs: Any) -> bool:
         """Whether a row's other costs are of this kind too; then they stand here."""
         found = doubles_of(costs)
-        own = found if found is None or self.places is None else whole_of(found, self.places)
+        own = found if found is None or self.decimals is None else whole_of(found, self.decimals)
         if own is None:
             return False
         self.flat[self.n * row:self.n * (row + 1)] = own
@@ -184,10 +180,10 @@ def numbers_of(costs: Any) -> Optional[SquareCosts]:
         if own is None:
             return None
         flat.extend(own)
-    for places in range(MOST_PLACES + 1):
-        whole = whole_of(flat, places)
+    for decimals in range(MOST_DECIMALS + 1):
+        whole = whole_of(flat, decimals)
         if whole is not None:
-            return SquareCosts(n, places, whole)
+            return SquareCosts(n, decimals, whole)
     return SquareCosts(n, None, flat)
 
 
@@ -204,9 +200,9 @@ def doubles_of(row: Any) -> Optional[Any]:
     return array("d", row)
 
 
-def whole_of(costs: Any, places: int) -> Optional[Any]:
+def whole_of(costs: Any, decimals: int) -> Optional[Any]:
     """Doubles as whole numbers of a decimal unit, in the library's range; None where one isn't."""
-    power = 10.0**places
+    power = 10.0**decimals
     numpy = reading.loaded_numpy()
     if numpy is None or len(costs) < _FEW:
         return _whole_list(costs, power)

@@ -2,7 +2,7 @@
 from typing import Any, Dict, List, Optional
 
 from ..costs import source as sources
-from ..costs.problem import Problem, in_whole_numbers, kept, listed
+from ..costs.problem import AssignmentProblem, in_whole_numbers, listed, no_worse
 from ..costs.reading import manner
 from ..costs.source import Source
 from ..lap import library
@@ -61,7 +61,7 @@ def _bottleneck(source: Source, partial: bool) -> Result:
     return _best_within(listed(problem if problem.numpy else in_whole_numbers(problem)), served, source)
 
 
-def _best_within(pairs: Problem, served: int, source: Source) -> Result:
+def _best_within(pairs: AssignmentProblem, served: int, source: Source) -> Result:
     """The best plan of so many pairs among those whose worst pair is as good as possible."""
     values = _values(pairs)
     lower, upper, fewest = values.index(_unavoidable(pairs, served, values[0])) - 1, len(values) - 1, pairs
@@ -70,26 +70,27 @@ def _best_within(pairs: Problem, served: int, source: Source) -> Result:
     while upper - lower > 1:
         library.look_at_time()
         middle = (lower + upper) // 2 if is_bounded else min(lower + width, upper - 1)
-        tried = _within(fewest, values[middle])
+        tried = no_worse(fewest, values[middle])
         if most_served(tried) == served:
             upper, fewest, is_bounded = middle, tried, True
         else:
             lower, width = middle, 2 * width
-    result = solve_served(_within(fewest, values[upper]), served, source._replace(worst=pairs.ratio(values[upper])))
-    if result is None or lower >= 0 and solve_served(_within(pairs, values[lower]), served) is not None:
+    worst = pairs.costs.ratio(values[upper])
+    result = solve_served(no_worse(fewest, values[upper]), served, source._replace(worst=worst))
+    if result is None or lower >= 0 and solve_served(no_worse(pairs, values[lower]), served) is not None:
         raise RuntimeError(f"{values[upper]} was found to be the worst cost that is needed, and the library says "
                            "otherwise")
     return result
 
 
-def _values(pairs: Problem) -> List[int]:
+def _values(pairs: AssignmentProblem) -> List[int]:
     """The different costs, the best first."""
-    found = pairs.numpy.unique(pairs.costs) if pairs.numpy else sorted(set(pairs.costs))
+    found = pairs.numpy.unique(pairs.costs.numbers) if pairs.numpy else sorted(set(pairs.costs.numbers))
     values: List[int] = found.tolist() if pairs.numpy else found
     return values[::-1] if pairs.maximize else values
 
 
-def _unavoidable(pairs: Problem, served: int, best: int) -> int:
+def _unavoidable(pairs: AssignmentProblem, served: int, best: int) -> int:
     """A cost that some pair of each plan is at least as bad as: if all rows have a pair, the worst of the rows' best
     costs; the same of columns."""
     worse = min if pairs.maximize else max
@@ -99,23 +100,15 @@ def _unavoidable(pairs: Problem, served: int, best: int) -> int:
     return best
 
 
-def _best_of_each(pairs: Problem, nodes: Any) -> List[int]:
+def _best_of_each(pairs: AssignmentProblem, nodes: Any) -> List[int]:
     """The best cost of each row, or of each column."""
     if pairs.numpy:
         order = nodes.argsort(kind="stable")
         starts = pairs.numpy.flatnonzero(pairs.numpy.diff(nodes[order], prepend=0))
         better = pairs.numpy.maximum if pairs.maximize else pairs.numpy.minimum
-        costs: List[int] = better.reduceat(pairs.costs[order], starts).tolist()
+        costs: List[int] = better.reduceat(pairs.costs.numbers[order], starts).tolist()
         return costs
     least: Dict[int, int] = {}
-    for node, cost in zip(nodes, pairs.costs):
+    for node, cost in zip(nodes, pairs.costs.numbers):
         least[node] = (max if pairs.maximize else min)(cost, least.get(node, cost))
     return list(least.values())
-
-
-def _within(pairs: Problem, worst: int) -> Problem:
-    """The problem without the pairs that are worse than a cost."""
-    if pairs.numpy:
-        return kept(pairs, pairs.costs >= worst if pairs.maximize else pairs.costs <= worst)
-    return kept(pairs, [place for place, cost in enumerate(pairs.costs)
-                        if (cost >= worst if pairs.maximize else cost <= worst)])

@@ -4,7 +4,7 @@ from typing import Any, List, NamedTuple, Optional, Tuple
 
 from ..costs import naming, reading as exact, source as sources
 from ..costs.numbers import exactly_less
-from ..costs.problem import Problem, costs_of_pairs
+from ..costs.problem import AssignmentProblem, costs_of_pairs
 from ..costs.source import Source
 from ..lap.checking import counted
 from ..lap.proved import exact_prices
@@ -29,7 +29,7 @@ class Comparison(NamedTuple):
     result: Result
 
 
-def _pairs_of(problem: Problem, columns: Any, rows: Any) -> List[Tuple[int, int]]:
+def _pairs_of(problem: AssignmentProblem, columns: Any, rows: Any) -> List[Tuple[int, int]]:
     """The pairs of a plan. Each number must be one of the problem, and no row may come twice."""
     of_rows, of_columns = problem.labels or (None, None)
     if rows is None and isinstance(columns, Mapping):

@@ -6,15 +6,16 @@ from typing import Any, Dict, List, Optional, Tuple
 
 from ..costs import naming
 from ..costs.numbers import Number
-from ..costs.problem import Labels, Problem, in_whole_numbers, lists_of
+from ..costs.problem import AssignmentProblem, Labels, in_whole_numbers, lists_of
 from ..costs.reading import manner
 from ..costs.source import lasting, problem_of
 from ..counts.lack import Lack
 from ..counts.nodes import Bounds, Counted, Pair
 from ..counts.planned import missing, planned
 from ..lap import library
+from .frames import frame_of
 from .infeasible import Infeasible, Shortage, numbered
-from .results import Lasting, in_frames
+from .results import Lasting
 
 ONE_AT_MOST = Bounds(0, 1)
 
@@ -112,7 +113,7 @@ class CountsResult(Lasting):
     _found: List[Pair]
     _costs: List[Number]
 
-    def __init__(self, problem: Problem, counted: Counted, pairs: List[Pair]):
+    def __init__(self, problem: AssignmentProblem, counted: Counted, pairs: List[Pair]):
         sign = -1 if problem.maximize else 1
         numbers = [sign * cost for cost in _costs_of(counted, pairs)]
         rows, columns = ([pair[side] for pair in pairs] for side in range(2))
@@ -147,9 +148,7 @@ class CountsResult(Lasting):
         0    0       0     4
         1    0       1     1
         """
-        import pandas  # type: ignore
-        rows, columns = zip(*self.pairs) if self.pairs else ((), ())
-        return pandas.DataFrame({"row": list(rows), "column": list(columns), "cost": in_frames(self._costs)})
+        return frame_of(self.pairs, self._costs)
 
 
 def _costs_of(counted: Counted, pairs: List[Pair]) -> List[int]:
@@ -250,7 +249,8 @@ def _of_labels(values: List[Any], given: List[Optional[int]]) -> int:
     return len(numbers)
 
 
-def _counted(problem: Problem, rows: List[Bounds], columns: List[Bounds], groups: Tuple[List[int], int]) -> Counted:
+def _counted(problem: AssignmentProblem, rows: List[Bounds], columns: List[Bounds],
+             groups: Tuple[List[int], int]) -> Counted:
     """The problem of counts; its costs are to be least."""
     of_rows: List[int] = []
     of_columns: List[int] = []

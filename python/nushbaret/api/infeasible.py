@@ -1,7 +1,7 @@
 """Problems without an assignment: the error, and what it names."""
 from typing import Any, List, NamedTuple, Optional, Tuple
 
-from ..costs.problem import Labels, Problem
+from ..costs.problem import AssignmentProblem, Labels
 from ..lap.matching import short_groups
 
 
@@ -77,7 +77,7 @@ class Infeasible(ValueError):
         return type(self), (self.groups, self._labels)
 
 
-def infeasible(problem: Problem) -> Infeasible:
+def infeasible(problem: AssignmentProblem) -> Infeasible:
     """The proof that a problem which lists its pairs can't be solved."""
     groups = [(problem.numbers(rows), problem.numbers(columns)) for rows, columns in short_groups(problem)]
     return Infeasible(groups, problem.labels)

@@ -1,15 +1,15 @@
 """A best assignment as the caller sees it."""
-import decimal
 from functools import cached_property
 from typing import Any, Dict, Iterable, List, NamedTuple, Optional, Sequence, Tuple, Union
 
-from ..costs.numbers import Number, all_shown
-from ..costs.problem import Problem, costs_of_pairs
+from ..costs.numbers import Number
+from ..costs.problem import AssignmentProblem, costs_of_pairs, renewed
 from ..costs.reading import loaded_numpy, manner, whole_number
 from ..costs.source import FixedProblem, Source, problem_of
 from ..lap import library, proved
 from ..lap.paths import Subproblem
 from ..lap.ranking import Ranking, has_other
+from .frames import frame_of
 from .infeasible import infeasible
 from .solved import SolvedProblem, ratios_of, sum_of, without_lists
 from .verdicts import Verdict, verdict_on
@@ -65,12 +65,12 @@ class Result(Lasting):
     #: Whether this is the greatest sum, not the least.
     maximize: bool
     _source: Union[Source, FixedProblem]
-    _shape: Problem
+    _shape: AssignmentProblem
     _answer: proved.Assignment
     _costs: List[Any]
     _as_arrays: bool
 
-    def __init__(self, source: Union[Source, FixedProblem], problem: Problem, answer: proved.Assignment):
+    def __init__(self, source: Union[Source, FixedProblem], problem: AssignmentProblem, answer: proved.Assignment):
         rows, columns = proved.rows_and_columns(problem, answer)
         costs = costs_of_pairs(problem, rows, columns)
         found = proved.ResultParts(without_lists(problem), answer, rows, columns, costs, problem.arrays is not None)
@@ -94,6 +94,9 @@ class Result(Lasting):
 
     def __getstate__(self) -> Dict[str, Any]:
         return {name: value for name, value in self.__dict__.items() if name != "_solved"}
+
+    def __setstate__(self, state: Dict[str, Any]) -> None:
+        super().__setstate__({**state, "_shape": renewed(state["_shape"])})
 
     def __repr__(self) -> str:
         return f"<nushbaret.Result: cost {self.cost}, {len(self.rows)} pairs>"
@@ -161,7 +164,7 @@ class Result(Lasting):
     def _plan(self, ranking: Ranking, part: Subproblem) -> Plan:
         """The best plan of a part, as the caller sees it."""
         rows, columns = ranking.pairs(part)
-        shown = self._shape.unit if not self._shape.raw else ranking.unit
+        shown = self._shape.costs.unit_shown(ranking.unit)
         cost = ranking.sign * part.cost * shown.denominator // ranking.unit.denominator
         return Plan(self._numbers(rows), self._numbers(columns), shown.shown(cost))
 
@@ -199,12 +202,7 @@ class Result(Lasting):
         0    0       1     1
         1    1       0     2
         """
-        import pandas  # type: ignore
-        shape = self._shape
-        costs: List[Any] = (all_shown(self._solved.ratios, shape.fractions) if shape.raw
-                            else [shape.unit.shown(number) for number, _ in self._solved.ratios])
-        rows, columns = zip(*self.pairs) if self.pairs else ((), ())
-        return pandas.DataFrame({"row": list(rows), "column": list(columns), "cost": in_frames(costs)})
+        return frame_of(self.pairs, self._shape.costs.all_shown(self._solved.ratios))
 
     def verify(self, costs: Any = None, rows: Any = None, columns: Any = None, missing: str = "refuse") -> Verdict:
         """Checks the plan and its duals against a problem.
@@ -278,17 +276,6 @@ class Result(Lasting):
         if isinstance(answer, proved.HallSet):
             raise infeasible(problem)
         return Result(source, problem, answer)
-
-
-def in_frames(costs: List[Any]) -> List[Any]:
-    """Costs as a frame has them: floats in place of Decimals where all print as these."""
-    printed = costs and all(isinstance(cost, decimal.Decimal) and _prints_so(cost) for cost in costs)
-    return list(map(float, costs)) if printed else costs
-
-
-def _prints_so(cost: decimal.Decimal) -> bool:
-    """Whether a float prints as this decimal."""
-    return decimal.Decimal(repr(float(cost))) == cost
 
 
 def numbered(value: Any, labels: Optional[List[Any]], name: str) -> int:

@@ -140,9 +140,10 @@ def plan_roster(costs: Mapping[Named, Any], days: Mapping[str, Union[str, date]]
                                                      for number, (person, day, kind) in enumerate(earlier, 1)]))
     lines = [_line(rule, number) for number, rule in enumerate(rules, 1)]
     ruled = rules_of("rules", lines, roster, month)
-    wish = Request(_fixed(roster, fixed), maximize)
+    request = Request(_fixed(roster, fixed), maximize)
     own = [_own_row(roster, row) for row in rows]
-    answer, proved = answer_by_rules(Task(roster, month._replace(holidays=ruled.holidays), ruled, wish, seconds, own))
+    task = Task(roster, month._replace(holidays=ruled.holidays), ruled, request, seconds, own)
+    answer, proved = answer_by_rules(task)
     pairs = None if answer.plan is None else [(roster.persons[pair.person], roster.objects[pair.object])
                                               for pair in answer.plan.pairs]
     return _result(proved, pairs, None if answer.plan is None else unit.shown(answer.plan.cost),
@@ -196,7 +197,7 @@ def _with_counts(roster: Roster, tasks: Mapping[str, Count], places: Mapping[str
     least = tuple({number: bounds.least for number, bounds in own.items()} for own in (of_persons, of_objects))
     return roster._replace(least=(least[0], least[1]),
                            tasks={number: bounds.most for number, bounds in of_persons.items()},
-                           places={number: bounds.most for number, bounds in of_objects.items()})
+                           capacities={number: bounds.most for number, bounds in of_objects.items()})
 
 
 def _bounds(what: str, numbers: Mapping[str, int], counts: Mapping[str, Count], default: Bounds) -> Dict[int, Bounds]:

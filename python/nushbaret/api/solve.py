@@ -2,7 +2,7 @@
 from typing import Any, Callable, List, Optional, Sequence, Tuple, Union, overload
 
 from ..costs import problem as reading, reading as exact, source as sources
-from ..costs.problem import Problem
+from ..costs.problem import AssignmentProblem
 from ..costs.source import FixedProblem, Source
 from ..lap import direct, library, proved
 from ..lap.solving import Began, most, solved
@@ -14,7 +14,7 @@ Start = Union[Result, Sequence[Any], None]
 Progress = Optional[Callable[[int, int], Any]]
 
 
-def _answer(problem: Problem, start: Start, partial: bool) -> proved.Assignment:
+def _answer(problem: AssignmentProblem, start: Start, partial: bool) -> proved.Assignment:
     began = None if start is None else began_at(problem, start)
     answer = solved(problem, began)
     if not isinstance(answer, proved.HallSet):
@@ -24,7 +24,7 @@ def _answer(problem: Problem, start: Start, partial: bool) -> proved.Assignment:
     return most(problem, began)
 
 
-def began_at(problem: Problem, start: Start) -> Began:
+def began_at(problem: AssignmentProblem, start: Start) -> Began:
     """Where a search begins, from a result or from prices of the caller's. None where those of a result need costs that
     were changed since."""
     if not isinstance(start, Result):
@@ -38,13 +38,13 @@ def began_at(problem: Problem, start: Start) -> Began:
     return proved.WarmStart(proved.exact_prices(problem, prices), *start._solved.pairs)
 
 
-def solve_served(problem: Problem, served: int, source: Optional[Source] = None) -> Optional[Result]:
+def solve_served(problem: AssignmentProblem, served: int, source: Optional[Source] = None) -> Optional[Result]:
     """The best plan of so many pairs; None if the library proves that there is none."""
     answer = solved(problem, None, served)
     return None if isinstance(answer, proved.HallSet) else Result(source or FixedProblem(problem), problem, answer)
 
 
-def solve_problem(problem: Problem, start: Start = None, partial: bool = False,
+def solve_problem(problem: AssignmentProblem, start: Start = None, partial: bool = False,
                   source: Optional[Source] = None) -> Result:
     """The result of a problem; Infeasible where it has no plan and none is to be partial."""
     return Result(source or FixedProblem(problem), problem, _answer(problem, start, partial))
@@ -110,8 +110,6 @@ def solve(costs: Any, maximize: bool = False, decimals: Optional[int] = None, st
         If memory is refused.
     LibraryNotFound
         If the shared library is missing. An OSError.
-    RuntimeError
-        If the library's search finds nothing that its checker accepts. Nobody has seen it.
 
     Notes
     -----

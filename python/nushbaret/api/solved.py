@@ -4,8 +4,8 @@ from functools import cached_property
 from typing import Any, List, Optional, Sequence, Tuple, Union
 
 from ..costs import problem as reading
-from ..costs.numbers import Number, Ratio, Unit, total
-from ..costs.problem import Problem, costs_of_pairs
+from ..costs.numbers import Number, Ratio, Unit
+from ..costs.problem import AssignmentProblem, costs_of_pairs
 from ..costs.source import FixedProblem, Source
 from ..lap import duals as exact_duals, proved
 from ..lap.checking import check_wholly
@@ -16,26 +16,26 @@ CHANGED = ("the costs were changed after the call, and the plan and its duals ar
            "again")
 
 
-def without_lists(problem: Problem) -> Problem:
+def without_lists(problem: AssignmentProblem) -> AssignmentProblem:
     """The problem without its lists, which is small."""
-    return problem._replace(costs=None, persons=None, objects=None, numpy=None, arrays=None)
+    return problem._replace(costs=problem.costs.without_numbers(), persons=None, objects=None, arrays=None)
 
 
-def ratios_of(shape: Problem, costs: Sequence[Any]) -> List[Ratio]:
+def ratios_of(shape: AssignmentProblem, costs: Sequence[Any]) -> List[Ratio]:
     """Costs of a problem, exactly."""
-    return [shape.ratio(cost) for cost in costs]
+    return [shape.costs.ratio(cost) for cost in costs]
 
 
-def sum_of(shape: Problem, ratios: Sequence[Ratio]) -> Number:
+def sum_of(shape: AssignmentProblem, ratios: Sequence[Ratio]) -> Number:
     """The exact sum of some costs of a problem."""
-    return total(ratios, shape.fractions) if shape.raw else shape.unit.shown(sum(number for number, _ in ratios))
+    return shape.costs.total(ratios)
 
 
 class SolvedProblem:
     """A problem that a call solved: where its costs are, the problem without its lists, the library's answer, and the
     costs of the plan's pairs, as they were at the call."""
 
-    def __init__(self, source: Union[Source, FixedProblem], shape: Problem, answer: proved.Assignment,
+    def __init__(self, source: Union[Source, FixedProblem], shape: AssignmentProblem, answer: proved.Assignment,
                  costs: List[Any]):
         self.source, self.shape, self.answer, self.costs = source, shape, answer, costs
 
@@ -51,17 +51,17 @@ class SolvedProblem:
 
     @property
     def decimals(self) -> Optional[int]:
-        """To how many places the costs were rounded, if they were."""
+        """To how many decimals the costs were rounded, if they were."""
         return self.source.manner.decimals if isinstance(self.source, Source) else None
 
-    def read_again(self) -> Problem:
+    def read_again(self) -> AssignmentProblem:
         """The problem of the call; ValueError if the plan's pairs have other costs now."""
         problem = self.source.read()
         if (problem.n_rows, problem.n_columns) != (self.shape.n_rows, self.shape.n_columns):
             raise ValueError(CHANGED)
         now = costs_of_pairs(problem, *self.pairs)
-        if None in now or [Fraction(*problem.ratio(cost)) for cost in now] != [Fraction(*ratio)
-                                                                               for ratio in self.ratios]:
+        if None in now or [Fraction(*problem.costs.ratio(cost)) for cost in now] != [Fraction(*ratio)
+                                                                                     for ratio in self.ratios]:
             raise ValueError(CHANGED)
         return problem
 
@@ -94,7 +94,7 @@ class SolvedProblem:
         duals, unit = self.duals
         return [Fraction(rent, unit.denominator) for rent in proved.rents(duals)]
 
-    def checked(self) -> Problem:
+    def checked(self) -> AssignmentProblem:
         """The problem of the call; ValueError unless the duals prove that the plan is best for its costs as they are
         now."""
         problem = self.read_again()
@@ -102,11 +102,11 @@ class SolvedProblem:
             raise ValueError(CHANGED)
         return problem
 
-    def ranking(self, problem: Optional[Problem] = None) -> Ranking:
+    def ranking(self, problem: Optional[AssignmentProblem] = None) -> Ranking:
         """The plans of the problem, from this one on. Without a problem it is that of the call, checked."""
         return Ranking(problem or self.checked(), self.pairs, self.ratios, *self.duals)
 
-    def without(self, row: int, column: int) -> Tuple[Union[Source, FixedProblem], Problem, Outcome]:
+    def without(self, row: int, column: int) -> Tuple[Union[Source, FixedProblem], AssignmentProblem, Outcome]:
         """The problem with one pair forbidden, and the library's answer. The search begins at the prices and the other
         pairs."""
         less = reading.without_pair(self.checked(), row, column)
@@ -118,6 +118,6 @@ class SolvedProblem:
         return FixedProblem(less), less, answer
 
 
-def _cost_of(problem: Problem, answer: proved.Assignment) -> Number:
+def _cost_of(problem: AssignmentProblem, answer: proved.Assignment) -> Number:
     """What the plan of an answer costs."""
     return sum_of(problem, ratios_of(problem, costs_of_pairs(problem, *proved.pairs_of(problem, answer))))

@@ -2,7 +2,7 @@
 from fractions import Fraction
 from typing import List, Optional, Sequence
 
-from ..costs.problem import Problem
+from ..costs.problem import AssignmentProblem
 from ..lap.checking import check_wholly
 
 
@@ -36,6 +36,7 @@ class Verdict:
         return "<nushbaret.Verdict: proved>" if self.proved else f"<nushbaret.Verdict: not proved: {self.why}>"
 
 
-def verdict_on(problem: Problem, rows: Sequence[int], columns: Sequence[int], prices: List[Fraction]) -> Verdict:
+def verdict_on(problem: AssignmentProblem, rows: Sequence[int], columns: Sequence[int],
+               prices: List[Fraction]) -> Verdict:
     """The verdict on a plan whose rows and columns are numbers of the problem, no row twice."""
     return Verdict(*check_wholly(problem, rows, columns, prices))

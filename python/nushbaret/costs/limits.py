@@ -21,7 +21,7 @@ class BorrowedNumbers:
 
     def __init__(self, view: memoryview):
         self.held = (ctypes.c_char * view.nbytes).from_buffer(view)
-        self.place = ctypes.addressof(self.held)
+        self.address = ctypes.addressof(self.held)
         self.count = view.nbytes // 8
 
     def __len__(self) -> int:

@@ -14,26 +14,26 @@ _EXACT = decimal.Context(prec=decimal.MAX_PREC, Emax=decimal.MAX_EMAX, Emin=deci
 
 
 class Unit(NamedTuple):
-    """A part of 1: numbers are whole multiples of 1 / denominator. With `places` it is 10**-places, and what is shown
-    is an int or a Decimal; without, it is a Fraction."""
+    """A part of 1: numbers are whole multiples of 1 / denominator. With `decimals` it is 10**-decimals, and what is
+    shown is an int or a Decimal; without, it is a Fraction."""
 
     denominator: int
-    places: Optional[int]
+    decimals: Optional[int]
 
     def shown(self, number: int) -> Number:
         """A whole number of units, exactly."""
-        if self.places is None:
+        if self.decimals is None:
             return Fraction(number, self.denominator)
-        if not self.places:
+        if not self.decimals:
             return number
-        return _EXACT.scaleb(decimal.Decimal(number), -self.places)
+        return _EXACT.scaleb(decimal.Decimal(number), -self.decimals)
 
 
-def of_places(places: int) -> Unit:
-    return Unit(10**places, places)
+def of_decimals(decimals: int) -> Unit:
+    return Unit(10**decimals, decimals)
 
 
-ONE = of_places(0)
+ONE = of_decimals(0)
 
 
 def ratio_of(value: Any, doubles: bool) -> Ratio:
@@ -64,7 +64,7 @@ def rounded(ratio: Ratio, shift: int) -> int:
     return (2 * number + denominator) // (2 * denominator)
 
 
-def _places_of(denominator: int) -> Optional[int]:
+def _decimals_of(denominator: int) -> Optional[int]:
     """The least power of ten that a denominator divides; None where none does."""
     twos = (denominator & -denominator).bit_length() - 1
     rest, fives = denominator >> twos, 0
@@ -80,8 +80,8 @@ def unit_of(ratios: Iterable[Ratio], as_fraction: bool = False) -> Unit:
     for _, own in ratios:
         if denominator % own:
             denominator = denominator * own // math.gcd(denominator, own)
-    places = None if as_fraction else _places_of(denominator)
-    return Unit(denominator, None) if places is None else of_places(places)
+    decimals = None if as_fraction else _decimals_of(denominator)
+    return Unit(denominator, None) if decimals is None else of_decimals(decimals)
 
 
 def in_unit(ratio: Ratio, unit: Unit) -> int:
@@ -106,7 +106,7 @@ def exactly_less(first: Number, second: Number) -> Number:
     if isinstance(first, Fraction) or isinstance(second, Fraction):
         return Fraction(first) - Fraction(second)
     ratios = [first.as_integer_ratio(), second.as_integer_ratio()]
-    places = max(-int(value.as_tuple().exponent) if isinstance(value, decimal.Decimal) else 0
+    decimals = max(-int(value.as_tuple().exponent) if isinstance(value, decimal.Decimal) else 0
                  for value in (first, second))
-    unit = of_places(max(places, 0))
+    unit = of_decimals(max(decimals, 0))
     return unit.shown(in_unit(ratios[0], unit) - in_unit(ratios[1], unit))

@@ -17,16 +17,16 @@ from .limits import FEW
 # The letters in `struct` of floats of so many bytes.
 _LETTER = {2: "e", 4: "f"}
 _LETTERS = frozenset(_LETTER.values())
-# With so many places a float times the power of ten is exact as a double, and so is the test of what the quotient
+# With so many decimals a float times the power of ten is exact as a double, and so is the test of what the quotient
 # rounds to.
-_MOST_PLACES = 12
-_POWERS = [float(10**places) for places in range(_MOST_PLACES + 1)]
-# Smaller floats of 32 bits may have more places.
+_MOST_DECIMALS = 12
+_POWERS = [float(10**decimals) for decimals in range(_MOST_DECIMALS + 1)]
+# Smaller floats of 32 bits may have more decimals.
 _LEAST = 1e-4
 # Where a float of 24 bits is so great once it is multiplied, the nearest whole number is nearer to it than to any other
 # float.
 _ENOUGH = 2.0**25
-# The places of the middle one of so many are tried first.
+# The decimals of the middle one of so many are tried first.
 _SOME = 7
 # Of all floats of 16 bits only this one prints as a decimal that isn't the nearest of its digits: a power of two has a
 # nearer neighbour below. Floats of 32 bits have none from _LEAST on.
@@ -113,7 +113,7 @@ def _read(numpy: Any, floats: Any, found: Any, odd: Any) -> None:
 
 
 def _tried(numpy: Any, floats: Any, wide: Any, power: Any) -> Tuple[Any, Any]:
-    """Floats rounded to some decimal places, and which of them print as these decimals or shorter ones."""
+    """Floats rounded to some decimals, and which of them print as these decimals or shorter ones."""
     decimals = wide * power
     numpy.rint(decimals, decimals)
     decimals /= power
@@ -121,17 +121,17 @@ def _tried(numpy: Any, floats: Any, wide: Any, power: Any) -> Tuple[Any, Any]:
 
 
 def _of_few(numpy: Any, floats: Any, wide: Any, least: float) -> Any:
-    """Tries all numbers of places at once that sizes from `least` on may have. Smaller ones may need more. Whole
-    numbers are the same with one place."""
+    """Tries all numbers of decimals at once that sizes from `least` on may have. Smaller ones may need more. Whole
+    numbers are the same with one decimal."""
     most = bisect_left(_POWERS, _ENOUGH / least)
     decimals, fit = _tried(numpy, floats, wide, _powers_of(numpy)[1:most + 1])
-    # A float that fits does so with more places too, and each one with the most.
+    # A float that fits does so with more decimals too, and each one with the most.
     fewer = numpy.add.reduce(fit[:-1], axis=0, dtype=numpy.int8)
     return decimals[~fewer, numpy.arange(len(floats))]
 
 
 def _of_many(numpy: Any, floats: Any, wide: Any, _: float) -> Any:
-    """Tries the places that some have, and then fewer for those that fit and more for the others."""
+    """Tries the decimals that some have, and then fewer for those that fit and more for the others."""
     # Mostly the first is like the next ones, but not where a diagonal has zeros.
     some = _tried(numpy, floats[:_SOME], wide[:_SOME], _powers_of(numpy))[1].argmax(axis=0)
     start = sorted(some.tolist())[_SOME // 2]
@@ -142,14 +142,14 @@ def _of_many(numpy: Any, floats: Any, wide: Any, _: float) -> Any:
         few = fit_too.nonzero()[0]
         left = left.take(few)
         found[left] = decimals.take(few)
-    _try_more_places(numpy, floats, wide, found, (~fit).nonzero()[0], start)
+    _try_more_decimals(numpy, floats, wide, found, (~fit).nonzero()[0], start)
     return found
 
 
-def _try_more_places(numpy: Any, floats: Any, wide: Any, found: Any, left: Any, start: int) -> None:
-    """Tries more places for those that are left."""
-    for places in range(start + 1, _MOST_PLACES + 1):
+def _try_more_decimals(numpy: Any, floats: Any, wide: Any, found: Any, left: Any, start: int) -> None:
+    """Tries more decimals for those that are left."""
+    for decimals in range(start + 1, _MOST_DECIMALS + 1):
         if not len(left):
             return
-        found[left], fit = _tried(numpy, floats.take(left), wide.take(left), _POWERS[places])
+        found[left], fit = _tried(numpy, floats.take(left), wide.take(left), _POWERS[decimals])
         left = left.take((~fit).nonzero()[0])

@@ -1,16 +1,15 @@
-"""A problem of rows and columns, as the caller gave it, with its costs in whole numbers."""
-import math
+"""A problem of rows and columns, read from what the caller gave: a matrix, a frame, a sparse matrix or lists."""
 import operator
 import sys
 from array import array
 from fractions import Fraction
 from itertools import compress
-from typing import Any, Dict, Iterable, List, NamedTuple, Optional, Sequence, Tuple
+from typing import Any, Dict, Iterable, List, NamedTuple, Optional, Sequence, Tuple, Union
 
 from . import naming, parts, printing, reading as exact
+from .kinds import AnyWholeNumbers, Costs, Doubles, ExactNumbers, WholeNumbers, chosen, plain, whole_numbers
 from .limits import MOST_PERSONS, BorrowedNumbers
-from .numbers import ONE, Ratio, Unit, in_unit, ratio_of, unit_of
-
+from .numbers import ONE, Ratio, Unit
 
 Labels = Optional[Tuple[List[Any], List[Any]]]
 
@@ -19,15 +18,58 @@ class TooLarge(ValueError):
     """A problem that is too large for the library: it has too many rows, columns or nodes, or too great costs."""
 
 
-class Problem(NamedTuple):
-    """Costs in a unit. Dense: all costs in order, and `persons` is None. Sparse: row persons[k] - 1 and column
-    objects[k] - 1 are a pair at costs[k].
+class AssignmentProblem(NamedTuple):
+    """Rows and columns with the costs of their pairs. Dense: those of all pairs in order, and `persons` is None.
+    Sparse: row persons[k] - 1 and column objects[k] - 1 are a pair at the cost k. Persons and objects are arrays of
+    NumPy's if the costs are one.
 
-    Where `raw` is false, costs are whole numbers. Else they are an array of doubles or a list of exact numbers; floats
-    are then what they are if `doubles` is true, and the decimals that they print as if not. `numpy` is the module if
-    the lists are its arrays, and `arrays` if answers are to be. `fractions` says that a cost was given as a Fraction;
-    `labels` are those of the rows and columns of a frame of pandas, and `most` is the greatest size of doubles, where
-    it is known."""
+    `arrays` is NumPy's module if answers are to be arrays; `labels` are those of the rows and columns of a frame of
+    pandas."""
+
+    n_rows: int
+    n_columns: int
+    maximize: bool
+    costs: Costs
+    persons: Any = None
+    objects: Any = None
+    arrays: Any = None
+    labels: Labels = None
+
+    @property
+    def numpy(self) -> Any:
+        """NumPy's module if the costs are an array of it."""
+        return self.costs.numpy
+
+    @property
+    def unit(self) -> Unit:
+        """The unit of the costs."""
+        return self.costs.unit
+
+    def matrix_of_doubles(self) -> Optional[Doubles]:
+        """The costs of all pairs, if they are doubles in an array; else None."""
+        return self.costs.as_doubles() if self.persons is None else None
+
+    def place(self, place: int) -> Tuple[int, int]:
+        """Row and column of a place in the list of costs."""
+        if self.persons is None:
+            return divmod(place, self.n_columns)
+        return int(self.persons[place]) - 1, int(self.objects[place]) - 1
+
+    def numbers(self, values: Sequence[int]) -> Any:
+        """Row or column numbers, as an array if the costs are one."""
+        return values if self.arrays is None else self.arrays.array(values, self.arrays.intp)
+
+    def row_name(self, row: int) -> Any:
+        """A row's label, or else its number."""
+        return self.labels[0][row] if self.labels else row
+
+    def column_name(self, column: int) -> Any:
+        """A column's label, or else its number."""
+        return self.labels[1][column] if self.labels else column
+
+
+class Problem(NamedTuple):
+    """A problem as releases up to 4.1 pickled it. `raw` says that costs are no whole numbers of the unit."""
 
     n_rows: int
     n_columns: int
@@ -44,29 +86,18 @@ class Problem(NamedTuple):
     labels: Labels = None
     most: Optional[float] = None
 
-    def place(self, place: int) -> Tuple[int, int]:
-        """Row and column of a place in the list of costs."""
-        if self.persons is None:
-            return divmod(place, self.n_columns)
-        return int(self.persons[place]) - 1, int(self.objects[place]) - 1
 
-    def numbers(self, values: Sequence[int]) -> Any:
-        """Row or column numbers, as an array if the costs are one."""
-        return values if self.arrays is None else self.arrays.array(values, self.arrays.intp)
-
-    def ratio(self, cost: Any) -> Ratio:
-        """A cost of the list, exactly."""
-        if not self.raw or self.unit != ONE:
-            return int(cost), self.unit.denominator
-        return ratio_of(cost, self.doubles)
-
-    def row_name(self, row: int) -> Any:
-        """A row's label, or else its number."""
-        return self.labels[0][row] if self.labels else row
-
-    def column_name(self, column: int) -> Any:
-        """A column's label, or else its number."""
-        return self.labels[1][column] if self.labels else column
+def renewed(problem: Union[AssignmentProblem, Problem]) -> AssignmentProblem:
+    """A problem from a pickle of any release."""
+    if isinstance(problem, AssignmentProblem):
+        return problem
+    held, is_list = (problem.costs, problem.unit, problem.fractions), isinstance(problem.costs, list)
+    if problem.raw:
+        costs: Costs = ExactNumbers(*held, doubles=problem.doubles)
+    else:
+        costs = AnyWholeNumbers(*held) if is_list else WholeNumbers(*held)
+    found = AssignmentProblem(*problem[:3], costs, problem.persons, problem.objects, None, problem.labels)
+    return once(found) if is_list and found.persons is not None else found
 
 
 def _place_in(n_columns: int, labels: Labels) -> exact.Where:
@@ -133,8 +164,8 @@ def native(view: memoryview) -> memoryview:
     return held.cast(kind, list(view.shape or ()))
 
 
-def _of_view(view: memoryview, manner: exact.Manner) -> Problem:
-    """Of a memoryview of two dimensions: lent if it has the library's own kind of numbers."""
+def _of_view(view: memoryview, manner: exact.Manner) -> AssignmentProblem:
+    """Of a memoryview of two dimensions: borrowed if it has the library's own kind of numbers."""
     if view.ndim != 2:
         raise ValueError(f"expected a matrix (2-D array), got a {view.ndim} array")
     n_rows, n_columns = view.shape or (0, 0)
@@ -143,14 +174,14 @@ def _of_view(view: memoryview, manner: exact.Manner) -> Problem:
     kind = view.format
     own = kind in ("q", "l") and view.itemsize == 8 and view.c_contiguous and not view.readonly
     if own and not manner.decimals and view.nbytes:
-        return Problem(n_rows, n_columns, manner.maximize, BorrowedNumbers(view))
+        return AssignmentProblem(n_rows, n_columns, manner.maximize, WholeNumbers(BorrowedNumbers(view)))
     rows: Any = view.tolist()
     if kind in ("e", "f") and not manner.doubles:
         rows = [[printing.shortest(cost, kind) for cost in row] for row in rows]
     return _dense(n_rows, n_columns, manner, exact.of_rows(rows, n_columns, manner, _place_in(n_columns, None)))
 
 
-def _of_array(numpy: Any, costs: Any, manner: exact.Manner, labels: Labels) -> Problem:
+def _of_array(numpy: Any, costs: Any, manner: exact.Manner, labels: Labels) -> AssignmentProblem:
     costs = numpy.asanyarray(costs)
     if costs.ndim != 2:
         raise ValueError(f"expected a matrix (2-D array), got a {costs.ndim} array")
@@ -160,17 +191,15 @@ def _of_array(numpy: Any, costs: Any, manner: exact.Manner, labels: Labels) -> P
     return _dense(n_rows, n_columns, manner, read)._replace(arrays=numpy, labels=labels)
 
 
-def _dense(n_rows: int, n_columns: int, manner: exact.Manner, read: exact.ReadCosts) -> Problem:
+def _dense(n_rows: int, n_columns: int, manner: exact.Manner, read: exact.ReadCosts) -> AssignmentProblem:
     """The problem of all pairs but the forbidden ones."""
-    whole = Problem(n_rows, n_columns, manner.maximize, read.numbers, None, None, read.unit, read.raw, manner.doubles,
-                    read.numpy, None, read.fractions, None, read.most)
     if not len(read.forbidden):
-        return whole
-    numbers, persons, objects = _without_forbidden(n_rows, n_columns, read)
-    return whole._replace(costs=numbers, persons=persons, objects=objects)
+        return AssignmentProblem(n_rows, n_columns, manner.maximize, read.costs)
+    costs, persons, objects = _without_forbidden(n_rows, n_columns, read)
+    return AssignmentProblem(n_rows, n_columns, manner.maximize, costs, persons, objects)
 
 
-def _read_matrix(costs: Any, manner: exact.Manner) -> Problem:
+def _read_matrix(costs: Any, manner: exact.Manner) -> AssignmentProblem:
     numpy = exact.numpy_of(costs)
     if numpy:
         return _of_array(numpy, costs, manner, None)
@@ -186,7 +215,7 @@ def _read_matrix(costs: Any, manner: exact.Manner) -> Problem:
     return _dense(len(rows), n_columns, manner, exact.of_rows(rows, n_columns, manner, _place_in(n_columns, None)))
 
 
-def of_matrix(costs: Any, manner: exact.Manner) -> Problem:
+def of_matrix(costs: Any, manner: exact.Manner) -> AssignmentProblem:
     """The problem of a matrix. ValueError and TypeError name what is wrong, with row and column from 0."""
     if hasattr(costs, "tocsr") and not manner.doubles:
         return of_sparse_matrix(costs, manner)
@@ -197,18 +226,11 @@ def of_matrix(costs: Any, manner: exact.Manner) -> Problem:
                      (list(costs.index), list(costs.columns)))
 
 
-def plain(values: Any) -> Any:
-    """A list of the problem's in a form whose items can be indexed one by one."""
-    if hasattr(values, "held"):
-        return memoryview(values.held).cast("B").cast("q")
-    return values.reshape(-1) if hasattr(values, "reshape") else values
-
-
-def costs_of_pairs(problem: Problem, rows: Any, columns: Any) -> List[Any]:
+def costs_of_pairs(problem: AssignmentProblem, rows: Any, columns: Any) -> List[Any]:
     """The costs of some pairs, no two of one row; None where one is forbidden. Of a pair that is given several times
     the least."""
     if problem.persons is None:
-        costs = plain(problem.costs)
+        costs = plain(problem.costs.numbers)
         if problem.numpy:
             places = problem.numpy.asarray(rows, problem.numpy.intp) * problem.n_columns + columns
             return list(costs[places.astype(problem.numpy.intp)].tolist())
@@ -219,7 +241,7 @@ def costs_of_pairs(problem: Problem, rows: Any, columns: Any) -> List[Any]:
     return [least.get(row + 1) for row in map(int, rows)]
 
 
-def _listed_of_pairs(problem: Problem, rows: Any, columns: Any) -> Iterable[Tuple[int, Any]]:
+def _listed_of_pairs(problem: AssignmentProblem, rows: Any, columns: Any) -> Iterable[Tuple[int, Any]]:
     """The persons and costs of listed pairs that are among some pairs, no two of one row."""
     if problem.numpy:
         own = problem.numpy.zeros(problem.n_rows + 1, problem.numpy.uint32)
@@ -227,54 +249,40 @@ def _listed_of_pairs(problem: Problem, rows: Any, columns: Any) -> Iterable[Tupl
                                                                                          problem.numpy.intp) + 1
         persons, objects = problem.persons, problem.objects
         places = parts.places_where(problem.numpy, len(persons), lambda part: own[persons[part]] == objects[part])
-        return zip(persons[places].tolist(), plain(problem.costs)[places].tolist())
+        return zip(persons[places].tolist(), problem.costs.numbers[places].tolist())
     numbers = [0] * (problem.n_rows + 1)
     for row, column in zip(rows, columns):
         numbers[row + 1] = column + 1
     listed_persons = problem.persons.tolist()
     wanted = map(operator.eq, map(numbers.__getitem__, listed_persons), problem.objects.tolist())
-    return compress(zip(listed_persons, listed_costs(problem)), wanted)
+    return compress(zip(listed_persons, problem.costs.listed()), wanted)
 
 
-def listed_costs(problem: Problem) -> List[Any]:
-    """The costs as a list of Python's."""
-    costs = plain(problem.costs)
-    return costs if isinstance(costs, list) else list(costs.tolist())
+def in_whole_numbers(problem: AssignmentProblem) -> AssignmentProblem:
+    """The same problem with whole numbers for its costs, of 64 bits or of any size."""
+    costs = problem.costs.in_whole_numbers()
+    return problem if costs is problem.costs else in_lists(problem, costs)
 
 
-def owned(problem: Problem) -> Problem:
-    """The problem with costs that the caller can't change."""
-    if isinstance(problem.costs, BorrowedNumbers):
-        return problem._replace(costs=array("q", bytes(problem.costs.held)))
-    return problem._replace(costs=problem.costs.copy()) if problem.numpy else problem
+def in_lists(problem: AssignmentProblem, costs: Costs) -> AssignmentProblem:
+    """The problem with other costs, in a list of Python's."""
+    if problem.numpy and problem.persons is not None:
+        problem = problem._replace(persons=array("I", problem.persons.tolist()),
+                                   objects=array("I", problem.objects.tolist()))
+    return problem._replace(costs=costs)
 
 
-def in_whole_numbers(problem: Problem) -> Problem:
-    """The same problem with whole numbers of any size for its costs, in the unit of all."""
-    if not problem.raw:
-        return problem
-    if problem.unit != ONE:
-        return problem._replace(raw=False)
-    ratios = [problem.ratio(cost) for cost in listed_costs(problem)]
-    unit = unit_of(set((1, denominator) for _, denominator in ratios), problem.fractions)
-    costs: Any = [in_unit(ratio, unit) for ratio in ratios]
-    persons, objects = problem.persons, problem.objects
-    if problem.numpy and persons is not None:
-        persons, objects = array("I", persons.tolist()), array("I", objects.tolist())
-    return problem._replace(costs=costs, persons=persons, objects=objects, unit=unit, raw=False, numpy=None)
-
-
-def lists_of(problem: Problem) -> List[Tuple[Sequence[int], Any]]:
+def lists_of(problem: AssignmentProblem) -> List[Tuple[Sequence[int], Any]]:
     """The columns of each row, rising, and their costs, to be minimised."""
     n_rows, n_columns, sign = problem.n_rows, problem.n_columns, -1 if problem.maximize else 1
     if problem.persons is None:
-        costs = plain(problem.costs)
+        costs = plain(problem.costs.numbers)
         if problem.maximize:
             costs = _negated(costs)
         view, columns = costs if isinstance(costs, list) else memoryview(costs), range(n_columns)
         return [(columns, view[row * n_columns:(row + 1) * n_columns]) for row in range(n_rows)]
     held: List[Dict[int, int]] = [{} for _ in range(n_rows)]
-    for person, item, cost in zip(problem.persons.tolist(), problem.objects.tolist(), listed_costs(problem)):
+    for person, item, cost in zip(problem.persons.tolist(), problem.objects.tolist(), problem.costs.listed()):
         row = held[person - 1]
         row[item - 1] = min(cost, row.get(item - 1, cost))
     return [(sorted(row), [sign * row[column] for column in sorted(row)]) for row in held]
@@ -287,7 +295,7 @@ def _negated(costs: Any) -> Any:
     return [-cost for cost in costs.tolist()] if hasattr(costs, "tolist") else list(map(operator.neg, costs))
 
 
-def listed(problem: Problem) -> Problem:
+def listed(problem: AssignmentProblem) -> AssignmentProblem:
     """A dense problem as a sparse one."""
     if problem.persons is not None:
         return problem
@@ -299,45 +307,27 @@ def listed(problem: Problem) -> Problem:
     persons, objects = array("I"), array("I", range(1, n_columns + 1)) * n_rows
     for row in range(1, n_rows + 1):
         persons.extend(array("I", [row]) * n_columns)
-    costs = problem.costs if isinstance(problem.costs, (array, list)) else array("q", bytes(problem.costs.held))
-    return problem._replace(costs=costs, persons=persons, objects=objects)
+    return problem._replace(costs=problem.costs.owned(), persons=persons, objects=objects)
 
 
-def _chosen(values: Any, places: Any) -> Any:
-    """The values at some places, in a list of the same kind."""
-    if isinstance(values, list):
-        return [values[place] for place in places]
-    return array(values.typecode, [values[place] for place in places]) if isinstance(values, array) else values[places]
-
-
-def kept(problem: Problem, places: Any) -> Problem:
+def kept(problem: AssignmentProblem, places: Any) -> AssignmentProblem:
     """A problem of listed pairs with those at some places alone."""
-    costs, persons, objects = (_chosen(values, places) for values in (problem.costs, problem.persons, problem.objects))
-    return problem._replace(costs=costs, persons=persons, objects=objects, most=None)
+    return problem._replace(costs=problem.costs.at(places), persons=chosen(problem.persons, places),
+                            objects=chosen(problem.objects, places))
 
 
-def within(problem: Problem, worst: Ratio) -> Problem:
+def within(problem: AssignmentProblem, worst: Ratio) -> AssignmentProblem:
     """The problem without the pairs that are worse than a cost."""
-    bound = Fraction(*worst)
-    if not problem.numpy:
-        problem = in_whole_numbers(problem)
-    problem = listed(problem)
-    # The nearest double is the one that prints as this decimal.
-    most: Any = float(bound) if problem.raw else (math.ceil if problem.maximize
-                                                  else math.floor)(bound * problem.unit.denominator)
-    if problem.numpy and not problem.raw:
-        # Of 64 bits, since NumPy would compare others as doubles.
-        least, greatest = -2**63, 2**63 - 1
-        if not least <= most <= greatest:
-            return (problem if (most < least) == problem.maximize
-                    else kept(problem, problem.numpy.arange(0, dtype=problem.numpy.intp)))
-    if problem.numpy:
-        return kept(problem, problem.costs >= most if problem.maximize else problem.costs <= most)
-    return kept(problem, [place for place, cost in enumerate(problem.costs)
-                          if (cost >= most if problem.maximize else cost <= most)])
+    problem = listed(problem if problem.numpy else in_whole_numbers(problem))
+    return no_worse(problem, problem.costs.bound(Fraction(*worst), problem.maximize))
 
 
-def without_pair(problem: Problem, row: int, column: int) -> Problem:
+def no_worse(pairs: AssignmentProblem, bound: Any) -> AssignmentProblem:
+    """A problem of listed pairs without those that are worse than a bound of its costs."""
+    return kept(pairs, pairs.costs.no_worse(bound, pairs.maximize))
+
+
+def without_pair(problem: AssignmentProblem, row: int, column: int) -> AssignmentProblem:
     """The problem with one pair less."""
     problem = listed(problem)
     if problem.numpy:
@@ -348,18 +338,18 @@ def without_pair(problem: Problem, row: int, column: int) -> Problem:
 
 def _without_forbidden(n_rows: int, n_columns: int, read: exact.ReadCosts) -> Tuple[Any, Any, Any]:
     """Costs, persons and objects of the pairs that aren't forbidden."""
-    numpy = read.numpy
+    numpy = read.costs.numpy
     if numpy:
         allowed = numpy.ones(n_rows * n_columns, bool)
         allowed[numpy.asarray(read.forbidden, numpy.intp)] = False
         places = numpy.flatnonzero(allowed)
         persons, objects = numpy.divmod(places, n_columns)
-        return read.numbers[places], (persons + 1).astype(numpy.uint32), (objects + 1).astype(numpy.uint32)
+        return read.costs.at(places), (persons + 1).astype(numpy.uint32), (objects + 1).astype(numpy.uint32)
     forbidden = set(map(int, read.forbidden))
     places = [place for place in range(n_rows * n_columns) if place not in forbidden]
     persons = array("I", [place // n_columns + 1 for place in places])
     objects = array("I", [place % n_columns + 1 for place in places])
-    return _chosen(read.numbers, places), persons, objects
+    return read.costs.at(places), persons, objects
 
 
 def _numbered(values: Any, most: int, what: str) -> Any:
@@ -410,7 +400,8 @@ def _pair_costs(costs: Any, manner: exact.Manner, where: exact.Where) -> exact.R
     return exact.of_rows([costs], len(costs), manner, where)
 
 
-def of_pairs(n_rows: Any, n_columns: Any, rows: Any, columns: Any, costs: Any, manner: exact.Manner) -> Problem:
+def of_pairs(n_rows: Any, n_columns: Any, rows: Any, columns: Any, costs: Any,
+             manner: exact.Manner) -> AssignmentProblem:
     """The problem of listed pairs, whose costs may be infinite or None to forbid a pair after all."""
     n_rows, n_columns = exact.whole_number(n_rows, "n_rows"), exact.whole_number(n_columns, "n_columns")
     _judge_size(n_rows, n_columns)
@@ -423,27 +414,23 @@ def of_pairs(n_rows: Any, n_columns: Any, rows: Any, columns: Any, costs: Any, m
         return f"costs[{place}]{pair}"
 
     read = _pair_costs(costs, manner, where)
-    if not len(persons) == len(objects) == len(read.numbers):
+    costs = read.costs.in_array(arrays) if arrays else read.costs
+    if not len(persons) == len(objects) == len(costs):
         raise ValueError(f"rows, columns and costs must be of one length: they have {len(persons)}, {len(objects)} and "
-                         f"{len(read.numbers)}")
-    numpy = read.numpy or (arrays if not read.raw else None)
-    lists = [persons, objects, read.numbers]
-    if numpy:
-        lists = [numpy.asarray(values, kind) for values, kind in zip(lists,
-                                                                     ("uint32", "uint32",
-                                                                      "float64" if read.raw else "int64"))]
-    elif exact.numpy_of(persons) or exact.numpy_of(objects):
-        lists[:2] = array("I", map(int, persons)), array("I", map(int, objects))
-    problem = Problem(n_rows, n_columns, manner.maximize, lists[2], lists[0], lists[1], read.unit, read.raw,
-                      manner.doubles, numpy, arrays, read.fractions)
+                         f"{len(costs)}")
+    if costs.numpy:
+        persons, objects = costs.numpy.asarray(persons, "uint32"), costs.numpy.asarray(objects, "uint32")
+    elif arrays:
+        persons, objects = array("I", map(int, persons)), array("I", map(int, objects))
+    problem = AssignmentProblem(n_rows, n_columns, manner.maximize, costs, persons, objects, arrays)
     if len(read.forbidden):
         forbidden = set(map(int, read.forbidden))
         problem = kept(problem, [place for place in range(len(persons)) if place not in forbidden])
     # The library would take the greatest cost of a pair under maximize.
-    return once(problem) if problem.raw or manner.maximize else problem
+    return problem if costs.of_64_bits() is not None and not manner.maximize else once(problem)
 
 
-def once(problem: Problem) -> Problem:
+def once(problem: AssignmentProblem) -> AssignmentProblem:
     """The problem in which a pair that is given several times has its least cost alone."""
     if problem.numpy:
         places = _places_once(problem)
@@ -459,14 +446,14 @@ def once(problem: Problem) -> Problem:
     return kept(problem, sorted(least.values()))
 
 
-def _places_once(problem: Problem) -> Any:
+def _places_once(problem: AssignmentProblem) -> Any:
     """The places of the first of the least costs of each pair, rising; None where no pair is given twice. Doubles are
     in the order of the decimals that they print as."""
     numpy = problem.numpy
     keys = (problem.persons.astype(numpy.int64) - 1) * problem.n_columns + problem.objects - 1
     if (keys[1:] > keys[:-1]).all() or _are_different(numpy, keys, problem.n_rows * problem.n_columns):
         return None
-    order = numpy.lexsort((problem.costs, keys))
+    order = numpy.lexsort((problem.costs.numbers, keys))
     return numpy.sort(order[numpy.diff(keys[order], prepend=-1) > 0])
 
 
@@ -480,13 +467,14 @@ def _are_different(numpy: Any, keys: Any, most: int) -> bool:
     return bool(numpy.count_nonzero(seen) == len(keys))
 
 
-def _is_less(problem: Problem, place: int, other: int) -> bool:
-    (number, denominator), (others, other_denominator) = (problem.ratio(plain(problem.costs)[place]),
-                                                          problem.ratio(plain(problem.costs)[other]))
+def _is_less(problem: AssignmentProblem, place: int, other: int) -> bool:
+    costs = problem.costs
+    (number, denominator), (others, other_denominator) = (costs.ratio(costs.numbers[place]),
+                                                          costs.ratio(costs.numbers[other]))
     return number * other_denominator < others * denominator
 
 
-def of_sparse_matrix(matrix: Any, manner: exact.Manner) -> Problem:
+def of_sparse_matrix(matrix: Any, manner: exact.Manner) -> AssignmentProblem:
     """The problem of a sparse matrix of SciPy's, whose stored entries are its pairs, also those that are 0."""
     once = getattr(matrix, "has_canonical_format", False)
     entries = matrix.tocoo(copy=not once)
@@ -497,10 +485,7 @@ def of_sparse_matrix(matrix: Any, manner: exact.Manner) -> Problem:
 
 
 def of_whole_numbers(n_rows: int, n_columns: int, rows: Sequence[int], columns: Sequence[int],
-                     costs: Sequence[int]) -> Problem:
+                     costs: Sequence[int]) -> AssignmentProblem:
     """The problem of listed pairs, none twice, numbered from 0, at whole costs of any size; the sum is to be least."""
     persons, objects = (array("I", [number + 1 for number in numbers]) for numbers in (rows, columns))
-    try:
-        return Problem(n_rows, n_columns, False, array("q", costs), persons, objects)
-    except OverflowError:
-        return Problem(n_rows, n_columns, False, costs, persons, objects, raw=True)
+    return AssignmentProblem(n_rows, n_columns, False, whole_numbers(costs), persons, objects)

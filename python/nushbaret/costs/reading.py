@@ -1,4 +1,4 @@
-"""How costs are read. Costs with few decimal places become whole numbers, all multiplied by one power of ten. Any
+"""How costs are read. Costs with few decimals become whole numbers, all multiplied by one power of ten. Any
 others stay as they are: doubles of an array, or a list of exact numbers."""
 import decimal
 import math
@@ -11,13 +11,14 @@ from fractions import Fraction
 from itertools import chain
 from typing import Any, Callable, List, NamedTuple, NoReturn, Optional, Tuple
 
-from . import parts, printing
+from . import kinds, parts, printing
 from .limits import FEW, GREATEST_COST, Numbers
-from .numbers import ONE, Ratio, Unit, in_unit, of_places, ratio_of, unit_of
+from .numbers import ONE, Ratio, in_unit, of_decimals, ratio_of, unit_of
+from .rounding import size_of
 
-# With so many places at most, costs are made whole before they are solved.
-MOST_PLACES = 6
-# Costs may be rounded to so many places at most. A double prints with at most 340.
+# With so many decimals at most, costs are made whole before they are solved.
+MOST_UNIT_DECIMALS = 6
+# Costs may be rounded to so many decimals at most. A double prints with at most 340.
 MOST_DECIMALS = 1000
 FORBID = "forbid"
 _PLAIN = frozenset((int, float, bool, type(None)))
@@ -32,7 +33,7 @@ Where = Callable[[int], str]
 
 
 class Manner(NamedTuple):
-    """How costs are read: rounded to `decimals` places, or exactly where that is None. `forbid_nan` takes NaN as
+    """How costs are read: rounded to so many `decimals`, or exactly where that is None. `forbid_nan` takes NaN as
     forbidden, and `doubles` floats as what they are, not as the decimals that they print as, and texts as SciPy's call
     does."""
 
@@ -48,18 +49,10 @@ class Manner(NamedTuple):
 
 
 class ReadCosts(NamedTuple):
-    """Costs in their order, in a unit; `forbidden` has the places of those that forbid their pair, where a 0 stands.
-    Where `raw` is false they are whole numbers of 64 bits, else an array of doubles or a list of exact numbers. `numpy`
-    is the module where they are an array of it, `fractions` says that one was a Fraction, and `most` is the greatest
-    size of doubles, where it is known."""
+    """Costs, and the places of those that forbid their pair, where a 0 stands."""
 
-    numbers: Any
+    costs: kinds.Costs
     forbidden: Any = ()
-    unit: Unit = ONE
-    raw: bool = False
-    numpy: Any = None
-    fractions: bool = False
-    most: Optional[float] = None
 
 
 def loaded_numpy() -> Any:
@@ -113,7 +106,7 @@ def refuse_kind(where: str, value: Any) -> NoReturn:
 
 
 def is_nan(value: Any) -> bool:
-    """Whether a value is NaN, or what pandas has in its place."""
+    """Whether a value is NaN, or what pandas has instead."""
     if isinstance(value, decimal.Decimal):
         return value.is_nan()
     return isinstance(value, float) and value != value or type(value).__name__ in ("NAType", "NaTType")
@@ -183,7 +176,7 @@ def of_rows(rows: Any, length: int, manner: Manner, where: Where) -> ReadCosts:
         rows, length = [list(chain.from_iterable(rows))], length * len(rows)
     packed = None if manner.decimals else _packed(rows, length)
     if packed is not None:
-        return ReadCosts(packed)
+        return ReadCosts(kinds.WholeNumbers(packed))
     numpy = loaded_numpy()
     read = _by_array(numpy, rows, length, manner, where) if numpy and length * len(rows) > FEW else None
     if read is not None:
@@ -223,18 +216,18 @@ def _by_array(numpy: Any, rows: Any, length: int, manner: Manner, where: Where) 
 def _of_numbers(found: List[Any], forbidden: List[int], manner: Manner) -> ReadCosts:
     """The costs of exact numbers: whole ones of 64 bits where one unit makes them whole."""
     if manner.decimals is not None:
-        found = [_to_places(value, manner.decimals, manner.doubles) for value in found]
-        unit = of_places(manner.decimals)
-        try:
-            return ReadCosts(array("q", found), forbidden, unit)
-        except OverflowError:
-            return ReadCosts(found, forbidden, unit, True)
+        found = [_to_decimals(value, manner.decimals, manner.doubles) for value in found]
+        unit = of_decimals(manner.decimals)
+        return ReadCosts(kinds.whole_numbers(found, unit), forbidden)
     fractions = any(type(value) is Fraction for value in found)
     ratios = [ratio_of(value, manner.doubles) for value in found]
-    return _in_one_unit(ratios, forbidden, fractions) or ReadCosts(found, forbidden, ONE, True, None, fractions)
+    costs = _in_one_unit(ratios, fractions)
+    if costs is None:
+        costs = kinds.ExactNumbers(found, fractions=fractions, doubles=manner.doubles)
+    return ReadCosts(costs, forbidden)
 
 
-def _in_one_unit(ratios: List[Ratio], forbidden: List[int], fractions: bool) -> Optional[ReadCosts]:
+def _in_one_unit(ratios: List[Ratio], fractions: bool) -> Optional[kinds.Costs]:
     """Costs as whole numbers in the unit of all; None where that is too small for the library's range."""
     denominators = {denominator for _, denominator in ratios}
     if max(denominators, default=1) > GREATEST_COST:
@@ -248,15 +241,15 @@ def _in_one_unit(ratios: List[Ratio], forbidden: List[int], fractions: bool) -> 
     if unit != ONE and max((abs(number) for number in whole), default=0) > GREATEST_COST:
         return None
     try:
-        return ReadCosts(array("q", whole), forbidden, unit, False, None, fractions)
+        return kinds.WholeNumbers(array("q", whole), unit, fractions)
     except OverflowError:
         return None
 
 
-def _to_places(value: Any, places: int, doubles: bool) -> int:
-    """A number times 10**places, rounded to the nearest whole number, halves to even ones."""
+def _to_decimals(value: Any, decimals: int, doubles: bool) -> int:
+    """A number times 10**decimals, rounded to the nearest whole number, halves to even ones."""
     number, denominator = ratio_of(value, doubles)
-    whole, rest = divmod(number * 10**places, denominator)
+    whole, rest = divmod(number * 10**decimals, denominator)
     return int(whole) + int(2 * rest > denominator or 2 * rest == denominator and whole % 2 == 1)
 
 
@@ -272,19 +265,19 @@ def _packed(rows: Any, length: int) -> Optional[Numbers]:
     return numbers_
 
 
-def _pack(pack: Callable[..., None], numbers_: Numbers, place: int, row: Any) -> None:
+def _pack(pack: Callable[..., None], numbers_: Numbers, offset: int, row: Any) -> None:
     """Writes a row of whole numbers, or one of floats that hold whole numbers. An `array` would take floats as well,
     and in Python 3.9 cut off what stands after the point."""
     try:
-        pack(numbers_, place, *row)
+        pack(numbers_, offset, *row)
     except struct.error:
         if not all(map(float.is_integer, row)) or max(max(row), -min(row)) >= _MOST_WHOLE:
             raise
-        pack(numbers_, place, *map(int, row))
+        pack(numbers_, offset, *map(int, row))
 
 
 def _of_plain(values: List[Any], manner: Manner) -> Optional[ReadCosts]:
-    """The costs of a list of ints, floats and None; None where they have too many places, or one is out of range or
+    """The costs of a list of ints, floats and None; None where they have too many decimals, or one is out of range or
     NaN."""
     forbids = manner.forbids
     forbidden = [place for place, value in enumerate(values)
@@ -292,34 +285,34 @@ def _of_plain(values: List[Any], manner: Manner) -> Optional[ReadCosts]:
     for place in forbidden:
         values[place] = 0
     try:
-        numbers_, places = _scaled_plain(values)
+        numbers_, decimals = _scaled_plain(values)
     except (OverflowError, ValueError):
         return None
     if numbers_ and max(max(numbers_), -min(numbers_)) > GREATEST_COST:
         return None
-    return ReadCosts(numbers_, forbidden, of_places(places))
+    return ReadCosts(kinds.WholeNumbers(numbers_, of_decimals(decimals)), forbidden)
 
 
 def _scaled_plain(values: List[Any]) -> Tuple[Numbers, int]:
     """The numbers times the least power of ten that makes all whole, and which one that is."""
-    numbers_, places = array("q"), 0
+    numbers_, decimals = array("q"), 0
     for begin in range(0, len(values), FEW):
-        before = places
-        whole, places = _block_scaled(values[begin:begin + FEW], places)
-        if places > before:
-            numbers_ = array("q", [number * 10**(places - before) for number in numbers_])
+        before = decimals
+        whole, decimals = _block_scaled(values[begin:begin + FEW], decimals)
+        if decimals > before:
+            numbers_ = array("q", [number * 10**(decimals - before) for number in numbers_])
         numbers_.extend(whole)
-    return numbers_, places
+    return numbers_, decimals
 
 
 def _block_scaled(block: List[Any], least: int) -> Tuple[Numbers, int]:
-    """As `_scaled_plain`, with `least` places or more. What `_least_places` says holds here too."""
-    for places in range(least, MOST_PLACES + 1):
-        power = 10**places
+    """As `_scaled_plain`, with `least` decimals or more. What `_least_decimals` says holds here too."""
+    for decimals in range(least, MOST_UNIT_DECIMALS + 1):
+        power = 10**decimals
         whole = array("q", [round(value * power) for value in block])
         if [number / power for number in whole] == block:
-            return whole, places
-    raise ValueError(f"more than {MOST_PLACES} decimal places")
+            return whole, decimals
+    raise ValueError(f"more than {MOST_UNIT_DECIMALS} decimal places")
 
 
 def of_array(numpy: Any, values: Any, manner: Manner, where: Where) -> ReadCosts:
@@ -395,21 +388,20 @@ def _of_values(numpy: Any, flat: Any, manner: Manner, where: Where) -> ReadCosts
         return _of_float_array(numpy, flat, manner, where)
     if kind in "Of":
         read = of_list([*flat], manner, where)
-        return read if read.raw or read.numpy else read._replace(numbers=numpy.array(read.numbers, numpy.int64),
-                                                                 numpy=numpy)
+        return read._replace(costs=read.costs.in_array(numpy))
     raise TypeError(f"Cannot cast array data from {flat.dtype!r} to dtype('float64') according to the rule 'safe': "
                     "costs must be numbers")
 
 
 def _of_whole_array(numpy: Any, flat: Any, manner: Manner, where: Where) -> ReadCosts:
-    places = manner.decimals or 0
-    if flat.size and (places or flat.dtype.kind == "u"):
+    decimals = manner.decimals or 0
+    if flat.size and (decimals or flat.dtype.kind == "u"):
         # As Python's numbers, since NumPy compares whole numbers of two kinds as doubles.
-        most = GREATEST_COST // 10**places if places else _MOST_64
+        most = GREATEST_COST // 10**decimals if decimals else _MOST_64
         if not (int(flat.min()) >= -most and int(flat.max()) <= most):
             return _of_numbers(flat.tolist(), [], manner)
     numbers_ = flat.astype(numpy.int64, copy=not flat.flags.aligned)
-    return ReadCosts(numbers_ * 10**places if places else numbers_, (), of_places(places), False, numpy)
+    return _whole_array(numpy, numbers_ * 10**decimals if decimals else numbers_, decimals)
 
 
 def _of_float_array(numpy: Any, flat: Any, manner: Manner, where: Where) -> ReadCosts:
@@ -418,15 +410,20 @@ def _of_float_array(numpy: Any, flat: Any, manner: Manner, where: Where) -> Read
     wide = flat.astype(numpy.float64, copy=not flat.flags.aligned)
     found = None if manner.decimals else whole_numbers(numpy, wide)
     if found is not None:
-        return ReadCosts(found, (), ONE, False, numpy)
+        return _whole_array(numpy, found)
     wide, forbidden, most = _finite(numpy, wide, manner, where)
     if manner.decimals is not None:
         return _rounded_array(numpy, wide, forbidden, manner)
-    places = None if manner.doubles and not len(forbidden) else _least_places(numpy, wide,
-                                                                              0 if manner.doubles else MOST_PLACES)
-    if places is not None and size_of(wide) * 10.0**places <= GREATEST_COST:
-        return ReadCosts(_scaled_array(numpy, wide, places), forbidden, of_places(places), False, numpy)
-    return ReadCosts(wide, forbidden, ONE, True, numpy, False, most)
+    most_decimals = 0 if manner.doubles else MOST_UNIT_DECIMALS
+    decimals = None if manner.doubles and not len(forbidden) else _least_decimals(numpy, wide, most_decimals)
+    if decimals is not None and size_of(wide) * 10.0**decimals <= GREATEST_COST:
+        return _whole_array(numpy, _scaled_array(numpy, wide, decimals), decimals, forbidden)
+    return ReadCosts(kinds.Doubles(wide, numpy, manner.doubles, most), forbidden)
+
+
+def _whole_array(numpy: Any, whole: Any, decimals: int = 0, forbidden: Any = ()) -> ReadCosts:
+    """Whole numbers of a decimal unit, in an array of NumPy's."""
+    return ReadCosts(kinds.WholeNumbers(whole, of_decimals(decimals), False, numpy), forbidden)
 
 
 def _finite(numpy: Any, flat: Any, manner: Manner, where: Where) -> Tuple[Any, Any, Optional[float]]:
@@ -444,17 +441,12 @@ def _finite(numpy: Any, flat: Any, manner: Manner, where: Where) -> Tuple[Any, A
     return numpy.where(infinite, 0.0, flat), numpy.flatnonzero(infinite), None
 
 
-def size_of(flat: Any) -> float:
-    """The greatest size of doubles; not finite where one isn't. (A dot product would start threads.)"""
-    return max(float(flat.max()), -float(flat.min())) if flat.size else 0.0
-
-
 def _rounded_array(numpy: Any, flat: Any, forbidden: Any, manner: Manner) -> ReadCosts:
-    places = manner.decimals or 0
-    if places <= MOST_PLACES and size_of(flat) * 10.0**places <= GREATEST_COST:
-        whole = _scaled_array(numpy, flat, places)
-        _round_halves(numpy, flat, whole, places, manner.doubles)
-        return ReadCosts(whole, forbidden, of_places(places), False, numpy)
+    decimals = manner.decimals or 0
+    if decimals <= MOST_UNIT_DECIMALS and size_of(flat) * 10.0**decimals <= GREATEST_COST:
+        whole = _scaled_array(numpy, flat, decimals)
+        _round_halves(numpy, flat, whole, decimals, manner.doubles)
+        return _whole_array(numpy, whole, decimals, forbidden)
     return _of_numbers(flat.tolist(), forbidden, manner)
 
 
@@ -478,38 +470,38 @@ def whole_numbers(numpy: Any, flat: Any) -> Any:
     return numbers_
 
 
-def _scaled_array(numpy: Any, flat: Any, places: int) -> Any:
-    """Floats times 10**places, rounded to the nearest whole numbers."""
-    return parts.filled(numpy, numpy.int64, len(flat), lambda part: numpy.rint(flat[part] * 10.0**places))
+def _scaled_array(numpy: Any, flat: Any, decimals: int) -> Any:
+    """Floats times 10**decimals, rounded to the nearest whole numbers."""
+    return parts.filled(numpy, numpy.int64, len(flat), lambda part: numpy.rint(flat[part] * 10.0**decimals))
 
 
-def _least_places(numpy: Any, flat: Any, most: int) -> Optional[int]:
+def _least_decimals(numpy: Any, flat: Any, most: int) -> Optional[int]:
     """The least power of ten that makes all whole; None where that is beyond 10**most, or some are too great. Two
     decimals of at most 15 digits are never one float, so that equality after the division shows the decimal that a
     float prints as."""
     if size_of(flat) > GREATEST_COST:
         return None
     # Mostly a few of them show that this is beyond it.
-    places = _more_places(numpy, flat[::max(len(flat) // _SAMPLE, 1)], 0, most)
+    decimals = _more_decimals(numpy, flat[::max(len(flat) // _SAMPLE, 1)], 0, most)
     for part in parts.parts(len(flat)):
-        if places is not None:
-            places = _more_places(numpy, flat[part], places, most)
-    return places
+        if decimals is not None:
+            decimals = _more_decimals(numpy, flat[part], decimals, most)
+    return decimals
 
 
-def _more_places(numpy: Any, left: Any, least: int, most: int) -> Optional[int]:
+def _more_decimals(numpy: Any, left: Any, least: int, most: int) -> Optional[int]:
     """The least power of ten, from 10**least to 10**most, that makes some floats whole."""
-    for places in range(least, most + 1):
-        power = 10.0**places
+    for decimals in range(least, most + 1):
+        power = 10.0**decimals
         left = left[numpy.rint(left * power) / power != left]
         if not left.size:
-            return places
+            return decimals
     return None
 
 
-def _round_halves(numpy: Any, flat: Any, whole: Any, places: int, doubles: bool) -> None:
+def _round_halves(numpy: Any, flat: Any, whole: Any, decimals: int, doubles: bool) -> None:
     """Rounds those near a half again, as decimals."""
-    product = flat * 10.0**places
+    product = flat * 10.0**decimals
     half = numpy.abs(numpy.abs(product - numpy.floor(product)) - 0.5) < 0.001
     for place in numpy.flatnonzero(half):
-        whole[place] = _to_places(float(flat[place]), places, doubles)
+        whole[place] = _to_decimals(float(flat[place]), decimals, doubles)

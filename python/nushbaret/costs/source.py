@@ -4,7 +4,7 @@ from typing import Any, NamedTuple, Optional, Tuple
 
 from . import problem as reading, reading as exact
 from .numbers import Ratio
-from .problem import Problem
+from .problem import AssignmentProblem
 
 
 def lasting(costs: Any) -> Any:
@@ -34,7 +34,7 @@ class Source(NamedTuple):
     less: Tuple[Tuple[int, int], ...] = ()
     worst: Optional[Ratio] = None
 
-    def read(self) -> Problem:
+    def read(self) -> AssignmentProblem:
         """The problem, as its costs are now."""
         problem = problem_of(self.costs, self.rows, self.columns, self.sizes, self.manner)
         for row, column in self.less:
@@ -48,11 +48,11 @@ class Source(NamedTuple):
 class FixedProblem(NamedTuple):
     """A problem that nobody else can change."""
 
-    problem: Problem
+    problem: AssignmentProblem
 
-    def read(self) -> Problem:
+    def read(self) -> AssignmentProblem:
         """The problem."""
-        return self.problem
+        return reading.renewed(self.problem)
 
 
 def _portable(values: Any) -> Any:
@@ -66,7 +66,8 @@ def _portable(values: Any) -> Any:
     return reading.native(memoryview(values)).tolist()
 
 
-def problem_of(costs: Any, rows: Any, columns: Any, sizes: Optional[Tuple[Any, Any]], manner: exact.Manner) -> Problem:
+def problem_of(costs: Any, rows: Any, columns: Any, sizes: Optional[Tuple[Any, Any]],
+               manner: exact.Manner) -> AssignmentProblem:
     """The problem of a matrix, of a sparse matrix, or of listed pairs. If sizes are given, it must have these."""
     if (rows is None) != (columns is None):
         raise TypeError("rows and columns of listed pairs are given together")

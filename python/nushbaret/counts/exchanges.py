@@ -1,4 +1,4 @@
-"""How plans by counts differ: who could change places at no cost, and what the best other plan costs.
+"""How plans by counts differ: who could swap at no cost, and what the best other plan costs.
 
 Two plans differ by rounds of changes. In a graph of rows, row groups of groups and columns, an arrow leads from a row
 to a column that it could take, and back where it has it. One more vertex is where rows and columns that may take more,

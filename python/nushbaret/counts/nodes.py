@@ -1,9 +1,9 @@
 """Plans in which rows and columns count from so many to so many, by assignment.
 
-A row of at most k columns has k copies, and a column of at most k rows k places. The first ones, as many as the least
+A row of at most k columns has k copies, and a column of at most k rows k slots. The first ones, as many as the least
 count, must be matched; the others may stay out, and fillers are matched with those that do. A transshipment (Orden
 1956) lets a row take at most one of a group of columns: two nodes that must be matched, one that each copy of the row
-lists, and one that lists the places of the group at their costs. Both list each other, for a row that takes none. A
+lists, and one that lists the slots of the group at their costs. Both list each other, for a row that takes none. A
 pair counts once by a transshipment for its column alone. Where a transshipment lists fewer pairs than the copies would,
 it is made at once; any other one when a plan without it breaks the rule."""
 from array import array
@@ -59,48 +59,48 @@ class Served(NamedTuple):
 
 
 class Trimmed(NamedTuple):
-    """The copies of each row and the places of each column, which are no more than pairs allow; and the places of each
+    """The copies of each row and the slots of each column, which are no more than pairs allow; and the slots of each
     row group of a group of several columns."""
 
     rows: List[Bounds]
     columns: List[Bounds]
-    places: Dict[RowGroup, int]
+    slots: Dict[RowGroup, int]
 
 
 class TooManyNodes(TooLarge):
     """Counts need more nodes than the library takes: how many columns rows may take, how many rows columns may take,
     how many rules of at most one there are, and the nodes of all that."""
 
-    def __init__(self, copies: int, places: int, rules: int, nodes: int):
-        self.copies, self.places, self.rules, self.nodes = copies, places, rules, nodes
+    def __init__(self, copies: int, slots: int, rules: int, nodes: int):
+        self.copies, self.slots, self.rules, self.nodes = copies, slots, rules, nodes
         super().__init__(self.said("columns that rows may take", "rows that columns may take"))
 
-    def said(self, copies: str, places: str) -> str:
+    def said(self, copies: str, slots: str) -> str:
         """The fault and what helps, in the words of the caller."""
-        return (f"{self.copies} {copies}, {self.places} {places} and {self.rules} rules of at most one need "
+        return (f"{self.copies} {copies}, {self.slots} {slots} and {self.rules} rules of at most one need "
                 f"{self.nodes} nodes, and {MOST_PERSONS} can be had: lower the greatest counts, forbid more pairs, or "
                 "split the problem, as by weeks")
 
     def __reduce__(self) -> Tuple[Any, ...]:
-        return type(self), (self.copies, self.places, self.rules, self.nodes)
+        return type(self), (self.copies, self.slots, self.rules, self.nodes)
 
 
 def trimmed(counted: Counted) -> Trimmed:
     """The counts without what can't be used; TooManyNodes if the rest alone needs too many."""
     columns = _cut(counted.column_bounds, Counter(counted.columns))
-    of_rows, held = Counter(counted.rows), _places_of_row_groups(counted, columns)
+    of_rows, held = Counter(counted.rows), _slots_of_row_groups(counted, columns)
     if held:
         of_rows.subtract(row for row, group in counted.row_groups() if group < counted.n_groups)
         of_rows.update(row for row, _ in held)
     rows = _cut(counted.row_bounds, of_rows)
-    copies, places = (sum(bound.most for bound in bounds) for bounds in (rows, columns))
-    if max(copies, places) > MOST_PERSONS:
-        raise TooManyNodes(copies, places, 0, max(copies, places))
+    copies, slots = (sum(bound.most for bound in bounds) for bounds in (rows, columns))
+    if max(copies, slots) > MOST_PERSONS:
+        raise TooManyNodes(copies, slots, 0, max(copies, slots))
     return Trimmed(rows, columns, held)
 
 
-def _places_of_row_groups(counted: Counted, columns: List[Bounds]) -> Dict[RowGroup, int]:
-    """How many places each row group has, of the groups that were given."""
+def _slots_of_row_groups(counted: Counted, columns: List[Bounds]) -> Dict[RowGroup, int]:
+    """How many slots each row group has, of the groups that were given."""
     held: Dict[RowGroup, int] = {}
     if counted.n_groups:
         for row_group, column in zip(counted.row_groups(), counted.columns):
@@ -199,7 +199,7 @@ class _Lists:
 
 class NodeProblem(NamedTuple):
     """A problem of nodes. `of_rows` has the rows of copies, and then of transshipments; `of_columns` the columns of
-    places. What comes after these are transshipments and fillers."""
+    slots. What comes after these are transshipments and fillers."""
 
     of_rows: List[int]
     of_columns: List[int]
@@ -238,20 +238,20 @@ class _Builder:
         """How many nodes the longer side has with so many transshipments."""
         return max(self.sizes(self.shape(transshipments), transshipments))
 
-    def places(self, row_group: RowGroup) -> int:
+    def slots(self, row_group: RowGroup) -> int:
         """How many nodes a row could take of a group, if nothing kept it from that."""
         row, group = row_group
-        return (self.cut.places[row_group] if group < self.counted.n_groups
+        return (self.cut.slots[row_group] if group < self.counted.n_groups
                 else self.cut.columns[group - self.counted.n_groups].most)
 
     def spare(self) -> Iterator[RowGroup]:
-        """The row groups whose transshipments list fewer pairs than copies and places do."""
+        """The row groups whose transshipments list fewer pairs than copies and slots do."""
         seen = set()
         for row_group in self.counted.row_groups():
             copies = self.cut.rows[row_group[0]].most
             if copies > 1 and row_group not in seen:
-                places = self.places(row_group)
-                if copies * places > copies + places + 1:
+                slots = self.slots(row_group)
+                if copies * slots > copies + slots + 1:
                     seen.add(row_group)
                     yield row_group
 
@@ -267,20 +267,20 @@ class _Builder:
         """The nodes with the transshipments made so far."""
         shape = self.shape(len(self.transshipments))
         n_rows, n_columns = self.sizes(shape, len(self.transshipments))
-        copies, places = len(self.rows.owners), len(self.columns.owners)
+        copies, slots = len(self.rows.owners), len(self.columns.owners)
         lists = _Lists()
         self._list_pairs(lists)
         for (row, _), number in self.transshipments.items():
-            entry = range(places + number, places + number + 1)
+            entry = range(slots + number, slots + number + 1)
             lists.add(self.rows.nodes[row], entry)
             lists.add(range(copies + number, copies + number + 1), entry)
         self._fill(lists, shape, range(copies + len(self.transshipments), n_rows),
-                   range(places + len(self.transshipments), n_columns))
+                   range(slots + len(self.transshipments), n_columns))
         return NodeProblem(self.rows.owners + [row for row, _ in self.transshipments], self.columns.owners, n_rows,
                            n_columns, lists)
 
     def _list_pairs(self, lists: _Lists) -> None:
-        """Lists the copies of each row, or its transshipment, with the places of columns."""
+        """Lists the copies of each row, or its transshipment, with the slots of columns."""
         copies, rows, columns, transshipments = (len(self.rows.owners), self.rows.nodes, self.columns.nodes,
                                                  self.transshipments)
         for place, (row_group, column) in enumerate(zip(self.counted.row_groups(), self.counted.columns)):
@@ -310,13 +310,13 @@ def _at_once(builder: _Builder, counted: Counted) -> List[RowGroup]:
     row_groups = list(builder.spare())
     if builder.most(len(row_groups)) <= AT_ONCE:
         return row_groups
-    room = max(0, LIKELY - builder.most(1))
+    spare = max(0, LIKELY - builder.most(1))
     of_rows, of_columns = _averages(counted.rows, counted.costs), _averages(counted.columns, counted.costs)
     likely: Dict[RowGroup, int] = {}
     for row_group, column, cost in zip(counted.row_groups(), counted.columns, counted.costs):
         more = cost - of_rows[row_group[0]] - of_columns[column]
         likely[row_group] = min(more, likely.get(row_group, more))
-    return sorted(row_groups, key=likely.__getitem__)[:room]
+    return sorted(row_groups, key=likely.__getitem__)[:spare]
 
 
 def _averages(numbers: Sequence[int], costs: Sequence[int]) -> Dict[int, int]:

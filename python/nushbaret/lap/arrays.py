@@ -1,12 +1,12 @@
 """Levels over NumPy's arrays: what `reduced` and `levels` do to lists, with all pairs at a time."""
 import math
 import sys
-from array import array
 from typing import Any, List, Tuple
 
 from ..costs import parts
-from ..costs.problem import Problem
-from ..costs.reading import size_of
+from ..costs.kinds import Doubles
+from ..costs.orientation import own_place
+from ..costs.problem import AssignmentProblem
 from . import proved
 from .level import Level, Pairs
 
@@ -14,56 +14,11 @@ from .level import Level, Pairs
 BLOCK = 2**14
 # Whole numbers of 64 bits stay below this, so that sums of two don't overflow.
 MOST_BITS = 61
-# Beyond these powers of two a factor may be no double.
-MOST_SHIFT = 900
 
 
-def rounded(problem: Problem, bits: int) -> Tuple[Any, int]:
-    """Costs of at most so many bits, and the shift that made them so."""
-    costs = problem.costs
-    if not problem.raw:
-        most = max(int(costs.max()).bit_length(), int(costs.min()).bit_length())
-        shift = min(0, bits - most)
-        if not shift:
-            return costs, 0
-        return (costs >> -shift) + (costs >> -shift - 1 & 1), shift
-    shift = shift_of(problem, bits)
-    return whole_of(problem.numpy, costs, shift), shift
-
-
-def shift_of(problem: Problem, bits: int) -> int:
-    """The shift that gives the greatest of a problem's doubles so many bits."""
-    return bits - math.frexp(_most(problem))[1]
-
-
-def _most(problem: Problem) -> float:
-    return size_of(problem.costs) if problem.most is None else problem.most
-
-
-def is_extreme(problem: Problem) -> bool:
+def is_extreme(costs: Doubles) -> bool:
     """Whether the greatest cost is so small or so great that a unit, or a sum, may be no double."""
-    return not -850 < math.frexp(_most(problem))[1] < 1000
-
-
-def as_list(problem: Problem) -> Problem:
-    """The problem with lists of Python's."""
-    if problem.persons is not None:
-        problem = problem._replace(persons=array("I", problem.persons.tolist()),
-                                   objects=array("I", problem.objects.tolist()))
-    return problem._replace(costs=problem.costs.tolist(), numpy=None, most=None)
-
-
-def whole_of(numpy: Any, costs: Any, shift: int) -> Any:
-    """Doubles times 2**shift, rounded to the nearest whole numbers, which have less than 51 bits."""
-    if not -MOST_SHIFT < shift < MOST_SHIFT:
-        return numpy.rint(numpy.ldexp(costs, shift)).astype(numpy.int64)
-    # Whatever is added to this double is rounded at its last place, and the bits of the sum count these places.
-    adder = numpy.array(1.5 * 2.0**(52 - shift))
-    found = numpy.empty(costs.shape, numpy.int64)
-    for part in parts.parts(len(costs)):
-        numpy.add(costs[part], adder, found[part].view(numpy.float64))
-        found[part] -= adder.view(numpy.int64)
-    return found
+    return not -850 < math.frexp(costs.size())[1] < 1000
 
 
 def duals_of(asked: proved.Instance, answer: proved.Assignment, sign: int) -> Tuple[Any, Any]:
@@ -109,10 +64,10 @@ def kept(level: Level, most: int) -> Tuple[Any, Any, Any]:
     height, found = max(1, BLOCK // asked.m), []
     if sign < 0:
         duals, bounds = -duals, -bounds
-    compare, room = numpy.less_equal if sign > 0 else numpy.greater_equal, numpy.empty((height, asked.m), numpy.int64)
+    compare, slacks = numpy.less_equal if sign > 0 else numpy.greater_equal, numpy.empty((height, asked.m), numpy.int64)
     for begin in range(0, asked.n, height):
         block = costs[begin:begin + height]
-        slack = numpy.subtract(block, duals, room[:len(block)])
+        slack = numpy.subtract(block, duals, slacks[:len(block)])
         found.append(compare(slack, bounds[begin:begin + height]).ravel().nonzero()[0] + begin * asked.m)
     places = parts.joined(numpy, numpy.intp, found)
     if len(places) < 8 * asked.n:
@@ -143,23 +98,20 @@ def taken_off(numpy: Any, level: Level, pairs: Pairs) -> Any:
                         lambda part: level.of_persons[pairs.persons[part]] + of_objects[pairs.objects[part]])
 
 
-def _places(numpy: Any, problem: Problem, asked: proved.Instance, places: Any) -> Tuple[Any, Any]:
+def _places(numpy: Any, problem: AssignmentProblem, asked: proved.Instance, places: Any) -> Tuple[Any, Any]:
     """Where the costs of pairs stand, and which of them are those of dummies."""
     if len(asked.persons):
-        dummies = places >= problem.costs.size
+        dummies = places >= len(problem.costs)
         return numpy.where(dummies, 0, places), dummies
-    if proved.is_turned(problem):
-        columns, rows = numpy.divmod(places, asked.m)
-        places = rows * problem.n_columns + columns
-    return places, None
+    return own_place(problem, places), None
 
 
-def costs_at(numpy: Any, problem: Problem, level: Level, pairs: Pairs) -> Any:
+def costs_at(numpy: Any, problem: AssignmentProblem, level: Level, pairs: Pairs) -> Any:
     def costs_of(part: slice) -> Any:
         places, dummies = _places(numpy, problem, level.asked, pairs.places[part])
-        costs = level.sign * problem.costs[places]
+        costs = level.sign * problem.costs.numbers[places]
         return costs if dummies is None else numpy.where(dummies, 0, costs)
-    return parts.filled(numpy, problem.costs.dtype, len(pairs.places), costs_of)
+    return parts.filled(numpy, problem.costs.numbers.dtype, len(pairs.places), costs_of)
 
 
 def near_least(numpy: Any, costs: Any, sign: int, prices: List[float]) -> List[List[int]]:

@@ -7,7 +7,8 @@ from typing import Any, List, NamedTuple, Optional, Sequence, Tuple
 
 from ..costs.limits import GREATEST_COST, GREATEST_PRICE
 from ..costs.numbers import Unit, in_unit, unit_of
-from ..costs.problem import Problem, costs_of_pairs, in_whole_numbers, lists_of
+from ..costs.orientation import oriented
+from ..costs.problem import AssignmentProblem, costs_of_pairs, in_whole_numbers, lists_of
 from . import arrays, library, proved
 from .matching import most_served
 from .solving import prove_most
@@ -25,7 +26,8 @@ class CheckOutcome(NamedTuple):
         return not self.why
 
 
-def check_wholly(problem: Problem, rows: Sequence[int], columns: Sequence[int], prices: List[Fraction]) -> CheckOutcome:
+def check_wholly(problem: AssignmentProblem, rows: Sequence[int], columns: Sequence[int],
+                 prices: List[Fraction]) -> CheckOutcome:
     """What is found of a plan whose rows and columns are numbers of the problem, no row twice."""
     found, count = check_problem(problem, rows, columns, prices), len(rows)
     if not found or count == min(problem.n_rows, problem.n_columns):
@@ -38,7 +40,7 @@ def check_wholly(problem: Problem, rows: Sequence[int], columns: Sequence[int], 
     return found
 
 
-def check_problem(problem: Problem, rows: Sequence[int], columns: Sequence[int],
+def check_problem(problem: AssignmentProblem, rows: Sequence[int], columns: Sequence[int],
                   prices: List[Fraction]) -> CheckOutcome:
     """As `check_wholly`, among plans of as many pairs."""
     pairs = list(zip(rows, columns))
@@ -58,7 +60,7 @@ def check_problem(problem: Problem, rows: Sequence[int], columns: Sequence[int],
         return CheckOutcome(f"{counted(len(pairs), 'row')} of {problem.n_rows} {_has(len(pairs))} a column, and {most} "
                             "can")
     found = None
-    if not problem.raw and not isinstance(problem.costs, list):
+    if problem.costs.of_64_bits() is not None:
         found = _judged(problem, pairs, costs, prices)
     return found if found is not None else _judged_exactly(problem, pairs, costs, prices)
 
@@ -71,13 +73,13 @@ def _has(count: int) -> str:
     return "has" if count == 1 else "have"
 
 
-def _of_none(problem: Problem) -> CheckOutcome:
+def _of_none(problem: AssignmentProblem) -> CheckOutcome:
     if not min(problem.n_rows, problem.n_columns) or problem.persons is not None and not len(problem.persons):
         return CheckOutcome()
     return CheckOutcome("no row has a column")
 
 
-def _judged(problem: Problem, pairs: List[Tuple[int, int]], costs: List[int],
+def _judged(problem: AssignmentProblem, pairs: List[Tuple[int, int]], costs: List[int],
             given: List[Fraction]) -> Optional[CheckOutcome]:
     """The library's verdict, in the caller's numbers; None where costs or prices are beyond its range.
 
@@ -91,28 +93,24 @@ def _judged(problem: Problem, pairs: List[Tuple[int, int]], costs: List[int],
     paid = [sign * cost + prices[column] for (_, column), cost in zip(pairs, costs)]
     dearest = max(paid)
     less = max(0, -dearest)
-    of_objects = prices
-    if proved.is_turned(problem):
-        of_objects = [0] * problem.n_rows
-        for (row, _), held in zip(pairs, paid):
-            of_objects[row] = dearest - held
+    of_rows = [0] * problem.n_rows
+    for (row, _), held in zip(pairs, paid):
+        of_rows[row] = dearest - held
+    of_objects = oriented(problem, of_rows, prices)[1]
     of_dummies = [dearest + less] * dummies
     if max(of_objects + of_dummies) > GREATEST_PRICE or less > GREATEST_COST:
         return None
-    asked = proved.given(problem, len(pairs), -sign * less)
+    asked = proved.instance_of(problem, len(pairs), -sign * less)
     code, info = library.call("check", problem.maximize, *asked, _objects(problem, pairs, n, m - dummies),
                               array("q", of_objects + of_dummies))
     return _in_words(problem, pairs, prices, code, info)
 
 
-def _objects(problem: Problem, pairs: List[Tuple[int, int]], n: int, most: int) -> Any:
+def _objects(problem: AssignmentProblem, pairs: List[Tuple[int, int]], n: int, most: int) -> Any:
     """An object for each person, from 1 on; those who stay out have dummies."""
     objects = array("I", bytes(4 * n))
-    for row, column in pairs:
-        if proved.is_turned(problem):
-            objects[column] = row + 1
-        else:
-            objects[row] = column + 1
+    for person, item in zip(*oriented(problem, *zip(*pairs))):
+        objects[person] = item + 1
     for person in range(n):
         if not objects[person]:
             most += 1
@@ -120,13 +118,10 @@ def _objects(problem: Problem, pairs: List[Tuple[int, int]], n: int, most: int) 
     return objects
 
 
-def _in_words(problem: Problem, pairs: List[Tuple[int, int]], prices: List[int], code: str,
+def _in_words(problem: AssignmentProblem, pairs: List[Tuple[int, int]], prices: List[int], code: str,
               info: library.Info) -> Optional[CheckOutcome]:
     if code == "SLACK":
-        row, column = info.person - 1, info.object - 1
-        if proved.is_turned(problem):
-            row, column = column, row
-        return _better_off(problem, row, column)
+        return _better_off(problem, *oriented(problem, info.person - 1, info.object - 1))
     if code == "OVERPRICED":
         return _overpriced(problem, prices, info.object - 1)
     if code in ("PRICE_RANGE", "COST"):
@@ -139,12 +134,12 @@ def _in_words(problem: Problem, pairs: List[Tuple[int, int]], prices: List[int],
     return _overpriced(problem, prices, overpriced[0]) if overpriced else CheckOutcome()
 
 
-def _better_off(problem: Problem, row: int, column: int) -> CheckOutcome:
+def _better_off(problem: AssignmentProblem, row: int, column: int) -> CheckOutcome:
     return CheckOutcome(f"row {problem.row_name(row)} would be better off with column {problem.column_name(column)}, "
                         "at these prices", row, column)
 
 
-def _overpriced(problem: Problem, prices: List[int], unused: int) -> CheckOutcome:
+def _overpriced(problem: AssignmentProblem, prices: List[int], unused: int) -> CheckOutcome:
     cheaper = next(column for column, price in enumerate(prices) if price < prices[unused])
     return CheckOutcome(f"column {problem.column_name(unused)} stays unused, and column {problem.column_name(cheaper)} "
                         "is cheaper", None, cheaper)
@@ -160,17 +155,13 @@ class _Best(NamedTuple):
     column: int
 
 
-def _judged_exactly(problem: Problem, pairs: List[Tuple[int, int]], costs: List[Any],
+def _judged_exactly(problem: AssignmentProblem, pairs: List[Tuple[int, int]], costs: List[Any],
                     given: List[Fraction]) -> CheckOutcome:
     """The verdict by exact numbers. No plan of as many pairs is better by more than all slack together: what each
     matched row pays above its best, and each unmatched one below the dearest, and what unused columns cost above the
     cheapest. Differences of plans are multiples of the unit of all costs, so less slack than that is none."""
-    seen = problem
-    ratios = [problem.ratio(cost) for cost in costs]
-    if not (problem.raw and problem.numpy and problem.persons is None):
-        seen = in_whole_numbers(problem)
-    best = _bests(seen, pairs, ratios, given)
-    unit, rows = best
+    ratios = [problem.costs.ratio(cost) for cost in costs]
+    unit, rows = _bests(problem, ratios, given)
     sign = -1 if problem.maximize else 1
     prices = [int(price * unit.denominator) for price in given]
     lowest = min(prices)
@@ -188,7 +179,7 @@ def _judged_exactly(problem: Problem, pairs: List[Tuple[int, int]], costs: List[
     return _overpriced(problem, prices, next(column for column, more in overpriced.items() if more))
 
 
-def _unit_of_all(problem: Problem) -> Unit:
+def _unit_of_all(problem: AssignmentProblem) -> Unit:
     """The unit of which all costs are multiples."""
     return in_whole_numbers(problem).unit
 
@@ -196,11 +187,12 @@ def _unit_of_all(problem: Problem) -> Unit:
 Bests = Tuple[Unit, List[Optional[_Best]]]
 
 
-def _bests(problem: Problem, pairs: List[Tuple[int, int]], ratios: List[Any], prices: List[Fraction]) -> Bests:
+def _bests(problem: AssignmentProblem, ratios: List[Any], prices: List[Fraction]) -> Bests:
     """For each row the least that it would pay, in a unit of the costs and prices; None for a row without pairs."""
     of_prices = set((1, price.denominator) for price in prices)
-    if problem.raw:
+    if problem.matrix_of_doubles() is not None:
         return _bests_of_doubles(problem, ratios, prices, of_prices)
+    problem = in_whole_numbers(problem)
     unit = unit_of({(1, problem.unit.denominator)} | of_prices, True)
     step, scaled = unit.denominator // problem.unit.denominator, [int(price * unit.denominator) for price in prices]
     bests: List[Optional[_Best]] = []
@@ -210,12 +202,12 @@ def _bests(problem: Problem, pairs: List[Tuple[int, int]], ratios: List[Any], pr
     return unit, bests
 
 
-def _bests_of_doubles(problem: Problem, ratios: List[Any], prices: List[Fraction], of_prices: Any) -> Bests:
+def _bests_of_doubles(problem: AssignmentProblem, ratios: List[Any], prices: List[Fraction], of_prices: Any) -> Bests:
     """As `_bests`, for a whole matrix of doubles: only those near the least are looked at exactly."""
-    numpy, sign = problem.numpy, -1 if problem.maximize else 1
-    near = arrays.near_least(numpy, problem.costs.reshape(problem.n_rows, problem.n_columns), sign,
+    held, sign = problem.costs, -1 if problem.maximize else 1
+    near = arrays.near_least(held.numpy, held.numbers.reshape(problem.n_rows, problem.n_columns), sign,
                              list(map(_as_float, prices)))
-    costs = {place: problem.ratio(problem.costs[place].item()) for places in near for place in places}
+    costs = {place: held.ratio(held.numbers[place].item()) for places in near for place in places}
     unit = unit_of(of_prices | set((1, denominator) for _, denominator in [*ratios, *costs.values()]), True)
     scaled = [int(price * unit.denominator) for price in prices]
     bests: List[Optional[_Best]] = []

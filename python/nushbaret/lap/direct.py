@@ -10,10 +10,9 @@ import sys
 from array import array
 from typing import Any, Optional
 
-from ..costs import printing, reading
+from ..costs import kinds, printing, reading
 from ..costs.naming import is_frame
-from ..costs.numbers import of_places
-from ..costs.problem import Problem
+from ..costs.problem import AssignmentProblem
 from . import library, proved
 
 NAME = "nushbaret._extension"
@@ -31,11 +30,12 @@ def extension() -> Any:
 
 def _opened() -> Any:
     """The extension next to the library, loaded; None where there is none, or none for this Python."""
-    place = next((place for place in (held.with_name(FILE) for held in library.PLACES) if place.exists()), None)
-    if place is None or not _is_for_this_python():
+    paths = (beside.with_name(FILE) for beside in library.PATHS)
+    path = next((path for path in paths if path.exists()), None)
+    if path is None or not _is_for_this_python():
         return None
-    loader = importlib.machinery.ExtensionFileLoader(NAME, str(place))
-    spec = importlib.util.spec_from_file_location(NAME, str(place), loader=loader)
+    loader = importlib.machinery.ExtensionFileLoader(NAME, str(path))
+    spec = importlib.util.spec_from_file_location(NAME, str(path), loader=loader)
     try:
         module = importlib.util.module_from_spec(spec)  # type: ignore[arg-type]
         loader.exec_module(module)
@@ -86,13 +86,14 @@ def found(costs: Any, maximize: bool) -> Optional[proved.ResultParts]:
     answer = None if matrix is None else held.found(matrix, maximize)
     if answer is None:
         return None
-    (rows, columns), (own, objects, prices, total, places) = answer
+    (rows, columns), (own, objects, prices, total, decimals) = answer
     is_list = type(costs) is list
-    if is_list and places < 0 and not _is_long(costs[0][0]):
+    if is_list and decimals < 0 and not _is_long(costs[0][0]):
         return None
     n_rows, n_columns = (len(costs), len(costs[0])) if is_list else matrix.shape
     labels = (list(costs.index), list(costs.columns)) if is_frame(costs) else None
-    shape = Problem(n_rows, n_columns, maximize, None, unit=of_places(max(places, 0)), raw=places < 0, labels=labels)
+    costs_ = kinds.shape(None if decimals < 0 else decimals)
+    shape = AssignmentProblem(n_rows, n_columns, maximize, costs_, labels=labels)
     n, m = sorted((n_rows, n_columns))
     best = proved.Assignment(n, m, total, array("I", objects), None if prices is None else array("q", prices))
     return proved.ResultParts(shape, best, rows, columns, own, not is_list)

@@ -4,9 +4,10 @@ import math
 from array import array
 from typing import Any, Dict, NamedTuple, Optional, Tuple
 
-from ..costs.problem import Problem
-from ..costs.reading import loaded_numpy, size_of
-from . import arrays, library
+from ..costs.problem import AssignmentProblem
+from ..costs.reading import loaded_numpy
+from ..costs.rounding import MOST_SHIFT, size_of, whole_of
+from . import library
 from .level import BITS, Level
 
 _calls: Dict[str, Any] = {}
@@ -62,25 +63,22 @@ def start(sense: bool, n: int, m: int, costs: Any) -> Tuple[Any, Any]:
         return objects, prices
     held = numpy.frombuffer(costs)
     shift = BITS - math.frexp(size_of(held))[1]
-    if not numpy.isfinite(held).all() or not -arrays.MOST_SHIFT < shift < arrays.MOST_SHIFT:
+    if not numpy.isfinite(held).all() or not -MOST_SHIFT < shift < MOST_SHIFT:
         return objects, prices
     whole = array("q", bytes(8 * m))
-    code, _ = library.searched(sense, n, m, [arrays.whole_of(numpy, held, shift)], None,
+    code, _ = library.searched(sense, n, m, [whole_of(numpy, held, shift)], None,
                                [objects, array("I", bytes(4 * n)), whole])
     return objects, array("d", [math.ldexp(price, -shift) for price in whole]) if code == "BEST" else prices
 
 
-def best_from(problem: Problem, level: Level) -> Any:
+def best_from(problem: AssignmentProblem, level: Level) -> Any:
     """The objects of a plan that the library proves best for all doubles of a matrix, from the plan of a first level;
     None where it doesn't, or where the problem is another one."""
-    n, m, is_matrix = problem.n_rows, problem.n_columns, problem.raw and problem.numpy and problem.persons is None
-    if not is_matrix or n > m or (n, m) != (level.asked.n, level.asked.m):
+    n, m, costs = problem.n_rows, problem.n_columns, problem.matrix_of_doubles()
+    if costs is None or n > m or (n, m) != (level.asked.n, level.asked.m):
         return None
     numpy = problem.numpy
     objects = numpy.array(level.objects, numpy.uint32)
     prices = numpy.ldexp(-numpy.array(level.of_objects[1:], numpy.float64), -level.shift)
-    try:
-        plan = search(problem.maximize, n, m, problem.costs, objects, prices)
-    except AttributeError:
-        return None
-    return plan.objects if plan and (problem.doubles or plan.by_margin) else None
+    plan = search(problem.maximize, n, m, costs.numbers, objects, prices)
+    return plan.objects if plan and (costs.doubles or plan.by_margin) else None

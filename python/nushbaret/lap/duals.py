@@ -7,8 +7,8 @@ and the unit of the costs together take less than 5 n units along any path, so p
 from collections import deque
 from typing import Dict, List, NamedTuple, Optional, Sequence
 
-from ..costs.numbers import Unit, in_unit, of_places, unit_of
-from ..costs.problem import Problem, costs_of_pairs
+from ..costs.numbers import Unit, in_unit, of_decimals, unit_of
+from ..costs.problem import AssignmentProblem, costs_of_pairs
 from . import levels, proved, reduced, residues
 from .solving import BestPlan
 
@@ -20,7 +20,7 @@ class ExactPrices(NamedTuple):
     unit: Unit
 
 
-def exact_prices(problem: Problem, served: Optional[int], objects: Sequence[int]) -> Optional[ExactPrices]:
+def exact_prices(problem: AssignmentProblem, served: Optional[int], objects: Sequence[int]) -> Optional[ExactPrices]:
     """The exact prices of the objects in a best plan, which gives each person one of `objects`, from 1 on; None if
     there is no plan."""
     problem = levels.prepared(problem)
@@ -31,7 +31,7 @@ def exact_prices(problem: Problem, served: Optional[int], objects: Sequence[int]
     n, m = level.asked.n, level.asked.m
     pairs = reduced.kept(level, 6 * n + 16)
     ratios = residues.ratios_at(problem, level.asked, pairs.places.tolist())
-    unit = _fine(unit_of(set((1, denominator) for _, denominator in ratios), problem.fractions), level.shift)
+    unit = _fine(unit_of(set((1, denominator) for _, denominator in ratios), problem.costs.fractions), level.shift)
     costs = [level.sign * in_unit(ratio, unit) for ratio in ratios]
     prices = [0] + [_floored(-int(dual), unit, level.shift) for dual in level.of_objects[1:]]
     bounds = _bounds(pairs.persons.tolist(), pairs.objects.tolist(), costs, objects, m)
@@ -48,7 +48,7 @@ def _fine(unit: Unit, shift: int) -> Unit:
         return unit
     parts = len(str((1 << shift) // unit.denominator))
     denominator = unit.denominator * 10**parts
-    return Unit(denominator, None) if unit.places is None else of_places(unit.places + parts)
+    return Unit(denominator, None) if unit.decimals is None else of_decimals(unit.decimals + parts)
 
 
 def _floored(dual: int, unit: Unit, shift: int) -> int:
@@ -56,14 +56,14 @@ def _floored(dual: int, unit: Unit, shift: int) -> int:
     return dual * unit.denominator >> shift if shift >= 0 else dual * unit.denominator << -shift
 
 
-def _of_costs(unit: Unit, problem: Problem) -> Unit:
+def _of_costs(unit: Unit, problem: AssignmentProblem) -> Unit:
     """The unit in terms of the costs, where the levels counted multiples of the problem's."""
     if problem.unit.denominator == 1:
         return unit
     denominator = unit.denominator * problem.unit.denominator
-    if unit.places is None or problem.unit.places is None:
+    if unit.decimals is None or problem.unit.decimals is None:
         return Unit(denominator, None)
-    return of_places(unit.places + problem.unit.places)
+    return of_decimals(unit.decimals + problem.unit.decimals)
 
 
 def _bounds(persons: Sequence[int], objects: Sequence[int], costs: Sequence[int], own: Sequence[int],

@@ -12,33 +12,32 @@ each column whose dual is below -n units. So the next level's costs keep max(v, 
 The lists here are as the library takes them: persons and objects from 1 on, dummies among them. Costs count in their
 own unit."""
 import contextlib
-import math
-from array import array
 from fractions import Fraction
 from typing import Any, Optional, Tuple, Union
 
 from ..costs import problem as reading
-from ..costs.numbers import ONE, Unit, bits_above, rounded
-from ..costs.problem import Problem
+from ..costs.kinds import WholeNumbers
+from ..costs.numbers import Unit
+from ..costs.problem import AssignmentProblem
 from . import arrays, doubles, pricing, proved, residues, ties
 from .level import BITS, Level, Pairs, more
 from .reduced import is_only_plan, kept, level_of
 
 
-def solved_by_levels(problem: Problem, served: Optional[int],
+def solved_by_levels(problem: AssignmentProblem, served: Optional[int],
                      start: Optional[proved.WarmStart]) -> Union[proved.Assignment, proved.HallSet]:
     """The best plan of so many pairs, for costs of any size; its answer has no prices."""
     with quiet(problem):
         return _solved(prepared(problem), served, start)
 
 
-def quiet(problem: Problem) -> Any:
+def quiet(problem: AssignmentProblem) -> Any:
     """A context in which NumPy says nothing of floating point."""
     return problem.numpy.errstate(all="ignore") if problem.numpy else contextlib.nullcontext()
 
 
-def _solved(problem: Problem, served: Optional[int], start: Optional[proved.WarmStart]) -> Union[proved.Assignment,
-                                                                                                 proved.HallSet]:
+def _solved(problem: AssignmentProblem, served: Optional[int],
+            start: Optional[proved.WarmStart]) -> Union[proved.Assignment, proved.HallSet]:
     tied = ties.of_problem(problem) if served is None else None
     objects = None if tied is None else ties.best(tied)
     if objects is not None:
@@ -55,7 +54,7 @@ def _solved(problem: Problem, served: Optional[int], start: Optional[proved.Warm
     return proved.Assignment(found.asked.n, found.asked.m, None, objects, None)
 
 
-def _from_level(problem: Problem, tied: Optional[ties.Matrix], level: Level, pairs: Optional[Pairs]) -> Any:
+def _from_level(problem: AssignmentProblem, tied: Optional[ties.Matrix], level: Level, pairs: Optional[Pairs]) -> Any:
     """The objects of a best plan, from the first level, and from the pairs that it leaves where these are known."""
     objects = None if tied is None else ties.after_level(tied, level)
     if objects is not None:
@@ -64,25 +63,28 @@ def _from_level(problem: Problem, tied: Optional[ties.Matrix], level: Level, pai
     return level.objects if is_only_plan(level, pairs) else finer(problem, level, pairs)
 
 
-def _most_left(problem: Problem) -> int:
+def _most_left(problem: AssignmentProblem) -> int:
     """Up to how many units of reduced cost pairs are left."""
     n = min(problem.n_rows, problem.n_columns)
     return n + more(n)
 
 
-def prepared(problem: Problem) -> Problem:
+def prepared(problem: AssignmentProblem) -> AssignmentProblem:
     """The problem in which no pair is given twice, as a list where its doubles are too small or too great for sums of
     them."""
-    if not problem.raw:
-        return problem if problem.persons is None else reading.once(problem)
-    return arrays.as_list(problem) if problem.numpy and len(problem.costs) and arrays.is_extreme(problem) else problem
+    if problem.persons is not None and problem.costs.of_64_bits() is not None:
+        return reading.once(problem)
+    doubles_ = problem.costs.as_doubles()
+    if doubles_ is None or not len(doubles_) or not arrays.is_extreme(doubles_):
+        return problem
+    return reading.in_lists(problem, doubles_.in_list())
 
 
-def first_level(problem: Problem, served: Optional[int],
+def first_level(problem: AssignmentProblem, served: Optional[int],
                 start: Optional[proved.WarmStart] = None) -> Union[Level, proved.HallSet]:
     """The level of the first unit."""
     coarse, shift = _rounded(problem)
-    asked = proved.given(coarse, served)
+    asked = proved.instance_of(coarse, served)
     first = None if start is None else proved.first_of(coarse, start, served)
     answer = proved.answer(coarse, asked, first)
     if answer is None:
@@ -95,35 +97,14 @@ def first_level(problem: Problem, served: Optional[int],
 # The first level's costs.
 
 
-def _rounded(problem: Problem) -> Tuple[Problem, int]:
+def _rounded(problem: AssignmentProblem) -> Tuple[AssignmentProblem, int]:
     """The problem with costs of at most 39 bits, and the shift that made them so."""
-    if not len(problem.costs):
-        costs, shift = array("q") if not problem.numpy else problem.costs.astype("int64"), 0
-    elif problem.numpy:
-        costs, shift = arrays.rounded(problem, BITS)
-    else:
-        costs, shift = _rounded_list(problem)
+    numbers, shift = problem.costs.rounded(BITS)
     part: Any = 1 << shift if shift >= 0 else Fraction(1, 1 << -shift)
-    return problem._replace(costs=costs, unit=Unit(problem.unit.denominator * part, None), raw=False), shift
+    unit = Unit(problem.unit.denominator * part, None)
+    return problem._replace(costs=WholeNumbers(numbers, unit, False, problem.numpy)), shift
 
 
-def _rounded_list(problem: Problem) -> Tuple[Any, int]:
-    values: Any = reading.plain(problem.costs)
-    if not problem.raw or problem.unit != ONE:
-        shift = min(0, BITS - max(max(values).bit_length(), min(values).bit_length()))
-        half = 1 << -shift >> 1
-        return array("q", [(value + half) >> -shift for value in values]), shift
-    if set(map(type, values)) == {float}:
-        shift = BITS - math.frexp(max(max(values), -min(values)))[1]
-        # A greater shift would be needed for the smallest doubles alone, which print as decimals that are further from
-        # them.
-        if shift <= 1000:
-            return array("q", [round(math.ldexp(value, shift)) for value in values]), shift
-    ratios = [problem.ratio(value) for value in values]
-    shift = BITS - max((bits_above(ratio) for ratio in ratios if ratio[0]), default=BITS)
-    return array("q", [rounded(ratio, shift) for ratio in ratios]), shift
-
-
-def finer(problem: Problem, level: Level, pairs: Pairs) -> Any:
+def finer(problem: AssignmentProblem, level: Level, pairs: Pairs) -> Any:
     """The objects of a best plan along pairs that a level left."""
     return residues.finish(level, residues.residue_of(problem, level, pairs))

@@ -11,7 +11,7 @@ from typing import Any, Callable, Dict, List, NamedTuple, Optional, Sequence, Tu
 
 from ..costs.limits import FEW, BorrowedNumbers, Numbers
 
-VERSION = "4.1.0"
+VERSION = "4.2.0"
 
 CODES = (
     "BEST", "HALL",
@@ -19,7 +19,7 @@ CODES = (
     "ANSWER_LENGTH", "UNLISTED", "TWICE", "PRICE_RANGE", "SLACK",
     "HALL_RANGE", "HALL_ORDER", "HALL_MISSING", "HALL_EXTRA", "HALL_COUNT",
     "OVERPRICED",
-    "STOPPED", "UNFOUND",
+    "STOPPED", "",  # no code has the number 22
     "UNDECIDED",
 )
 
@@ -27,7 +27,7 @@ CODES = (
 NAME, _FOLDER, _MADE_BY = ("nushbaret.dll", "windows",
                            "c/build_windows.sh") if sys.platform == "win32" else ("libnushbaret.so", "", "c/build.sh")
 _PACKAGE = pathlib.Path(__file__).resolve().parent.parent
-PLACES = (_PACKAGE / NAME, _PACKAGE.parent.parent / "c" / "out" / _FOLDER / NAME)
+PATHS = (_PACKAGE / NAME, _PACKAGE.parent.parent / "c" / "out" / _FOLDER / NAME)
 
 
 class LibraryNotFound(OSError):
@@ -46,14 +46,6 @@ class Info(ctypes.Structure):
                 for name in ("total", "place", "persons", "objects", "person", "object")]
 
 
-class Unfound(RuntimeError):
-    """The library's search found no best plan, and no proof that there is none. Nobody has seen it."""
-
-    def __init__(self) -> None:
-        super().__init__("the library found no plan that its checker accepts, and no proof that there is none: please "
-                         "report this problem")
-
-
 class Record(ctypes.Structure):
     """Where a search stands that is done in pieces; all 0: it begins."""
 
@@ -69,22 +61,22 @@ _calls: Dict[str, Any] = {}
 
 
 def _open() -> ctypes.CDLL:
-    for place in PLACES:
-        if place.exists():
+    for path in PATHS:
+        if path.exists():
             try:
-                return ctypes.CDLL(str(place))
+                return ctypes.CDLL(str(path))
             except OSError as fault:
-                raise LibraryNotFound(f"{place} can't be loaded: {fault}") from fault
+                raise LibraryNotFound(f"{path} can't be loaded: {fault}") from fault
     raise LibraryNotFound(f"{NAME} isn't there: {_MADE_BY} makes it, at the top of a checkout of Nushbaret")
 
 
 def _load() -> None:
     library = _open()
-    room = (ctypes.c_uint8 * 32)()
+    text = (ctypes.c_uint8 * 32)()
     library.nushbaret_version.argtypes = [ctypes.c_void_p, ctypes.c_size_t]
     library.nushbaret_version.restype = ctypes.c_size_t
-    library.nushbaret_version(room, 32)
-    found = bytes(room).split(b"\0")[0].decode()
+    library.nushbaret_version(text, 32)
+    found = bytes(text).split(b"\0")[0].decode()
     if found != VERSION:
         raise LibraryNotFound(f"the library is of version {found}, and {VERSION} is needed: {_MADE_BY} builds it again")
     for name, lists in _LISTS.items():
@@ -111,14 +103,14 @@ _FEW_BYTES = 8 * FEW
 def _address_and_count(values: Any) -> Tuple[Union[int, bytes], int]:
     """Address, or bytes that stand for it, and count; the address is never null."""
     if isinstance(values, array):
-        place, count = values.buffer_info()
+        begin, count = values.buffer_info()
     elif isinstance(values, BorrowedNumbers):
-        place, count = values.place, values.count
+        begin, count = values.address, values.count
     elif values.nbytes <= _FEW_BYTES:
         return values.tobytes(), values.size
     else:
-        place, count = values.__array_interface__["data"][0], values.size
-    return (place, count) if count else (_SPARE.buffer_info()[0], 0)
+        begin, count = values.__array_interface__["data"][0], values.size
+    return (begin, count) if count else (_SPARE.buffer_info()[0], 0)
 
 
 def _loaded() -> Dict[str, Any]:
@@ -131,14 +123,13 @@ def _loaded() -> Dict[str, Any]:
 
 
 def address(export: str) -> int:
-    """The address of an export. AttributeError if the library doesn't have it."""
+    """The address of an export."""
     return ctypes.cast(getattr(_loaded()["library"], export), ctypes.c_void_p).value or 0
 
 
 def call(name: str, sense: Optional[bool], n: int, m: int, *lists: Any, piece: Sequence[int] = ()) -> Tuple[str, Info]:
     """The name of the code, and its record. `sense` is None for `check_hall`; `piece` is a budget, and the address of
-    the record that says where a search stands. MemoryError where memory is refused, and `Unfound` where a search finds
-    nothing."""
+    the record that says where a search stands. MemoryError where memory is refused."""
     info = Info()
     words: List[Any] = [n, m] if sense is None else [1 if sense else 0, n, m]
     for values in lists:
@@ -146,8 +137,6 @@ def call(name: str, sense: Optional[bool], n: int, m: int, *lists: Any, piece: S
     code = CODES[_loaded()[name](*words, *piece, ctypes.addressof(info))]
     if code == "MEMORY":
         raise MemoryError("the library was refused memory")
-    if code == "UNFOUND":
-        raise Unfound
     return code, info
 
 

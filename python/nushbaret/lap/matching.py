@@ -4,7 +4,7 @@ from array import array
 from collections import deque
 from typing import Any, Dict, List, NamedTuple, Optional, Sequence, Set, Tuple, Union
 
-from ..costs.problem import Problem
+from ..costs.problem import AssignmentProblem
 from . import library
 
 Lists = Sequence[Sequence[int]]
@@ -68,7 +68,7 @@ def fullest(columns: Lists, n_columns: int) -> List[Optional[int]]:
     return matching.owner
 
 
-def most_served(problem: Problem) -> int:
+def most_served(problem: AssignmentProblem) -> int:
     """The greatest number of rows that can have a column each."""
     owner = fullest(lists_of_nodes(problem.n_rows, problem.persons, problem.objects), problem.n_columns)
     return len(owner) - owner.count(None)
@@ -81,7 +81,7 @@ class Group(NamedTuple):
     few: List[int]
 
 
-def short_groups(problem: Problem) -> List[Tuple[List[int], List[int]]]:
+def short_groups(problem: AssignmentProblem) -> List[Tuple[List[int], List[int]]]:
     """Rows and columns of each group that is short in a problem that lists its pairs: of its rows, or of its columns
     where these are fewer."""
     of_columns = problem.n_rows > problem.n_columns

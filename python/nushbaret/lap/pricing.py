@@ -6,7 +6,9 @@ duals are those of the whole rounded matrix. Matrices that take many rounds are 
 from typing import Any, List, NamedTuple, Optional, Tuple
 
 from ..costs import parts
-from ..costs.problem import Problem
+from ..costs.orientation import matrix_of
+from ..costs.problem import AssignmentProblem
+from ..costs.rounding import whole_of
 from . import arrays, proved
 from .level import Level, Pairs
 
@@ -26,15 +28,13 @@ class Priced(NamedTuple):
     pairs: Pairs
 
 
-def first_level(problem: Problem, bits: int, most: int) -> Optional[Priced]:
+def first_level(problem: AssignmentProblem, bits: int, most: int) -> Optional[Priced]:
     """The first level and the pairs of at most so many units that it leaves; None where the matrix is better solved as
     a whole."""
-    numpy = problem.numpy
-    if not problem.raw or numpy is None or problem.persons is not None or problem.costs.size < LARGE:
+    numpy, doubles = problem.numpy, problem.matrix_of_doubles()
+    if doubles is None or len(doubles) < LARGE:
         return None
-    turned, shift = proved.is_turned(problem), arrays.shift_of(problem, bits)
-    costs = problem.costs.reshape(problem.n_rows, problem.n_columns)
-    matrix = _Matrix(numpy, costs.T if turned else costs, shift, -1 if problem.maximize else 1)
+    matrix = _Matrix(numpy, matrix_of(problem), doubles.shift(bits), -1 if problem.maximize else 1)
     chosen, prices = matrix.cheapest(), None
     for _ in range(MOST_ROUNDS):
         answer = matrix.answer(chosen, prices)
@@ -45,7 +45,7 @@ def first_level(problem: Problem, bits: int, most: int) -> Optional[Priced]:
         if not len(cheaper):
             return Priced(level, left)
         chosen, prices = numpy.union1d(chosen, cheaper), proved.FirstPrices(answer.prices, answer.objects)
-        if len(chosen) > MOST_SHARE * problem.costs.size:
+        if len(chosen) > MOST_SHARE * len(doubles):
             return None
     return None
 
@@ -75,7 +75,7 @@ class _Matrix:
         return numpy.unique(numpy.concatenate(places))
 
     def _whole(self, costs: Any) -> Any:
-        return arrays.whole_of(self.numpy, costs, self.shift)
+        return whole_of(self.numpy, costs, self.shift)
 
     def answer(self, places: Any, prices: Any) -> Optional[proved.Assignment]:
         """The library's answer to some pairs; None if these hold no plan."""

@@ -12,7 +12,8 @@ from typing import Any, List, NamedTuple, NoReturn, Optional, Sequence, Tuple, U
 from ..costs import naming, printing
 from ..costs.limits import GREATEST_PRICE, MOST_PERSONS, Numbers
 from ..costs.numbers import ratio_of
-from ..costs.problem import Problem, TooLarge, listed, lists_of, plain
+from ..costs.orientation import by_rows, costs_by_persons, object_prices, oriented, row_and_column_duals
+from ..costs.problem import AssignmentProblem, TooLarge, listed
 from . import library
 
 
@@ -78,12 +79,7 @@ class FirstPrices(NamedTuple):
 NONE = array("I")
 
 
-def is_turned(problem: Problem) -> bool:
-    """Whether the columns are the persons."""
-    return problem.n_rows > problem.n_columns
-
-
-def sizes_of(problem: Problem, served: Optional[int]) -> Tuple[int, int, int]:
+def sizes_of(problem: AssignmentProblem, served: Optional[int]) -> Tuple[int, int, int]:
     """How many persons there are, how many objects, and how many of these are dummies."""
     n, most = sorted((problem.n_rows, problem.n_columns))
     dummies = 0 if served is None else n - served
@@ -93,37 +89,14 @@ def sizes_of(problem: Problem, served: Optional[int]) -> Tuple[int, int, int]:
     return n, most + dummies, dummies
 
 
-def _turned_costs(problem: Problem) -> Any:
-    """The costs of a dense problem, column by column."""
-    n_rows, n_columns = problem.n_rows, problem.n_columns
-    if problem.numpy:
-        return _turned_array(problem.numpy, problem.costs.reshape(n_rows, n_columns))
-    costs, turned = plain(problem.costs), array("q")
-    for column in range(n_columns):
-        turned.frombytes(costs[column::n_columns].tobytes())
-    return turned
-
-
-def _turned_array(numpy: Any, costs: Any) -> Any:
-    """The costs of a matrix, column by column. Some columns at a time are taken, so that Ctrl-C is heeded in
-    between."""
-    turned = numpy.empty(costs.size, costs.dtype)
-    by_columns = turned.reshape(costs.shape[::-1])
-    for begin in range(0, len(by_columns), 64):
-        by_columns[begin:begin + 64] = costs[:, begin:begin + 64].T
-    return turned
-
-
-def given(problem: Problem, served: Optional[int] = None, out: int = 0) -> Instance:
+def instance_of(problem: AssignmentProblem, served: Optional[int] = None, out: int = 0) -> Instance:
     """The problem whose assignments have `served` pairs, or as many as the shorter side has nodes. `out` is the cost of
     staying out."""
     n, m, dummies = sizes_of(problem, served)
     if problem.persons is None and not dummies:
-        return Instance(n, m, NONE, NONE, _turned_costs(problem) if is_turned(problem) else problem.costs)
+        return Instance(n, m, NONE, NONE, costs_by_persons(problem))
     problem = listed(problem)
-    lists = [problem.objects, problem.persons, problem.costs] if is_turned(problem) else [problem.persons,
-                                                                                          problem.objects,
-                                                                                          problem.costs]
+    lists = [*oriented(problem, problem.persons, problem.objects), problem.costs.numbers]
     if dummies:
         lists = [_joined(problem.numpy, own, more) for own, more in zip(lists, _dummies(n, m, dummies, out))]
     return Instance(n, m, *lists)
@@ -146,7 +119,8 @@ def refuse(code: str, info: library.Info) -> NoReturn:
     raise RuntimeError(f"the library refused its lists: {code} at {info.place}")
 
 
-def answer(problem: Problem, asked: Instance, first: Optional[FirstPrices] = None) -> Union[Assignment, HallSet, None]:
+def answer(problem: AssignmentProblem, asked: Instance,
+           first: Optional[FirstPrices] = None) -> Union[Assignment, HallSet, None]:
     """The library's answer, an Answer or a Short; None where a cost is beyond its range. `first` is where to begin."""
     is_dense = problem.persons is None and not len(asked.persons)
     lists = (asked.costs,) if is_dense else (asked.persons, asked.objects, asked.costs)
@@ -180,13 +154,13 @@ def best_of(asked: Instance) -> Assignment:
     return answer_
 
 
-def no_pairs(problem: Problem) -> Assignment:
+def no_pairs(problem: AssignmentProblem) -> Assignment:
     """The answer without any pair: all stay out, at prices of 0."""
     n, most = sorted((problem.n_rows, problem.n_columns))
     return Assignment(n, most + n, 0, array("I", (most + 1,)) * n, array("q", bytes(8 * (most + n))))
 
 
-def pairs_of(problem: Problem, found: Assignment) -> Tuple[List[int], List[int]]:
+def pairs_of(problem: AssignmentProblem, found: Assignment) -> Tuple[List[int], List[int]]:
     """Rows and columns of the pairs of an answer, rows rising, without dummies."""
     most = max(problem.n_rows, problem.n_columns)
     own = [item - 1 for item in found.objects]
@@ -194,33 +168,26 @@ def pairs_of(problem: Problem, found: Assignment) -> Tuple[List[int], List[int]]
     if found.m > most:
         persons = [person for person in persons if own[person] < most]
         own = [own[person] for person in persons]
-    if not is_turned(problem):
-        return persons, own
-    columns = sorted(range(len(own)), key=own.__getitem__)
-    return [own[place] for place in columns], [persons[place] for place in columns]
+    return by_rows(problem, persons, own)
 
 
-def rows_and_columns(problem: Problem, answer: Assignment) -> Tuple[Any, Any]:
+def rows_and_columns(problem: AssignmentProblem, answer: Assignment) -> Tuple[Any, Any]:
     """The numbers of the pairs of an answer, without dummies, as arrays if the costs were one."""
     return _arrays_of(problem.arrays, problem, answer) if problem.arrays else pairs_of(problem, answer)
 
 
-def _arrays_of(numpy: Any, problem: Problem, answer: Assignment) -> Tuple[Any, Any]:
+def _arrays_of(numpy: Any, problem: AssignmentProblem, answer: Assignment) -> Tuple[Any, Any]:
     own = numpy.array(answer.objects, numpy.intp)
     own -= 1
     persons = numpy.flatnonzero(own < max(problem.n_rows, problem.n_columns))
-    own = own[persons]
-    if not is_turned(problem):
-        return persons, own
-    order = own.argsort()
-    return own[order], persons[order]
+    return by_rows(problem, persons, own[persons])
 
 
 class ResultParts(NamedTuple):
     """What a result is made of: its problem without lists, the answer, the pairs with their costs, and whether they are
     arrays."""
 
-    shape: Problem
+    shape: AssignmentProblem
     answer: Assignment
     rows: Any
     columns: Any
@@ -240,7 +207,7 @@ class Duals(NamedTuple):
     unmatched: int
 
 
-def duals_of(problem: Problem, found: Assignment, prices: List[int], pairs: Sequence[Tuple[int, int]],
+def duals_of(problem: AssignmentProblem, found: Assignment, prices: List[int], pairs: Sequence[Tuple[int, int]],
              costs: Sequence[int]) -> Duals:
     """The duals that follow from whole prices of the objects, the least 0, and from the pairs of a plan with their
     costs. A row's and a column's sum is at most their pair's cost, and equals it in the plan. Columns have no dual
@@ -248,17 +215,14 @@ def duals_of(problem: Problem, found: Assignment, prices: List[int], pairs: Sequ
     n_rows, n_columns = problem.n_rows, problem.n_columns
     if not len(pairs):
         return Duals([0] * n_rows, [0] * n_columns, 0)
-    most, turned = max(n_rows, n_columns), is_turned(problem)
+    most = max(n_rows, n_columns)
     out = prices[-1] if found.m > most else 0
     of_objects = [-price for price in prices[:most]]
     of_persons = [out] * found.n
     sign = -1 if problem.maximize else 1
-    for (row, column), cost in zip(pairs, costs):
-        person, item = (column, row) if turned else (row, column)
+    for person, item, cost in zip(*oriented(problem, *zip(*pairs)), costs):
         of_persons[person] = sign * cost - of_objects[item]
-    if not turned:
-        return Duals(of_persons, of_objects, out)
-    return Duals([dual + out for dual in of_objects], [dual - out for dual in of_persons], out)
+    return Duals(*row_and_column_duals(problem, of_persons, of_objects, out), out)
 
 
 def whole_prices(found: Assignment) -> List[int]:
@@ -294,7 +258,7 @@ def exact_price(price: Any, name: Any) -> Fraction:
         raise TypeError(f"the price of column {name} is {price!r}: it must be a number") from None
 
 
-def exact_prices(problem: Problem, prices: Any, what: str = "prices") -> List[Fraction]:
+def exact_prices(problem: AssignmentProblem, prices: Any, what: str = "prices") -> List[Fraction]:
     """The caller's prices, one for each column; `what` is the argument's name."""
     prices = naming.listed(prices, what, "column", problem.n_columns, problem.labels and problem.labels[1])
     if len(prices) != problem.n_columns:
@@ -302,7 +266,7 @@ def exact_prices(problem: Problem, prices: Any, what: str = "prices") -> List[Fr
     return [exact_price(price, problem.column_name(column)) for column, price in enumerate(prices)]
 
 
-def whole_of(problem: Problem, prices: List[Fraction], parts: int = 1) -> Optional[List[int]]:
+def whole_of(problem: AssignmentProblem, prices: List[Fraction], parts: int = 1) -> Optional[List[int]]:
     """Prices as whole numbers of the unit of the costs, the least 0; None where they are too far apart for the library.
     They are rounded to so many `parts` of the unit first, and then down, from a point that none of them is at: with
     more parts than prices there is one. So an order of sums of costs and prices that holds to within a part holds of
@@ -317,21 +281,14 @@ def whole_of(problem: Problem, prices: List[Fraction], parts: int = 1) -> Option
     return None if max(whole, default=0) > GREATEST_PRICE else whole
 
 
-def first_of(problem: Problem, start: WarmStart, served: Optional[int]) -> Optional[FirstPrices]:
+def first_of(problem: AssignmentProblem, start: WarmStart, served: Optional[int]) -> Optional[FirstPrices]:
     """Where the library's search begins; prices of dummies are 0. None where prices are too far apart to be of use."""
     n, _, dummies = sizes_of(problem, served)
-    prices, turned, objects = whole_of(problem, start.prices), is_turned(problem), array("I", bytes(4 * n))
+    prices, objects = whole_of(problem, start.prices), array("I", bytes(4 * n))
     if prices is None:
         return None
     for row, column in zip(start.rows, start.columns):
         if row < problem.n_rows and column < problem.n_columns:
-            objects[column if turned else row] = (row if turned else column) + 1
-    return FirstPrices(array("q", (_of_rows(problem, prices) if turned else prices) + [0] * dummies), objects)
-
-
-def _of_rows(problem: Problem, prices: List[int]) -> List[int]:
-    """Prices to start from in the turned problem, the least 0: what rows gain at prices of the columns."""
-    paid = [min((int(cost) + prices[column] for column, cost in zip(*held)), default=None)
-            for held in lists_of(problem)]
-    most = max((price for price in paid if price is not None), default=0)
-    return [0 if price is None else min(most - price, GREATEST_PRICE) for price in paid]
+            person, item = oriented(problem, row, column)
+            objects[person] = item + 1
+    return FirstPrices(array("q", object_prices(problem, prices) + [0] * dummies), objects)

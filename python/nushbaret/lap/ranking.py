@@ -14,8 +14,9 @@ from fractions import Fraction
 from itertools import compress
 from typing import Any, Iterable, Iterator, List, Optional, Sequence, Tuple
 
+from ..costs.kinds import WholeNumbers, whole_numbers
 from ..costs.numbers import ONE, Ratio, Unit, in_unit, unit_of
-from ..costs.problem import Problem, costs_of_pairs, in_whole_numbers, lists_of, owned
+from ..costs.problem import AssignmentProblem, costs_of_pairs, in_whole_numbers, lists_of
 from . import library
 from .checking import check_problem
 from .duals import duals_of_whole
@@ -29,10 +30,10 @@ class Ranking:
     """The plans of a problem with as many pairs as a best one: its rows and columns, their costs, and whole duals of a
     unit that prove it."""
 
-    def __init__(self, problem: Problem, pairs: Tuple[List[int], List[int]], ratios: Sequence[Ratio], duals: Duals,
-                 unit: Unit):
+    def __init__(self, problem: AssignmentProblem, pairs: Tuple[List[int], List[int]], ratios: Sequence[Ratio],
+                 duals: Duals, unit: Unit):
         rows, columns = pairs
-        problem = in_whole_numbers(owned(problem))
+        problem = in_whole_numbers(problem._replace(costs=problem.costs.owned()))
         # Duals may be in a part of the costs' unit.
         self.unit = _common(problem.unit, unit)
         step, of_duals = self.unit.denominator // problem.unit.denominator, self.unit.denominator // unit.denominator
@@ -124,20 +125,12 @@ def _common(first: Unit, second: Unit) -> Unit:
     """The greatest unit of which two are multiples, which shows numbers as the first does."""
     if first.denominator % second.denominator == 0:
         return first
-    return unit_of(((1, first.denominator), (1, second.denominator)), first.places is None)
+    return unit_of(((1, first.denominator), (1, second.denominator)), first.decimals is None)
 
 
 def _times(lists: List[Any], step: int) -> List[Any]:
     """Columns and costs of rows, in a smaller unit."""
     return lists if step == 1 else [(columns, [int(cost) * step for cost in costs]) for columns, costs in lists]
-
-
-def _packed(costs: List[int]) -> Any:
-    """Costs as the library takes them, or the list where some don't fit."""
-    try:
-        return array("q", costs)
-    except OverflowError:
-        return costs
 
 
 # What the library says of plans.
@@ -161,7 +154,7 @@ def prove(paths: Paths, part: Subproblem) -> None:
         raise RuntimeError(f"a plan was found to cost {part.cost}, and its pairs cost {cost}")
 
 
-def _left(paths: Paths, part: Subproblem, free: List[int]) -> Problem:
+def _left(paths: Paths, part: Subproblem, free: List[int]) -> AssignmentProblem:
     """The pairs that a part leaves to its free rows and columns."""
     persons, objects = array("I"), array("I")
     costs: List[int] = []
@@ -177,7 +170,7 @@ def _left(paths: Paths, part: Subproblem, free: List[int]) -> Problem:
         objects.extend(compress(kept, kept))
         costs.extend(compress(values, kept))
         persons.extend(array("I", (row - part.first + 1,)) * (len(objects) - len(persons)))
-    return Problem(paths.n_rows - part.first, len(free), False, _packed(costs), persons, objects)
+    return AssignmentProblem(paths.n_rows - part.first, len(free), False, whole_numbers(costs), persons, objects)
 
 
 def prove_empty(paths: Paths, part: Subproblem, row: int, choices: Iterable[Choice], found: PathSearch) -> None:
@@ -208,7 +201,8 @@ def has_other(paths: Paths, best: Subproblem) -> bool:
                 persons.append(row + 1)
                 objects.append(column + 1)
                 costs.append((column == own) - (pairs + 1) * (worth_rows[row] + worth_columns[column]))
-    least = least_sum(Problem(paths.n_rows, paths.n_columns, False, costs, persons, objects), pairs)
+    tight = AssignmentProblem(paths.n_rows, paths.n_columns, False, WholeNumbers(costs), persons, objects)
+    least = least_sum(tight, pairs)
     most = pairs - (pairs + 1) * (sum(worth_rows) + sum(worth_columns))
     if least is None or least > most:
         raise RuntimeError("a plan was found to be along pairs of reduced cost 0, and the library says otherwise")

@@ -4,8 +4,8 @@ from array import array
 from itertools import repeat
 from typing import Dict, List, Tuple
 
+from ..costs.kinds import plain
 from ..costs.limits import BorrowedNumbers
-from ..costs.problem import plain
 from . import arrays, proved
 from .level import Level, Pairs
 

@@ -7,14 +7,17 @@ import functools
 import math
 import operator
 from array import array
-from typing import Any, Dict, List, Optional, Protocol, Sequence, Tuple
+from typing import Any, List, Optional, Protocol, Sequence, Tuple
 
 from ..costs import parts
-from ..costs.numbers import ONE, Ratio, in_unit, unit_of
-from ..costs.problem import Problem, plain
-from ..costs.reading import loaded_numpy, size_of
+from ..costs.kinds import plain
+from ..costs.numbers import Ratio, in_unit, unit_of
+from ..costs.orientation import own_place
+from ..costs.problem import AssignmentProblem
+from ..costs.reading import loaded_numpy
+from ..costs.rounding import MOST_SHIFT, size_of, whole_of
 from . import arrays, proved, reduced
-from .arrays import MOST_BITS, MOST_SHIFT, taken_off, whole_of
+from .arrays import MOST_BITS, taken_off
 from .level import BITS, Level, Pairs, more
 
 # From so many pairs on an array is worth making.
@@ -60,11 +63,12 @@ def finish(first: Level, residue: Optional[Residue]) -> Any:
     return first.objects
 
 
-def residue_of(problem: Problem, level: Level, pairs: Pairs) -> Optional[Residue]:
+def residue_of(problem: AssignmentProblem, level: Level, pairs: Pairs) -> Optional[Residue]:
     """What a first level leaves of the costs of pairs, in the kind that they are held in; None where it rounded
     nothing."""
-    if problem.numpy and problem.raw:
-        return Doubles(problem, level, pairs).held(True)
+    doubles = problem.costs.as_doubles()
+    if doubles is not None:
+        return Doubles(problem, doubles.doubles, level, pairs).residue(True)
     return _left_of_whole(problem, level, pairs) if problem.numpy else _exactly(problem, level, pairs)
 
 
@@ -114,7 +118,7 @@ class WholeArray:
         return WholeArray(self.numpy, pairs, left)
 
 
-def _left_of_whole(problem: Problem, level: Level, pairs: Pairs) -> Residue:
+def _left_of_whole(problem: AssignmentProblem, level: Level, pairs: Pairs) -> Residue:
     """What a level leaves of whole costs. Sums may wrap around, and what is left is small."""
     numpy = problem.numpy
     left, taken = arrays.costs_at(numpy, problem, level, pairs), taken_off(numpy, level, pairs)
@@ -122,7 +126,7 @@ def _left_of_whole(problem: Problem, level: Level, pairs: Pairs) -> Residue:
                                                  lambda part: left[part] - (taken[part] << -level.shift)))
 
 
-def _exactly(problem: Problem, level: Level, pairs: Pairs) -> Optional[Residue]:
+def _exactly(problem: AssignmentProblem, level: Level, pairs: Pairs) -> Optional[Residue]:
     """What a level leaves of costs of any kind, by exact numbers; None where it rounded nothing."""
     numpy = loaded_numpy()
     ratios = ratios_at(problem, level.asked, pairs.places.tolist())
@@ -165,7 +169,7 @@ def _halved(numpy: Any, whole: Any, shift: int, half: int) -> Any:
 # Where the costs of pairs stand.
 
 
-def places_in(problem: Problem, asked: proved.Instance, places: Sequence[int]) -> List[int]:
+def places_in(problem: AssignmentProblem, asked: proved.Instance, places: Sequence[int]) -> List[int]:
     """Where the costs of pairs stand that have some places in the lists of the library; -1 for pairs of dummies."""
     if len(asked.persons):
         return [place if place < len(problem.persons) else -1 for place in places] if problem.persons is not None else \
@@ -173,33 +177,23 @@ def places_in(problem: Problem, asked: proved.Instance, places: Sequence[int]) -
     return [_in_dense(problem, asked, place) for place in places]
 
 
-def _in_dense(problem: Problem, asked: proved.Instance, place: int) -> int:
+def _in_dense(problem: AssignmentProblem, asked: proved.Instance, place: int) -> int:
     """As `places_in`, for a problem that has all pairs."""
     if len(asked.persons):
         return place if place < problem.n_rows * problem.n_columns else -1
-    if not proved.is_turned(problem):
-        return place
-    column, row = divmod(place, asked.m)
-    return row * problem.n_columns + column
+    return int(own_place(problem, place))
 
 
-def ratios_at(problem: Problem, asked: proved.Instance, places: Sequence[int]) -> List[Ratio]:
+def ratios_at(problem: AssignmentProblem, asked: proved.Instance, places: Sequence[int]) -> List[Ratio]:
     """The costs of pairs at some places in the lists of the library, exactly, in the problem's own unit."""
-    costs = plain(problem.costs)
+    costs = plain(problem.costs.numbers)
     own = places_in(problem, asked, places)
     if problem.numpy:
         found = costs[problem.numpy.array(own, problem.numpy.intp)].tolist()
         held = [cost if place >= 0 else 0 for cost, place in zip(found, own)]
     else:
         held = [costs[place] if place >= 0 else 0 for place in own]
-    if not problem.raw or problem.unit != ONE:
-        return [(int(value), 1) for value in held]
-    known: Dict[Tuple[type, Any], Ratio] = {}
-    keys = [(type(value), value) for value in held]
-    for key in keys:
-        if key not in known:
-            known[key] = problem.ratio(key[1])
-    return [known[key] for key in keys]
+    return problem.costs.ratios_in_unit(held)
 
 
 # Sums of doubles.
@@ -209,9 +203,9 @@ class Doubles:
     """Pairs with costs that are doubles, or decimals that print as these. What is left of a cost is held as the sum of
     two doubles, `high` and `low`, and is at most `loose` off."""
 
-    def __init__(self, problem: Problem, level: Level, pairs: Pairs):
+    def __init__(self, problem: AssignmentProblem, doubles: bool, level: Level, pairs: Pairs):
         self.first = problem, level, pairs
-        self.numpy, self.doubles = problem.numpy, problem.doubles
+        self.numpy, self.doubles = problem.numpy, doubles
         self.pairs = pairs
         self.costs = arrays.costs_at(self.numpy, problem, level, pairs)
         self.taken, self.shift = taken_off(self.numpy, level, self.pairs), level.shift
@@ -232,9 +226,9 @@ class Doubles:
         self.pairs, self.costs, self.high, self.low = pairs, self.costs[places], self.high[places], self.low[places]
         self.levels = [(taken[places], shift) for taken, shift in self.levels]
         self.taken, self.shift = taken_off(self.numpy, level, pairs), level.shift
-        return self.held(False)
+        return self.residue(False)
 
-    def held(self, is_first: bool) -> Optional[Residue]:
+    def residue(self, is_first: bool) -> Optional[Residue]:
         """What is left after the last level, as whole numbers where these hold it exactly, and by exact numbers where
         doubles don't."""
         whole = self._plainly() if is_first and self.doubles else None

@@ -1,7 +1,7 @@
 """The best plan of a problem: the library's, or by levels where costs are beyond its range."""
 from typing import List, NamedTuple, Optional, Union
 
-from ..costs.problem import Problem, costs_of_pairs
+from ..costs.problem import AssignmentProblem, costs_of_pairs
 from . import levels, proved
 from .matching import most_served
 
@@ -9,20 +9,20 @@ Outcome = Union[proved.Assignment, proved.HallSet]
 Began = Optional[proved.WarmStart]
 
 
-def solved(problem: Problem, start: Began = None, served: Optional[int] = None) -> Outcome:
+def solved(problem: AssignmentProblem, start: Began = None, served: Optional[int] = None) -> Outcome:
     """The answer to the problem of so many pairs, an Answer or a Short: the library's, or by levels where costs are
     beyond its range."""
     if served == 0 or not min(problem.n_rows, problem.n_columns):
         return proved.no_pairs(problem)
-    if not problem.raw and not isinstance(problem.costs, list):
-        asked = proved.given(problem, served)
+    if problem.costs.of_64_bits() is not None:
+        asked = proved.instance_of(problem, served)
         answer = proved.answer(problem, asked, None if start is None else proved.first_of(problem, start, served))
         if answer is not None:
             return answer
     return levels.solved_by_levels(problem, served, start)
 
 
-def most(problem: Problem, start: Began) -> proved.Assignment:
+def most(problem: AssignmentProblem, start: Began) -> proved.Assignment:
     """The best of the fullest plans. The library also proves that no plan has one pair more."""
     served = most_served(problem)
     answer = solved(problem, start, served)
@@ -32,13 +32,13 @@ def most(problem: Problem, start: Began) -> proved.Assignment:
     return answer
 
 
-def prove_most(problem: Problem, served: int) -> None:
+def prove_most(problem: AssignmentProblem, served: int) -> None:
     """Lets the library say that no plan has more pairs."""
     if not isinstance(solved(problem, served=served + 1), proved.HallSet):
         raise RuntimeError(f"{served} pairs were found to be the most, and the library says otherwise")
 
 
-def least_sum(problem: Problem, served: int) -> Optional[int]:
+def least_sum(problem: AssignmentProblem, served: int) -> Optional[int]:
     """The least sum of so many pairs, whose costs are whole; None if the library proves that there are none."""
     answer = solved(problem, None, served)
     return None if isinstance(answer, proved.HallSet) else sum(costs_of_pairs(problem,
@@ -48,14 +48,14 @@ def least_sum(problem: Problem, served: int) -> Optional[int]:
 class BestPlan(NamedTuple):
     """A best plan of a problem whose costs are whole: the library's answer, the pairs, rows rising, and their sum."""
 
-    problem: Problem
+    problem: AssignmentProblem
     answer: proved.Assignment
     rows: List[int]
     columns: List[int]
     cost: int
 
 
-def best_plan(problem: Problem, fullest: bool = False) -> Optional[BestPlan]:
+def best_plan(problem: AssignmentProblem, fullest: bool = False) -> Optional[BestPlan]:
     """A best plan of a problem whose costs are whole; if the library proves that there is none, the best of the fullest
     ones, or None."""
     answer = solved(problem)

@@ -14,10 +14,12 @@ import sys
 from fractions import Fraction
 from typing import Any, List, NamedTuple, Optional, Sequence, Tuple
 
+from ..costs.kinds import WholeNumbers
 from ..costs.limits import GREATEST_COST
 from ..costs.numbers import in_unit, ratio_of, unit_of
-from ..costs.problem import Problem
-from ..costs.reading import size_of
+from ..costs.orientation import matrix_of
+from ..costs.problem import AssignmentProblem
+from ..costs.rounding import MOST_SHIFT, size_of
 from . import arrays, proved
 from .level import Level, more
 
@@ -58,20 +60,18 @@ class Values(NamedTuple):
     slots: Any
 
 
-def of_problem(problem: Problem) -> Optional[Matrix]:
+def of_problem(problem: AssignmentProblem) -> Optional[Matrix]:
     """The matrix of a problem of doubles that has many ties; None elsewhere."""
-    numpy = problem.numpy
-    if (numpy is None or not problem.raw or problem.persons is not None or not len(problem.costs)
-        or arrays.is_extreme(problem)):
+    numpy, doubles = problem.numpy, problem.matrix_of_doubles()
+    if doubles is None or not len(doubles) or arrays.is_extreme(doubles):
         return None
-    costs = problem.costs.reshape(problem.n_rows, problem.n_columns)
-    costs = costs.T if proved.is_turned(problem) else costs
-    near = math.ldexp(len(costs) + 2.0, -arrays.shift_of(problem, 39))
+    costs = matrix_of(problem)
+    near = math.ldexp(len(costs) + 2.0, -doubles.shift(39))
     rows = costs[::max(1, len(costs) // _ROWS)]
     rows = -rows if problem.maximize else rows
     if numpy.count_nonzero(rows <= rows.min(axis=1)[:, None] + near) - len(rows) < _SHARE * rows.size:
         return None
-    return Matrix(numpy, numpy.ascontiguousarray(-costs if problem.maximize else costs), not problem.doubles)
+    return Matrix(numpy, numpy.ascontiguousarray(-costs if problem.maximize else costs), not doubles.doubles)
 
 
 def best(matrix: Matrix) -> Optional[Any]:
@@ -82,8 +82,8 @@ def best(matrix: Matrix) -> Optional[Any]:
 
 def _solved(matrix: Matrix, left: Any) -> Optional[Any]:
     n, m = left.shape
-    problem = Problem(n, m, False, left.base, numpy=matrix.numpy)
-    answer = proved.answer(problem, proved.Instance(n, m, proved.NONE, proved.NONE, problem.costs))
+    problem = AssignmentProblem(n, m, False, WholeNumbers(left.base, numpy=matrix.numpy))
+    answer = proved.answer(problem, proved.Instance(n, m, proved.NONE, proved.NONE, left.base))
     return answer.objects if isinstance(answer, proved.Assignment) else None
 
 
@@ -94,9 +94,9 @@ def _left_of_doubles(matrix: Matrix) -> Optional[Any]:
     least = costs.min(axis=1)
     most = float((costs.max(axis=1) - least).max())
     power = 39 - math.frexp(most)[1]
-    if not abs(power) < arrays.MOST_SHIFT:
+    if not abs(power) < MOST_SHIFT:
         return None
-    left = _room_for(matrix)
+    left = _empty_for(matrix)
     for rows in matrix.blocks():
         block, low = costs[rows], least[rows, None]
         above = block - low
@@ -137,7 +137,7 @@ def _widest(numpy: Any, values: Values, least: Any, most: Any) -> int:
 
 def _above_least(matrix: Matrix, values: Values, least: Any) -> Optional[Any]:
     """By how many units each cost is above the least of its row; None where one isn't among the values."""
-    numpy, left = matrix.numpy, _room_for(matrix)
+    numpy, left = matrix.numpy, _empty_for(matrix)
     taken = values.wrapped[_known(numpy, values, least)]
     for rows in matrix.blocks():
         if (matrix.costs[rows] == least[rows, None]).all():
@@ -184,7 +184,7 @@ def _slots_of(numpy: Any, costs: Any) -> Tuple[float, Any]:
 
 def _whole_values(matrix: Matrix, values: Values) -> Optional[Any]:
     """All costs in the unit of the values, in 64 bits; None where one isn't among them."""
-    whole = _room_for(matrix)
+    whole = _empty_for(matrix)
     for rows in matrix.blocks():
         if not _put(matrix.numpy, values, matrix.costs[rows], whole[rows]):
             return None
@@ -199,7 +199,7 @@ def _put(numpy: Any, values: Values, costs: Any, whole: Any) -> bool:
     return places is not None
 
 
-def _room_for(matrix: Matrix) -> Any:
+def _empty_for(matrix: Matrix) -> Any:
     """Room for a whole number for each cost: a view of a list that is the library's."""
     return matrix.numpy.empty(matrix.costs.size, matrix.numpy.int64).reshape(matrix.costs.shape)
 
@@ -280,8 +280,8 @@ def _decimals(matrix: Matrix) -> Tuple[Any, Fraction]:
 def _doubles(matrix: Matrix) -> Tuple[Any, Fraction]:
     """All costs as whole numbers of a power of two, and its denominator; None where they aren't whole."""
     power = arrays.MOST_BITS - math.frexp(size_of(matrix.costs.ravel()))[1]
-    whole = _room_for(matrix)
+    whole = _empty_for(matrix)
     for rows in matrix.blocks():
-        if not abs(power) < arrays.MOST_SHIFT or not _put_whole(matrix.costs[rows], power, whole[rows]):
+        if not abs(power) < MOST_SHIFT or not _put_whole(matrix.costs[rows], power, whole[rows]):
             return None, Fraction(1)
     return whole, Fraction(2)**power

@@ -1,7 +1,7 @@
 """Answers by names: the plan of a roster, or who is short of what."""
 from collections import Counter
 from itertools import islice
-from typing import Dict, List, NamedTuple, Optional, Sequence, Set, Tuple
+from typing import List, Mapping, NamedTuple, Optional, Sequence, Set, Tuple
 
 from ..costs.limits import Numbers
 from ..lap.duals import duals_of_whole
@@ -9,7 +9,7 @@ from ..lap.matching import short_groups
 from ..lap.proved import rents
 from ..lap.ranking import plans_in_order
 from ..lap.solving import BestPlan, best_plan
-from .groups import missing_of
+from .groups import missing_of, order_of
 from .names import NamesShown, joined, numbered
 from .nodes import (Edges, RosterNodes, Swap, changed, face_of, fewest_changes, is_only_one, least_costs,
     nodes_without, problem_of, swaps_of)
@@ -43,15 +43,15 @@ class ShortGroup(NamedTuple):
 class NamedPlan(NamedTuple):
     """Pairs in the order of the persons, their cost, who and what gets less than it should, and the rent of each object
     that isn't fixed, where nobody counts several times. Costs and rents are in the roster's units. `is_only_one` says
-    that no other plan is as good; where others were asked for, `swaps` are the groups that could change places at no
-    cost, and `next_cost` is that of the best other plan, if it costs more. `following` are the next plans in order, as
-    many as were asked for. Where changes are weighed nothing is said of others."""
+    that no other plan is as good; where others were asked for, `swaps` are the groups that could swap at no cost, and
+    `next_cost` is that of the best other plan, if it costs more. `following` are the next plans in order, as many as
+    were asked for. Where changes are weighed nothing is said of others."""
 
     pairs: List[Pair]
     cost: int
     without: List[int]
     unused: List[int]
-    rents: Dict[int, int]
+    rents: Mapping[int, int]
     swaps: Sequence[Swap] = ()
     is_only_one: bool = True
     next_cost: Optional[int] = None
@@ -97,41 +97,41 @@ def nodes_around(roster: Roster, fixed: Sequence[PlanLine]) -> RosterNodes:
     return nodes_without(nodes, [(pair.person, pair.object) for pair in fixed]) if fixed else nodes
 
 
-def answer_of(roster: Roster, wish: Request) -> Answer:
+def answer_of(roster: Roster, request: Request) -> Answer:
     """The answer to a roster in which each name counts once; TooLarge where it is so for the library."""
-    nodes = nodes_around(roster, wish.fixed)
-    costs = least_costs(nodes, wish.maximize)
-    if wish.kept is not None and wish.change:
-        costs = changed(costs, nodes.edges, wish.kept, wish.change)
+    nodes = nodes_around(roster, request.fixed)
+    costs = least_costs(nodes, request.maximize)
+    if request.kept is not None and request.change:
+        costs = changed(costs, nodes.edges, request.kept, request.change)
     problem = problem_of(nodes, costs)
     best = best_plan(problem)
     groups: List[ShortGroup] = []
     if best is None:
         groups = shortages(nodes, short_groups(problem))
-        best = best_plan(problem, True) if wish.fullest else None
-    return Answer(None if best is None else _plan(roster, wish, nodes, costs, best), groups)
+        best = best_plan(problem, True) if request.fullest else None
+    return Answer(None if best is None else _plan(roster, request, nodes, costs, best), groups)
 
 
-def _plan(roster: Roster, wish: Request, nodes: RosterNodes, costs: Numbers, best: BestPlan) -> NamedPlan:
+def _plan(roster: Roster, request: Request, nodes: RosterNodes, costs: Numbers, best: BestPlan) -> NamedPlan:
     prices = rents(duals_of_whole(best))
     of_objects, chosen = dict(zip(nodes.of_columns, prices)), nodes.pairs(best.rows, best.columns)
-    plan = plan_of(roster, wish.fixed, chosen, of_objects)
-    if wish.kept is not None and wish.change is not None:
+    plan = plan_of(roster, request.fixed, chosen, of_objects)
+    if request.kept is not None and request.change is not None:
         return plan
     face = face_of(nodes, costs, best, prices)
-    if wish.kept is not None:
-        first, chosen = plan, fewest_changes(nodes, face, len(best.rows), wish.kept)
-        plan = plan_of(roster, wish.fixed, chosen, of_objects)
+    if request.kept is not None:
+        first, chosen = plan, fewest_changes(nodes, face, len(best.rows), request.kept)
+        plan = plan_of(roster, request.fixed, chosen, of_objects)
         if (len(plan.pairs), plan.cost) != (len(first.pairs), first.cost):
             raise RuntimeError("a plan with fewest changes was found to be as good as the best, and isn't")
-    swaps = swaps_of(nodes, face, chosen) if wish.others else []
-    plan = plan._replace(swaps=swaps, is_only_one=not swaps if wish.others else is_only_one(nodes, face, chosen))
-    is_next_shown = wish.others and plan.is_only_one
-    count = max(wish.plans - 1, int(is_next_shown))
+    swaps = swaps_of(nodes, face, chosen) if request.others else []
+    plan = plan._replace(swaps=swaps, is_only_one=not swaps if request.others else is_only_one(nodes, face, chosen))
+    is_next_shown = request.others and plan.is_only_one
+    count = max(request.plans - 1, int(is_next_shown))
     # The library's first plan may be another one than that with the fewest changes.
     ranked = plans_in_order(best, count + 1) if count else iter(())
     others = (pairs for pairs in (nodes.pairs(*other) for other in ranked) if pairs != chosen)
-    following = [plan_of(roster, wish.fixed, pairs, {}) for pairs in islice(others, count)]
+    following = [plan_of(roster, request.fixed, pairs) for pairs in islice(others, count)]
     return with_following(plan, following, is_next_shown)
 
 
@@ -153,19 +153,28 @@ def shortages(nodes: RosterNodes, groups: Sequence[Tuple[List[int], List[int]]])
     return shorts
 
 
-def plan_of(roster: Roster, fixed: Sequence[PlanLine], chosen: List[Tuple[int, int]],
-            rents: Dict[int, int]) -> NamedPlan:
-    """A plan of the fixed pairs and of those chosen for the others."""
-    costs = roster.costs_of(set(chosen))
+def plan_of(roster: Roster, fixed: Sequence[PlanLine], chosen: Sequence[Tuple[int, int]],
+            rents: Mapping[int, int] = {}) -> NamedPlan:
+    """A plan of the fixed pairs and of those chosen for the others, each person's in the order of groups."""
+    costs, ranks = roster.costs_of(set(chosen)), order_of(roster)
     pairs = [Pair(pair.person, pair.object, pair.cost, True) for pair in fixed]
     pairs += [Pair(person, object_, costs[person, object_], False) for person, object_ in chosen]
-    pairs.sort()
-    had = Counter(pair.person for pair in pairs)
-    used = Counter(pair.object for pair in pairs)
-    return NamedPlan(
-        pairs, sum(pair.cost for pair in pairs),
-        [person for person in range(len(roster.persons)) if had[person] < roster.tasks_of(person)],
-        [object_ for object_ in range(len(roster.objects)) if used[object_] < roster.places_of(object_)], rents)
+    pairs.sort(key=lambda pair: (pair.person, ranks[pair.object]))
+    had, used = Counter(pair.person for pair in pairs), Counter(pair.object for pair in pairs)
+    least_tasks, least_staff = roster.least or ({}, {})
+    without = [person for person in range(len(roster.persons))
+               if had[person] < _wanted(roster, roster.tasks_of(person), least_tasks.get(person, 0))]
+    unused = [object_ for object_ in range(len(roster.objects)) if object_ not in roster.past
+              and used[object_] < _wanted(roster, roster.capacity_of(object_), least_staff.get(object_, 0))]
+    return NamedPlan(pairs, sum(pair.cost for pair in pairs), without, unused, rents)
+
+
+def _wanted(roster: Roster, most: int, least: int) -> int:
+    """How many a name has that isn't left out. With bounds one is enough, and what misses its least count is
+    missing."""
+    if roster.least is None:
+        return most
+    return min(most, 1) if least == 0 else 0
 
 
 class Out(NamedTuple):
@@ -177,13 +186,13 @@ class Out(NamedTuple):
 
 
 def left_out(roster: Roster, plan: NamedPlan) -> List[Out]:
-    """Who gets less than it should, and what has places left, as far as there are any; with bounds what misses its
+    """Who gets less than it should, and what isn't full, as far as there are any; with bounds what misses its
     least count, and who and what is in no pair."""
     had, used = Counter(pair.person for pair in plan.pairs), Counter(pair.object for pair in plan.pairs)
     by_bounds = roster.least is not None
     without = [_part_of(roster.persons[number], had[number], 1 if by_bounds else roster.tasks_of(number))
                for number in plan.without]
-    unused = [_part_of(roster.objects[number], used[number], 1 if by_bounds else roster.places_of(number))
+    unused = [_part_of(roster.objects[number], used[number], 1 if by_bounds else roster.capacity_of(number))
               for number in plan.unused]
     outs = [Out("missing", side, [f"{missing.name}: {missing.had} of {missing.least}"
                                   for missing in missing_of(roster, plan.pairs) if missing.side == side])

@@ -62,7 +62,7 @@ class PersonRow(NamedTuple):
     whole: int
 
 
-class Place(NamedTuple):
+class Staff(NamedTuple):
     """Who is at an object on a day, and how many are of how many where these are too few."""
 
     persons: List[str]
@@ -73,7 +73,7 @@ class ObjectRow(NamedTuple):
     """The objects of one label, day by day: None where there is none."""
 
     label: str
-    places: List[Optional[Place]]
+    staff: List[Optional[Staff]]
 
 
 class Block(NamedTuple):
@@ -91,7 +91,7 @@ class Block(NamedTuple):
 Spot = Tuple[int, Optional[int]]
 
 
-class _Held(NamedTuple):
+class _DayTable(NamedTuple):
     """What all blocks of a plan are made from: entries and what is gone by person and group, the persons and groups
     with an allowed pair, who is at which object, what is missing there, and how many each person has."""
 
@@ -109,9 +109,9 @@ def blocks_of(roster: Roster, plan: NamedPlan, kept: Optional[OldPlan] = None) -
     if roster.groups is None:
         return []
     labels = labels_of(roster)
-    held = _held(roster, plan, labels, kept)
+    table = _table_of(roster, plan, labels, kept)
     weeks = _weeks(roster, roster.groups)
-    return [_block(roster, labels, held, week, _caption(roster.groups, week) if len(weeks) > 1 else "")
+    return [_block(roster, labels, table, week, _caption(roster.groups, week) if len(weeks) > 1 else "")
             for week in weeks]
 
 
@@ -184,7 +184,7 @@ def without_group(name: str, group: str) -> str:
     return name
 
 
-def _held(roster: Roster, plan: NamedPlan, labels: List[str], kept: Optional[OldPlan]) -> _Held:
+def _table_of(roster: Roster, plan: NamedPlan, labels: List[str], kept: Optional[OldPlan]) -> _DayTable:
     before = None if kept is None else set(kept.pairs)
     entries: Dict[Spot, List[Entry]] = {}
     who: Dict[int, List[str]] = {}
@@ -197,7 +197,7 @@ def _held(roster: Roster, plan: NamedPlan, labels: List[str], kept: Optional[Old
         who.setdefault(pair.object, []).append(person)
     missing = {one.number: (one.had, one.least) for one in missing_of(roster, plan.pairs) if one.side == 1}
     gone = {} if kept is None else _gone(roster, plan, labels, kept)
-    return _Held(entries, gone, _allowed(roster), who, missing, Counter(pair.person for pair in plan.pairs))
+    return _DayTable(entries, gone, _allowed(roster), who, missing, Counter(pair.person for pair in plan.pairs))
 
 
 def _gone(roster: Roster, plan: NamedPlan, labels: List[str], kept: OldPlan) -> Dict[Spot, List[str]]:
@@ -219,30 +219,31 @@ def _allowed(roster: Roster) -> Optional[Set[Spot]]:
     return {(person, groups[object_]) for person, object_ in zip(roster.of_persons, roster.of_objects)}
 
 
-def _block(roster: Roster, labels: List[str], held: _Held, days: List[Day], caption: str) -> Block:
-    persons = [_person(held, person, name, days) for person, name in enumerate(roster.persons)]
+def _block(roster: Roster, labels: List[str], table: _DayTable, days: List[Day], caption: str) -> Block:
+    persons = [_person(table, person, name, days) for person, name in enumerate(roster.persons)]
     totals = [sum(len(row.cells[column].entries) for row in persons) for column in range(len(days))]
-    return Block(caption, days, persons, totals, _objects(roster, labels, held, days))
+    return Block(caption, days, persons, totals, _objects(roster, labels, table, days))
 
 
-def _person(held: _Held, person: int, name: str, days: List[Day]) -> PersonRow:
-    cells = [_cell(held, (person, day.group)) if day.has_objects else Cell([], [], False) for day in days]
-    return PersonRow(person, name, cells, sum(len(cell.entries) for cell in cells), held.whole.get(person, 0))
+def _person(table: _DayTable, person: int, name: str, days: List[Day]) -> PersonRow:
+    cells = [_cell(table, (person, day.group)) if day.has_objects else Cell([], [], False) for day in days]
+    return PersonRow(person, name, cells, sum(len(cell.entries) for cell in cells), table.whole.get(person, 0))
 
 
-def _cell(held: _Held, spot: Spot) -> Cell:
-    entries = held.entries.get(spot, [])
-    return Cell(entries, held.gone.get(spot, []), not entries and held.allowed is not None and spot not in held.allowed)
+def _cell(table: _DayTable, spot: Spot) -> Cell:
+    entries = table.entries.get(spot, [])
+    is_off = not entries and table.allowed is not None and spot not in table.allowed
+    return Cell(entries, table.gone.get(spot, []), is_off)
 
 
-def _objects(roster: Roster, labels: List[str], held: _Held, days: List[Day]) -> List[ObjectRow]:
+def _objects(roster: Roster, labels: List[str], table: _DayTable, days: List[Day]) -> List[ObjectRow]:
     """A row for each label of the objects of some days, in the order of the groups' file."""
     columns = {day.group: column for column, day in enumerate(days) if day.has_objects}
-    rows: Dict[str, List[Optional[Place]]] = {}
+    rows: Dict[str, List[Optional[Staff]]] = {}
     ranks = order_of(roster)
     for number in sorted(range(len(labels)), key=ranks.__getitem__):
         column = columns.get(group_of(roster, number))
         if column is not None:
-            places = rows.setdefault(labels[number], [None] * len(days))
-            places[column] = Place(held.who.get(number, []), held.missing.get(number))
-    return [ObjectRow(label, places) for label, places in rows.items()]
+            staff = rows.setdefault(labels[number], [None] * len(days))
+            staff[column] = Staff(table.who.get(number, []), table.missing.get(number))
+    return [ObjectRow(label, staff) for label, staff in rows.items()]

@@ -9,41 +9,40 @@ from ..counts.lack import Lack
 from ..counts.nodes import Bounds, Counted, TooManyNodes
 from ..counts.planned import planned
 from ..counts.ranked import plans_after
-from .answer import Answer, NamedPlan, Pair, Request, ShortGroup, plural, with_following
-from .groups import order_of
+from .answer import Answer, Request, ShortGroup, plan_of, plural, with_following
 from .nodes import Swap
 from .roster import PlanLine, Roster
 from .sentences import sentence_of
 
 
-def answer_by_counts(roster: Roster, wish: Request) -> Answer:
+def answer_by_counts(roster: Roster, request: Request) -> Answer:
     """The answer to a roster with counts or groups; TooLarge where it is so for the library."""
-    counted = counted_of(roster, wish)
+    counted = counted_of(roster, request)
     try:
-        lacks, pairs, exchanges = planned(counted, wish.fullest, wish.kept if wish.change is None else None)
+        lacks, pairs, exchanges = planned(counted, request.fullest, request.kept if request.change is None else None)
     except TooManyNodes as fault:
         persons, objects = map(plural, roster.titles[:2])
         raise TooLarge(fault.said(f"{objects} that {persons} may take", f"places at {objects}")) from fault
-    groups = [_short(roster, counted, lack, _around(roster, wish.fixed)) for lack in lacks]
+    groups = [_short(roster, counted, lack, _around(roster, request.fixed)) for lack in lacks]
     if pairs is None or exchanges is None:
         return Answer(None, groups)
-    plan = plan_around(roster, wish.fixed, pairs)
-    if wish.kept is not None and wish.change is not None:
+    plan = plan_of(roster, request.fixed, pairs)
+    if request.kept is not None and request.change is not None:
         return Answer(plan, groups)
     swaps = [Swap(those) for those in free_pairs(exchanges)]
     plan = plan._replace(swaps=swaps, is_only_one=not swaps)
-    count = max(wish.plans - 1, int(wish.others and not swaps))
-    following = [plan_around(roster, wish.fixed, sorted(other.pairs))
+    count = max(request.plans - 1, int(request.others and not swaps))
+    following = [plan_of(roster, request.fixed, sorted(other.pairs))
                  for other in islice(plans_after(counted, pairs, bool(lacks)), count)]
-    return Answer(with_following(plan, following, wish.others and not swaps), groups)
+    return Answer(with_following(plan, following, request.others and not swaps), groups)
 
 
-def counted_of(roster: Roster, wish: Request) -> Counted:
+def counted_of(roster: Roster, request: Request) -> Counted:
     """What is left to plan around the fixed pairs, with costs that are to be least. Where changes cost, these are
     doubled: half of what a change costs is that of a pair that comes, and of one that goes."""
     group_of, n_groups = _groups(roster)
-    taken = {(pair.person, group_of[pair.object]) for pair in wish.fixed}
-    sign = -1 if wish.maximize else 1
+    taken = {(pair.person, group_of[pair.object]) for pair in request.fixed}
+    sign = -1 if request.maximize else 1
     rows: List[int] = []
     columns: List[int] = []
     costs: List[int] = []
@@ -52,10 +51,10 @@ def counted_of(roster: Roster, wish: Request) -> Counted:
             rows.append(person)
             columns.append(object_)
             costs.append(sign * cost)
-    if wish.kept is not None and wish.change:
-        costs = [2 * cost + (-wish.change if pair in wish.kept else wish.change)
+    if request.kept is not None and request.change:
+        costs = [2 * cost + (-request.change if pair in request.kept else request.change)
                  for cost, pair in zip(costs, zip(rows, columns))]
-    return Counted(*bounds_around(roster, wish.fixed), group_of, n_groups, rows, columns, costs)
+    return Counted(*bounds_around(roster, request.fixed), group_of, n_groups, rows, columns, costs)
 
 
 def _groups(roster: Roster) -> Tuple[List[int], int]:
@@ -72,15 +71,16 @@ def bounds_around(roster: Roster, fixed: Sequence[PlanLine]) -> Tuple[List[Bound
     smaller side takes all."""
     had, used = Counter(pair.person for pair in fixed), Counter(pair.object for pair in fixed)
     tasks = [roster.tasks_of(person) - had[person] for person in range(len(roster.persons))]
-    places = [0 if object_ in roster.past else roster.places_of(object_) - used[object_]
+    capacities = [0 if object_ in roster.past else roster.capacity_of(object_) - used[object_]
               for object_ in range(len(roster.objects))]
     if roster.least is None:
-        all_served = sum(tasks) <= sum(places)
+        all_served = sum(tasks) <= sum(capacities)
         return ([Bounds(most if all_served else 0, most) for most in tasks],
-                [Bounds(0 if all_served else most, most) for most in places])
+                [Bounds(0 if all_served else most, most) for most in capacities])
     of_persons, of_objects = roster.least
     return ([Bounds(max(0, of_persons.get(person, 0) - had[person]), most) for person, most in enumerate(tasks)],
-            [Bounds(max(0, of_objects.get(object_, 0) - used[object_]), most) for object_, most in enumerate(places)])
+            [Bounds(max(0, of_objects.get(object_, 0) - used[object_]), most)
+             for object_, most in enumerate(capacities)])
 
 
 def _around(roster: Roster, fixed: Sequence[PlanLine]) -> str:
@@ -99,26 +99,3 @@ def _short(roster: Roster, counted: Counted, lack: Lack, around: str) -> ShortGr
         objects.update(column for row_group, column in zip(counted.row_groups(), counted.columns) if row_group in once)
     return ShortGroup(persons, sorted(objects), lack.of_columns, lack.wanted, lack.had,
                       around + sentence_of(roster, counted, lack))
-
-
-def plan_around(roster: Roster, fixed: Sequence[PlanLine], chosen: Sequence[Tuple[int, int]]) -> NamedPlan:
-    """A plan of the fixed pairs and of those chosen for the others, each person's in the order of groups."""
-    costs, ranks = roster.costs_of(set(chosen)), order_of(roster)
-    pairs = [Pair(pair.person, pair.object, pair.cost, True) for pair in fixed]
-    pairs += [Pair(person, object_, costs[person, object_], False) for person, object_ in chosen]
-    pairs.sort(key=lambda pair: (pair.person, ranks[pair.object]))
-    had, used = Counter(pair.person for pair in pairs), Counter(pair.object for pair in pairs)
-    least_tasks, least_places = roster.least or ({}, {})
-    without = [person for person in range(len(roster.persons))
-               if had[person] < _wanted(roster, roster.tasks_of(person), least_tasks.get(person, 0))]
-    unused = [object_ for object_ in range(len(roster.objects)) if object_ not in roster.past
-              and used[object_] < _wanted(roster, roster.places_of(object_), least_places.get(object_, 0))]
-    return NamedPlan(pairs, sum(pair.cost for pair in pairs), without, unused, {})
-
-
-def _wanted(roster: Roster, most: int, least: int) -> int:
-    """How many a name has that isn't left out. With bounds one is enough, and what misses its least count is
-    missing."""
-    if roster.least is None:
-        return most
-    return min(most, 1) if least == 0 else 0

@@ -3,8 +3,7 @@ import time
 from typing import Callable, Dict, List, NamedTuple, Optional, Sequence, Tuple
 
 from ..rows.model import Certificate, Finding, Row
-from .answer import Answer, NamedPlan, Request
-from .by_counts import plan_around
+from .answer import Answer, NamedPlan, Request, plan_of
 from .month import Month
 from .roster import Roster
 from .roster_rows import Built, OwnRow, built
@@ -27,7 +26,7 @@ class Task(NamedTuple):
     roster: Roster
     month: Month
     rules: Rules
-    wish: Request
+    request: Request
     seconds: float
     own: Sequence[OwnRow] = ()
     progress: Optional[Progress] = None
@@ -93,7 +92,7 @@ def answer_by_rules(task: Task) -> Tuple[Answer, Proved]:
         proved = Proved(IMPOSSIBLE, task.seconds, reasons=_reasons(stages.built, finding.reasons),
                         is_minimal=finding.is_minimal, is_around_past=_is_around_past(task),
                         certificate=finding.certificate)
-        return _fullest(task, proved, end) if task.wish.fullest else (Answer(None, []), proved)
+        return _fullest(task, proved, end) if task.request.fullest else (Answer(None, []), proved)
     if finding.plan is None:
         return Answer(None, []), Proved(UNDECIDED, task.seconds, certificate=finding.certificate)
     return stages.answer(finding)
@@ -143,7 +142,7 @@ class _Stages:
 
     def _build(self, is_measured: bool) -> Built:
         task = self.task
-        return built(task.roster, task.rules, task.month, task.wish, task.own, self._may_miss, self._spreads,
+        return built(task.roster, task.rules, task.month, task.request, task.own, self._may_miss, self._spreads,
                      is_measured)
 
     def _left(self, share: float = 1.0) -> float:
@@ -168,11 +167,11 @@ class _Stages:
 
     def _pair_costs(self) -> List[int]:
         """What variables cost, twice where half of what a change costs counts for each."""
-        wish, costs = self.task.wish, list(self.built.rows.costs)
-        if wish.kept is not None and wish.change is not None:
+        request, costs = self.task.request, list(self.built.rows.costs)
+        if request.kept is not None and request.change is not None:
             costs = [2 * cost for cost in costs]
             for variable, pair in enumerate(self.built.pairs):
-                costs[variable] += -wish.change if pair in wish.kept else wish.change
+                costs[variable] += -request.change if pair in request.kept else request.change
         return costs
 
     def costs(self) -> Finding:
@@ -208,11 +207,11 @@ class _Stages:
     @property
     def _counts_changes(self) -> bool:
         """Whether of plans of one cost that with the fewest changes is asked for."""
-        return self.task.wish.kept is not None and self.task.wish.change is None
+        return self.task.request.kept is not None and self.task.request.change is None
 
     def answer(self, finding: Finding) -> Tuple[Answer, Proved]:
         """The answer by a plan that was found, and what was proved of it."""
-        wish, costs = self.task.wish, self._pair_costs()
+        request, costs = self.task.request, self._pair_costs()
         changed = self._with_fewest_changes(finding, costs) if self._counts_changes else finding
         values = changed.plan if changed.plan is not None else finding.plan or ()
         plan = self._plan(values)
@@ -220,7 +219,8 @@ class _Stages:
         better = None if finding.bound is None else cost - finding.bound
         kind = UNDECIDED if better is None else WITHIN if better else BEST
         missing = self._missing
-        proved = Proved(kind, self.task.seconds, better, self._with_changes(cost) if wish.change is not None else None,
+        with_changes = self._with_changes(cost) if request.change is not None else None
+        proved = Proved(kind, self.task.seconds, better, with_changes,
                         missing=0 if missing is None or missing.cost is None else missing.cost,
                         least_missing=None if missing is None else missing.bound,
                         is_most_even=all(reached.kind == BEST for reached in self._reached),
@@ -229,13 +229,13 @@ class _Stages:
         return Answer(plan, []), self._with_otherwise(proved)
 
     def _plan(self, values: Sequence[int]) -> NamedPlan:
-        fixed = {(pair.person, pair.object) for pair in self.task.wish.fixed}
+        fixed = {(pair.person, pair.object) for pair in self.task.request.fixed}
         chosen = [pair for pair, value in zip(self.built.pairs, values) if value and pair not in fixed]
-        return plan_around(self.task.roster, self.task.wish.fixed, sorted(chosen))
+        return plan_of(self.task.roster, self.task.request.fixed, sorted(chosen))
 
     def _with_fewest_changes(self, finding: Finding, costs: Sequence[int]) -> Finding:
         """Of plans that cost no more one with the fewest changes from the kept plan."""
-        kept = self.task.wish.kept or set()
+        kept = self.task.request.kept or set()
         factors = {variable: -1 if pair in kept else 1 for variable, pair in enumerate(self.built.pairs)}
         terms = tuple((variable, cost) for variable, cost in enumerate(costs) if cost)
         self._rows.append(Row(None, terms, finding.cost, COSTS))
@@ -244,14 +244,14 @@ class _Stages:
 
     def _with_changes(self, cost: int) -> int:
         """What a plan costs with its changes, in halves: a kept pair that goes costs too."""
-        kept = self.task.wish.kept or set()
+        kept = self.task.request.kept or set()
         still = sum(pair in kept for pair in self.built.pairs)
-        return (-1 if self.task.wish.maximize else 1) * (cost + still * (self.task.wish.change or 0)
+        return (-1 if self.task.request.maximize else 1) * (cost + still * (self.task.request.change or 0)
                                                          + 2 * self._past_cost())
 
     def _past_cost(self) -> int:
-        sign = -1 if self.task.wish.maximize else 1
-        return sign * sum(pair.cost for pair in self.task.wish.fixed if pair.object in self.task.roster.past)
+        sign = -1 if self.task.request.maximize else 1
+        return sign * sum(pair.cost for pair in self.task.request.fixed if pair.object in self.task.roster.past)
 
     def _even(self, plan: NamedPlan) -> List[Evenness]:
         """How even a plan is."""
@@ -272,7 +272,7 @@ class _Stages:
         if not self.is_even:
             return proved
         task = self.task
-        other = _Stages(task._replace(wish=task.wish._replace(kept=None, change=None)), self._end, self._may_miss,
+        other = _Stages(task._replace(request=task.request._replace(kept=None, change=None)), self._end, self._may_miss,
                         False)
         finding = other.costs()
         if finding.plan is None:

@@ -38,7 +38,7 @@ def changes_of(roster: Roster, plan: NamedPlan, kept: OldPlan) -> Changes:
     left = [pair for pair in sorted(kept.known) if (pair.person, pair.object) not in now]
     past = Counter(pair.person for pair in plan.pairs if pair.object in roster.past)
     full = {(pair.person, pair.object) for pair in left
-            if roster.tasks_of(pair.person) <= past[pair.person] or roster.places_of(pair.object) == 0}
+            if roster.tasks_of(pair.person) <= past[pair.person] or roster.capacity_of(pair.object) == 0}
     return Changes([pair for pair in plan.pairs if (pair.person, pair.object) not in before],
                    [pair for pair in left if (pair.person, pair.object) not in full], _lost(roster, kept, full, now))
 

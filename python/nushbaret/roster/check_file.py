@@ -20,8 +20,8 @@ def checked(path: str) -> Tuple[int, str]:
 
 
 def _claim(certificate: Certificate) -> str:
-    """What is shown. With a plan the last row bounds the cost. Costs are whole, in units of the roster's last decimal
-    place."""
+    """What is shown. With a plan the last row bounds the cost. Costs are whole, in units of the roster's last
+    decimal."""
     count = len(certificate.rows)
     last = certificate.rows[-1] if certificate.rows else None
     if certificate.plan is None or last is None or last.most is None:

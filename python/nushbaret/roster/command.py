@@ -12,7 +12,7 @@ import sys
 from typing import TYPE_CHECKING, List, Optional, Sequence, Tuple
 
 from ..costs.problem import TooLarge
-from ..costs.reading import MOST_PLACES
+from ..costs.reading import MOST_UNIT_DECIMALS
 from .answer import Answer, Fair, Request, answer_of
 from .files import (STANDARD_OUTPUT, Output, OutputFault, is_device, make_folder, print_content, refuse_existing,
     write_files)
@@ -134,16 +134,16 @@ def _report(options: Options, roster: Roster) -> Report:
     ruling = _read_rules(options, roster)
     hand = _read_hand(options.compare, roster, fixed, ruling) if options.compare else None
     pairs = None if kept is None else {(pair.person, pair.object) for pair in kept.known}
-    wish = Request(fixed, options.max, options.as_many_as_can, pairs, change_cost(options, roster), options.others,
+    request = Request(fixed, options.max, options.as_many_as_can, pairs, change_cost(options, roster), options.others,
                    options.plans)
     fair: Optional[Fair] = None
     proved: Optional["Proved"] = None
     try:
         if ruling is not None:
             from .ruling import answered_by
-            answer, proved = answered_by(ruling, roster, wish, options)
+            answer, proved = answered_by(ruling, roster, request, options)
         else:
-            answer, fair = _answered(roster, wish, options.fair)
+            answer, fair = _answered(roster, request, options.fair)
     except TooLarge as fault:
         raise RosterFault(options.roster, str(fault)) from fault
     if hand is not None and answer.plan is not None:
@@ -183,7 +183,7 @@ def _read_past(options: Options, roster: Roster, kept: Optional[OldPlan]) -> Tup
     return roster, kept, past
 
 
-def _answered(roster: Roster, wish: Request, is_fair: bool) -> Tuple[Answer, Optional[Fair]]:
+def _answered(roster: Roster, request: Request, is_fair: bool) -> Tuple[Answer, Optional[Fair]]:
     """The answer, and what is to be said of a fair one. What few rosters need is imported here: loading takes a small
     one's time."""
     solve = answer_of
@@ -191,9 +191,9 @@ def _answered(roster: Roster, wish: Request, is_fair: bool) -> Tuple[Answer, Opt
         from .by_counts import answer_by_counts
         solve = answer_by_counts
     if not is_fair:
-        return solve(roster, wish), None
+        return solve(roster, request), None
     from .fair import fair_answer
-    return fair_answer(roster, wish, solve)
+    return fair_answer(roster, request, solve)
 
 
 def _read(options: Options) -> Roster:
@@ -204,10 +204,10 @@ def _read(options: Options) -> Roster:
     forgotten: List[Optional[str]] = []
     try:
         tasks = read_counts(options.tasks, roster, False) if options.tasks else None
-        places = read_counts(options.places, roster, True) if options.places else None
-        roster = with_rules(roster, tasks, places, read_groups(options.groups, roster, options.before is not None)
+        capacities = read_counts(options.places, roster, True) if options.places else None
+        roster = with_rules(roster, tasks, capacities, read_groups(options.groups, roster, options.before is not None)
                             if options.groups else None)
-        forgotten = [forgotten_line(roster, counts, side) for side, counts in ((1, places), (0, tasks))
+        forgotten = [forgotten_line(roster, counts, side) for side, counts in ((1, capacities), (0, tasks))
                      if counts is not None]
     finally:
         for line in [*read_lines(options.roster, roster, sys.stderr is not None and sys.stderr.isatty()),
@@ -241,7 +241,7 @@ def change_cost(options: Options, roster: Roster) -> Optional[int]:
     part = (found[2] or "").rstrip("0")
     if len(part) > roster.decimals:
         word = "--round" if options.round is not None else "--decimals"
-        hint = f": {word} {len(part)} allows it" if len(part) <= MOST_PLACES else ""
+        hint = f": {word} {len(part)} allows it" if len(part) <= MOST_UNIT_DECIMALS else ""
         raise RosterFault("--change-cost", f"{quoted(text)} has more decimal places than the roster's "
                           f"{roster.decimals}{hint}")
     return int(found[1] + part.ljust(roster.decimals, "0"))

@@ -7,11 +7,11 @@ from operator import floordiv, mod, mul
 from typing import Iterable, List, NoReturn, Optional, Protocol, Sequence, Tuple
 
 from ..costs.limits import GREATEST_COST, Numbers
-from ..costs.reading import MOST_PLACES
+from ..costs.reading import MOST_UNIT_DECIMALS
 from .names import quoted
 
-MILLION = 10**MOST_PLACES
-ZEROS = "0" * MOST_PLACES
+MILLION = 10**MOST_UNIT_DECIMALS
+ZEROS = "0" * MOST_UNIT_DECIMALS
 NUMBERS = b"0123456789+-"
 
 
@@ -22,22 +22,22 @@ class Refuses(Protocol):
 
 
 class CostColumn:
-    """Costs as they are read, exactly, with as many places as they have until it is known how many are used."""
+    """Costs as they are read, exactly, with as many decimals as they have until it is known how many are used."""
 
     def __init__(self, sheet: Refuses, decimals: Optional[int], comma: bool, rounds: Optional[int] = None) -> None:
         self._sheet, self._comma, self._rounds = sheet, comma, rounds
         self._given = decimals if rounds is None else rounds
-        self._most = MOST_PLACES if decimals is None else decimals
+        self._most = MOST_UNIT_DECIMALS if decimals is None else decimals
         self.rounded = False
         point = "," if comma else r"\."
-        # Sign, whole part without leading zeros, decimal places without trailing zeros; at least one digit.
+        # Sign, whole part without leading zeros, decimals without trailing zeros; at least one digit.
         self._plain = re.compile(rf"([+-]?)(?={point}?[0-9])0*([0-9]*)(?:{point}([0-9]*?)0*)?")
         self._empty = {"", "+", "-", *(sign + point[-1] for sign in ("", "+", "-"))}
         self._point = point[-1]
-        # Numbers in a row, each run in units of 10^-places.
+        # Numbers in a row, each run in units of 10^-decimals.
         self._runs: List[Tuple[int, Numbers]] = []
-        self._places = 0
-        self._greatest, self._greatest_place = 0, [0, 0]
+        self._decimals = 0
+        self._greatest, self._greatest_at = 0, [0, 0]
 
     def take_all(self, cells: Sequence[str], lines: Iterable[int], columns: Iterable[int]) -> None:
         """Takes many cells: in one go where all are plain numbers, and else one by one, up to the first that is
@@ -47,25 +47,25 @@ class CostColumn:
                 self.take(cell.strip(), line, column)
 
     def take_plain(self, cells: Sequence[str], lines: Iterable[int], columns: Iterable[int]) -> bool:
-        """Takes cells that are digits with at most a sign and a point, none out of range or with too many places.
+        """Takes cells that are digits with at most a sign and a point, none out of range or with too many decimals.
         Otherwise takes none."""
         try:
-            places, numbers = self._plain_numbers(cells)
+            decimals, numbers = self._plain_numbers(cells)
         except ValueError:
             return False
         size = max(max(numbers), -min(numbers))
-        used = self._used(places, numbers)
-        if size > GREATEST_COST * 10**places or used > self._most or self._rounds is not None and used > self._rounds:
+        used = self._used(decimals, numbers)
+        if size > GREATEST_COST * 10**decimals or used > self._most or self._rounds is not None and used > self._rounds:
             return False
-        self._places = used
-        if size * 10**(MOST_PLACES - places) > self._greatest:
-            self._greatest = size * 10**(MOST_PLACES - places)
-            self._greatest_place = next(place for number, *place in zip(numbers, lines, columns) if abs(number) == size)
-        self._run(places).extend(array("q", numbers))
+        self._decimals = used
+        if size * 10**(MOST_UNIT_DECIMALS - decimals) > self._greatest:
+            self._greatest = size * 10**(MOST_UNIT_DECIMALS - decimals)
+            self._greatest_at = next(at for number, *at in zip(numbers, lines, columns) if abs(number) == size)
+        self._run(decimals).extend(array("q", numbers))
         return True
 
     def _plain_numbers(self, cells: Sequence[str]) -> Tuple[int, List[int]]:
-        """How many places cells have, and their numbers in that unit; ValueError where any isn't plain."""
+        """How many decimals cells have, and their numbers in that unit; ValueError where any isn't plain."""
         text = " ".join(cells)
         if text.count(" ") >= len(cells):
             cells = list(map(str.strip, cells))
@@ -79,22 +79,22 @@ class CostColumn:
         if f"{self._point}-" in text or f"{self._point}+" in text:
             raise ValueError
         parts = [cell.partition(self._point) for cell in cells]
-        places = max([len(part) for _, _, part in parts])
-        if places > MOST_PLACES:
+        decimals = max([len(part) for _, _, part in parts])
+        if decimals > MOST_UNIT_DECIMALS:
             raise ValueError
-        return places, [int(whole + part + ZEROS[len(part):places]) for whole, _, part in parts]
+        return decimals, [int(whole + part + ZEROS[len(part):decimals]) for whole, _, part in parts]
 
-    def _used(self, places: int, numbers: List[int]) -> int:
-        """How many places are used so far, with these numbers of so many."""
-        used, unit = places, 10
-        while used > self._places and not any(map(mod, numbers, repeat(unit))):
+    def _used(self, decimals: int, numbers: List[int]) -> int:
+        """How many decimals are used so far, with these numbers of so many."""
+        used, unit = decimals, 10
+        while used > self._decimals and not any(map(mod, numbers, repeat(unit))):
             used, unit = used - 1, unit * 10
-        return max(used, self._places)
+        return max(used, self._decimals)
 
-    def _run(self, places: int) -> Numbers:
-        """What numbers of so many places are put at the end of."""
-        if not self._runs or self._runs[-1][0] != places:
-            self._runs.append((places, array("q")))
+    def _run(self, decimals: int) -> Numbers:
+        """What numbers of so many decimals are put at the end of."""
+        if not self._runs or self._runs[-1][0] != decimals:
+            self._runs.append((decimals, array("q")))
         return self._runs[-1][1]
 
     def take(self, cell: str, line: int, column: int) -> None:
@@ -105,22 +105,22 @@ class CostColumn:
         sign, whole, part = found.groups("")
         if self._rounds is not None and len(part) > self._rounds:
             whole, part = self._round(whole, part, self._rounds)
-        if len(part) > self._places:
-            self._more_places(cell, len(part), line, column)
+        if len(part) > self._decimals:
+            self._more_decimals(cell, len(part), line, column)
         size = int(whole[:20] + part + ZEROS[len(part):])
         if size > self._greatest:
             if size > GREATEST_COST * MILLION:
                 self._out_of_range(0, line, column)
-            self._greatest, self._greatest_place = size, [line, column]
-        self._run(MOST_PLACES).append(-size if sign == "-" else size)
+            self._greatest, self._greatest_at = size, [line, column]
+        self._run(MOST_UNIT_DECIMALS).append(-size if sign == "-" else size)
 
-    def _round(self, whole: str, part: str, places: int) -> Tuple[str, str]:
-        """The whole part and so many decimal places of a cell, rounded to the nearest, halves to even ones."""
+    def _round(self, whole: str, part: str, decimals: int) -> Tuple[str, str]:
+        """The whole part and so many decimals of a cell, rounded to the nearest, halves to even ones."""
         self.rounded = True
-        number, rest = int("0" + whole[:20] + part[:places]), part[places:]
+        number, rest = int("0" + whole[:20] + part[:decimals]), part[decimals:]
         number += rest > "5" or rest == "5" and number % 2
-        digits = str(number).zfill(places + 1)
-        return digits[:len(digits) - places], digits[len(digits) - places:]
+        digits = str(number).zfill(decimals + 1)
+        return digits[:len(digits) - decimals], digits[len(digits) - decimals:]
 
     def _without_power(self, cell: str) -> str:
         """A cell such as 1.2E+03 as a plain number, and any other as it is."""
@@ -129,18 +129,18 @@ class CostColumn:
             return cell
         return format(Decimal(cell.replace(",", ".")), "f").replace(".", point)
 
-    def _more_places(self, cell: str, places: int, line: int, column: int) -> None:
-        if places > self._most:
-            hint = f": --decimals {places} allows it" if places <= MOST_PLACES else ""
+    def _more_decimals(self, cell: str, decimals: int, line: int, column: int) -> None:
+        if decimals > self._most:
+            hint = f": --decimals {decimals} allows it" if decimals <= MOST_UNIT_DECIMALS else ""
             self._sheet.refuse(f"{quoted(cell)} has more than {self._most} decimal places{hint}", line, column)
-        self._places = places
+        self._decimals = decimals
 
     def scaled(self) -> Tuple[int, Numbers]:
-        """How many places are used or were asked for, and the costs as whole numbers of that unit."""
-        decimals = self._places if self._given is None else self._given
-        if self._greatest // 10 ** (MOST_PLACES - decimals) > GREATEST_COST:
-            self._out_of_range(decimals, *self._greatest_place)
-        runs = [_in_unit(numbers, decimals - places) for places, numbers in self._runs]
+        """How many decimals are used or were asked for, and the costs as whole numbers of that unit."""
+        decimals = self._decimals if self._given is None else self._given
+        if self._greatest // 10 ** (MOST_UNIT_DECIMALS - decimals) > GREATEST_COST:
+            self._out_of_range(decimals, *self._greatest_at)
+        runs = [_in_unit(numbers, decimals - own) for own, numbers in self._runs]
         costs = runs[0] if runs else array("q")
         for run in runs[1:]:
             costs.extend(run)
@@ -156,12 +156,12 @@ class CostColumn:
         return ""
 
     def _out_of_range(self, decimals: int, line: int, column: int) -> NoReturn:
-        places = f" with {decimals} decimal places" if decimals else ""
-        self._sheet.refuse(f"a cost beyond {GREATEST_COST // 10**decimals}{places}", line, column)
+        shown = f" with {decimals} decimal places" if decimals else ""
+        self._sheet.refuse(f"a cost beyond {GREATEST_COST // 10**decimals}{shown}", line, column)
 
 
 def _in_unit(numbers: Numbers, more: int) -> Numbers:
-    """Numbers with so many places more, or less where these aren't used."""
+    """Numbers with so many decimals more, or less where these aren't used."""
     if more == 0:
         return numbers
     return array("q", map(mul, numbers, repeat(10**more)) if more > 0 else map(floordiv, numbers, repeat(10**-more)))

@@ -93,13 +93,13 @@ def _fill(file: BinaryIO, path: str, content: bytes) -> None:
 
 
 def _replace(path: str, content: bytes) -> None:
-    place = os.path.realpath(path)
-    mode = _mode_of(place)
-    handle, name = tempfile.mkstemp(prefix=".nushbaret.", dir=os.path.dirname(place))
+    target = os.path.realpath(path)
+    mode = _mode_of(target)
+    handle, name = tempfile.mkstemp(prefix=".nushbaret.", dir=os.path.dirname(target))
     _fill(open(handle, "wb"), name, content)
     try:
         os.chmod(name, mode)
-        os.replace(name, place)
+        os.replace(name, target)
     except BaseException:
         _remove(name)
         raise
@@ -114,15 +114,15 @@ def _remove(path: str) -> None:
         os.unlink(path)
 
 
-def _mode_of(place: str) -> int:
+def _mode_of(target: str) -> int:
     """The permissions of the file that is replaced, or those of a new one. A device or a folder is refused."""
-    if not os.path.lexists(place):
+    if not os.path.lexists(target):
         mask = os.umask(0)
         os.umask(mask)
         return 0o666 & ~mask
-    mode = os.stat(place).st_mode
+    mode = os.stat(target).st_mode
     if not stat.S_ISREG(mode):
-        raise OutputFault(f"{place} is no regular file")
+        raise OutputFault(f"{target} is no regular file")
     return stat.S_IMODE(mode)
 
 

@@ -8,7 +8,7 @@ from ..counts.nodes import Bounds
 from .dates import spellings
 from .names import quoted
 from .roster import Earlier, Groups, PlanLine, Roster, known, looks_like_number
-from .sheets import RosterFault, Sheet, unit_of
+from .sheets import RosterFault, Sheet, item_of
 from .times import Times, columns_of, times_of
 
 
@@ -154,17 +154,18 @@ def _column_of_kinds(sheet: Sheet, title: Sequence[str], line: int) -> Optional[
     return places[0] if places else None
 
 
-def with_rules(roster: Roster, tasks: Optional[Counts], places: Optional[Counts], groups: Optional[Groups]) -> Roster:
+def with_rules(roster: Roster, tasks: Optional[Counts], capacities: Optional[Counts],
+               groups: Optional[Groups]) -> Roster:
     """The roster with counts and groups. Where any line has two numbers bounds alone decide: then an object without a
     line takes exactly one, and a person at most one."""
     most = [None if counts is None else {number: bound.most for number, bound in counts.bounds.items()}
-            for counts in (tasks, places)]
+            for counts in (tasks, capacities)]
     least = None
-    if any(counts is not None and counts.are_ranges for counts in (tasks, places)):
+    if any(counts is not None and counts.are_ranges for counts in (tasks, capacities)):
         of_persons, of_objects = ({number: bound.least for number, bound in counts.bounds.items()} if counts else {}
-                                  for counts in (tasks, places))
+                                  for counts in (tasks, capacities))
         least = of_persons, {**dict.fromkeys(range(len(roster.objects)), 1), **of_objects}
-    return roster._replace(tasks=most[0], places=most[1], least=least, groups=groups)
+    return roster._replace(tasks=most[0], capacities=most[1], least=least, groups=groups)
 
 
 class Broken(NamedTuple):
@@ -187,7 +188,7 @@ def refuse_two_of_a_group(path: str, roster: Roster, pairs: Sequence[PlanLine]) 
         before = None if group is None else first.setdefault((pair.person, group), pair)
         if group is not None and before is not None and before is not pair:
             raise RosterFault(path, f"{roster.persons[pair.person]} has {roster.objects[pair.object]} and, in "
-                              f"{unit_of(path)} {before.line}, {roster.objects[before.object]}: two of {groups.title} "
+                              f"{item_of(path)} {before.line}, {roster.objects[before.object]}: two of {groups.title} "
                               f"{groups.names[group]}", pair.line)
 
 

@@ -13,7 +13,8 @@ from operator import add
 from typing import Any, Collection, Dict, Iterator, List, NamedTuple, Optional, Sequence, Set, Tuple
 
 from ..costs.limits import GREATEST_COST, Numbers
-from ..costs.problem import Problem, TooLarge, of_whole_numbers
+from ..costs.kinds import WholeNumbers
+from ..costs.problem import AssignmentProblem, TooLarge, of_whole_numbers
 from ..counts.graphs import strong_parts
 from ..lap.solving import BestPlan, best_plan
 
@@ -84,18 +85,18 @@ def changed(costs: Sequence[int], edges: Sequence[Pair], kept: Collection[Pair],
     return more
 
 
-def problem_of(nodes: RosterNodes, costs: Numbers) -> Problem:
+def problem_of(nodes: RosterNodes, costs: Numbers) -> AssignmentProblem:
     """The problem of nodes, for these costs, which are to be least."""
     rows, columns = len(nodes.of_rows), len(nodes.of_columns)
     persons, objects = (None, None) if nodes.is_full else (_from_one(nodes.rows), _from_one(nodes.columns))
-    return Problem(rows, columns, False, costs, persons, objects)
+    return AssignmentProblem(rows, columns, False, WholeNumbers(costs), persons, objects)
 
 
 def _from_one(numbers: Numbers) -> Numbers:
     return array("I", [number + 1 for number in numbers])
 
 
-# All best plans: one with the fewest changes, and who could change places.
+# All best plans: one with the fewest changes, and who could swap.
 
 
 class Face(NamedTuple):
@@ -173,7 +174,7 @@ class Swap(NamedTuple):
 
 
 def swaps_of(nodes: RosterNodes, face: Face, chosen: List[Pair]) -> List[Swap]:
-    """The groups that could change places, in the order of their first persons; none where the chosen plan is the only
+    """The groups that could swap, in the order of their first persons; none where the chosen plan is the only
     best one."""
     pairs, first_object, part = _parts_of(nodes, face, chosen)
     swaps: Dict[int, List[Pair]] = {}

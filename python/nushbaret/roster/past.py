@@ -55,21 +55,21 @@ def with_past(roster: Roster, groups: Groups, kept: OldPlan, name: str, rounds: 
     objects = frozenset(object_ for object_, group in groups.of_objects.items() if group in own)
     named = [pair for pair in kept.named if roster.object_numbers.get(pair.object) in objects]
     roster = _with_persons(roster, [pair.person for pair in named])
-    places = [(roster.person_numbers[pair.person], roster.object_numbers[pair.object]) for pair in named]
-    allowed = roster.costs_of(set(places))
+    pairs = [(roster.person_numbers[pair.person], roster.object_numbers[pair.object]) for pair in named]
+    allowed = roster.costs_of(set(pairs))
     added = [(person, object_, _cost_in_file(kept.path, roster, pair, rounds))
-             for (person, object_), pair in zip(places, named) if (person, object_) not in allowed]
+             for (person, object_), pair in zip(pairs, named) if (person, object_) not in allowed]
     roster = _with_pairs(roster, added)._replace(past=objects)
-    had = Counter(person for person, _ in places)
+    had = Counter(person for person, _ in pairs)
     passing = [person for person in sorted(had) if had[person] > roster.tasks_of(person)]
-    lines = [_first_line(roster, groups, kept, name, earlier, len(places)), *_forbidden_lines(roster, kept, added),
+    lines = [_first_line(roster, groups, kept, name, earlier, len(pairs)), *_forbidden_lines(roster, kept, added),
              *(_most_line(roster, kept, person, had[person]) for person in passing
                if roster.persons[person] not in kept.gone)]
-    costs = roster.costs_of(set(places))
-    pairs = [PlanLine(*place, pair.line, costs[place]) for place, pair in zip(places, named)]
+    costs = roster.costs_of(set(pairs))
+    lines_of_past = [PlanLine(*pair, own.line, costs[pair]) for pair, own in zip(pairs, named)]
     roster = _with_counts(roster, {person: had[person] for person in passing})
-    return roster, old_plan_of(kept.path, roster, kept.named, False)._replace(gone=kept.gone), Past(earlier, pairs,
-                                                                                                    lines)
+    past = Past(earlier, lines_of_past, lines)
+    return roster, old_plan_of(kept.path, roster, kept.named, False)._replace(gone=kept.gone), past
 
 
 def _with_persons(roster: Roster, names: Sequence[str]) -> Roster:

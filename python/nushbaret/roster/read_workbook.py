@@ -12,7 +12,7 @@ from .encodings import SAVE
 from .names import quoted
 
 # A cell, from 0: its row and its column.
-Place = Tuple[int, int]
+Coordinates = Tuple[int, int]
 PIECE = 2**20
 # What a sheet has where there is more to say than openpyxl does.
 MARKED = re.compile(rb"<(?:\w+:)?(?:f[\s/>]|mergeCell\s)")
@@ -20,7 +20,7 @@ MOST_SHEETS_SHOWN = 8
 
 
 class WorkbookFault(Exception):
-    """Why a workbook can't be read, and where: line and column from 1, if there is a place."""
+    """Why a workbook can't be read, and where: line and column from 1, if it is known."""
 
     def __init__(self, text: str, line: Optional[int] = None, column: Optional[int] = None) -> None:
         super().__init__(text)
@@ -109,8 +109,8 @@ def _cell_text(value: Any, comma: bool) -> str:
 class _Marks(NamedTuple):
     """The merged cells of a sheet, each range from its first cell to its last, and the formulas that have no value."""
 
-    merged: List[Tuple[Place, Place]]
-    unvalued: List[Place]
+    merged: List[Tuple[Coordinates, Coordinates]]
+    unvalued: List[Coordinates]
 
 
 def _marks_of(path: str, name: str) -> _Marks:
@@ -175,9 +175,9 @@ def _mark(sheet: IO[bytes], is_stale: bool, marks: _Marks) -> None:
         tag = _bare(element.tag)
         if tag == "mergeCell":
             begin, _, end = element.get("ref", "").partition(":")
-            marks.merged.append((_place(begin), _place(end or begin)))
+            marks.merged.append((_coordinates(begin), _coordinates(end or begin)))
         elif tag == "c" and _is_unvalued(element, is_stale):
-            marks.unvalued.append(_place(element.get("r", "")))
+            marks.unvalued.append(_coordinates(element.get("r", "")))
         elif tag == "row":
             element.clear()
 
@@ -189,7 +189,7 @@ def _is_unvalued(cell: ElementTree.Element, is_stale: bool) -> bool:
     return "f" in held and (is_stale or not held.get("v") and cell.get("t") != "str") and cell.get("r") is not None
 
 
-def _place(reference: str) -> Place:
+def _coordinates(reference: str) -> Coordinates:
     """The row and the column of a cell such as B12, from 0."""
     found = re.fullmatch(r"\$?([A-Z]{1,3})\$?([0-9]{1,7})", reference)
     if found is None:
@@ -200,7 +200,7 @@ def _place(reference: str) -> Place:
     return int(found[2]) - 1, column - 1
 
 
-def _with_merged(rows: List[List[str]], merged: List[Tuple[Place, Place]]) -> List[List[str]]:
+def _with_merged(rows: List[List[str]], merged: List[Tuple[Coordinates, Coordinates]]) -> List[List[str]]:
     """Rows in which a merged cell counts for all of its cells, up to the last column that has anything of its own."""
     width = max((column + 1 for row in rows for column, cell in enumerate(row) if cell), default=0)
     for (top, left), (bottom, right) in merged:

@@ -16,7 +16,7 @@ from ..costs.limits import MOST_PERSONS, Numbers
 from .costs import CostColumn
 from .dates import spellings
 from .names import quoted
-from .sheets import MOST_BYTES, Reading, RosterFault, Sheet, is_json, unit_of
+from .sheets import MOST_BYTES, Reading, RosterFault, Sheet, is_json, item_of
 from .times import Times
 
 LINES, MATRIX = "lines", "matrix"
@@ -117,8 +117,8 @@ class Groups(NamedTuple):
 
 class Roster(NamedTuple):
     """A problem by names. Pair k is of `persons[of_persons[k]]` and `objects[of_objects[k]]`, no pair twice; `costs[k]`
-    is in units of 10^-decimals. `titles` are the words for a person, an object and a cost. `tasks` and `places` say of
-    persons and of objects how many they take at most, where it isn't one; None where nothing was said. Where bounds
+    is in units of 10^-decimals. `titles` are the words for a person, an object and a cost. `tasks` and `capacities` say
+    of persons and of objects how many they take at most, where it isn't one; None where nothing was said. Where bounds
     alone decide, `least` says of persons and of objects how many they take at least, where it isn't 0. `rounded` says
     whether any cost was changed by rounding, `has_bom` whether the file began with a BOM, `is_matrix` whether it is a
     matrix, and `by_persons` whether the pairs stand person by person. `encoding` is that of the file, and `reading` how
@@ -136,7 +136,7 @@ class Roster(NamedTuple):
     separator: str
     comma: bool
     tasks: Optional[Dict[int, int]] = None
-    places: Optional[Dict[int, int]] = None
+    capacities: Optional[Dict[int, int]] = None
     rounded: bool = False
     has_bom: bool = False
     is_matrix: bool = False
@@ -155,15 +155,15 @@ class Roster(NamedTuple):
     @property
     def counts(self) -> bool:
         """Whether names may count several times."""
-        return self.tasks is not None or self.places is not None
+        return self.tasks is not None or self.capacities is not None
 
     def tasks_of(self, person: int) -> int:
         """How many objects a person takes."""
         return 1 if self.tasks is None else self.tasks.get(person, 1)
 
-    def places_of(self, object_: int) -> int:
+    def capacity_of(self, object_: int) -> int:
         """How many persons an object takes."""
-        return 1 if self.places is None else self.places.get(object_, 1)
+        return 1 if self.capacities is None else self.capacities.get(object_, 1)
 
     @property
     def is_full(self) -> bool:
@@ -273,7 +273,7 @@ def read_roster(path: str, form: Optional[str], decimals: Optional[int], comma: 
     comma : bool
         Whether costs are written with a decimal comma.
     rounds : int or None
-        To how many decimal places costs are rounded, in place of `decimals`; None: they are taken exactly.
+        To how many decimal places costs are rounded, instead of `decimals`; None: they are taken exactly.
     sheet_name : str or None
         Which sheet of a workbook is read; None: the first.
     skipped : int
@@ -284,7 +284,7 @@ def read_roster(path: str, form: Optional[str], decimals: Optional[int], comma: 
     Raises
     ------
     RosterFault
-        For the first fault, with its place.
+        For the first fault, with its line.
     OSError
         Where the file can't be read.
     """
@@ -429,14 +429,14 @@ def read_plan(path: str, roster: Roster) -> List[PlanLine]:
     Raises `RosterFault` for the first name that the roster doesn't have, then for the first name that stands more often
     than it may, then for the first pair that the roster forbids; and `OSError` where the file can't be read.
     """
-    places = [(_known(path, roster, person, line, 1, 1), _known(path, roster, object_, line, 2, 2), line)
-              for person, object_, line, _ in named_pairs(path, roster)]
-    _refuse_twice(path, roster, places)
-    costs = roster.costs_of({(person, object_) for person, object_, _ in places})
-    for person, object_, line in places:
+    numbered = [(_known(path, roster, person, line, 1, 1), _known(path, roster, object_, line, 2, 2), line)
+                for person, object_, line, _ in named_pairs(path, roster)]
+    _refuse_twice(path, roster, numbered)
+    costs = roster.costs_of({(person, object_) for person, object_, _ in numbered})
+    for person, object_, line in numbered:
         if (person, object_) not in costs:
             raise RosterFault(path, f"{roster.persons[person]}, {roster.objects[object_]} is a forbidden pair", line)
-    return [PlanLine(person, object_, line, costs[person, object_]) for person, object_, line in places]
+    return [PlanLine(person, object_, line, costs[person, object_]) for person, object_, line in numbered]
 
 
 class NamedPair(NamedTuple):
@@ -485,17 +485,17 @@ def read_hand_plan(path: str, roster: Roster) -> Tuple[OldPlan, List[NamedPair]]
 def old_plan_of(path: str, roster: Roster, named: List[NamedPair], by_counts: bool) -> OldPlan:
     """An earlier plan as a roster has it now."""
     gone: Dict[str, None] = {}
-    places = []
+    numbered = []
     for person, object_, line, _ in named:
         gone.update({} if person in roster.person_numbers else {person: None})
         gone.update({} if object_ in roster.object_numbers else {object_: None})
         if person in roster.person_numbers and object_ in roster.object_numbers:
-            places.append((roster.person_numbers[person], roster.object_numbers[object_], line))
-    _refuse_twice(path, roster, places, by_counts)
-    costs = roster.costs_of({(person, object_) for person, object_, _ in places})
-    known = [PlanLine(person, object_, line, costs[person, object_]) for person, object_, line in places
+            numbered.append((roster.person_numbers[person], roster.object_numbers[object_], line))
+    _refuse_twice(path, roster, numbered, by_counts)
+    costs = roster.costs_of({(person, object_) for person, object_, _ in numbered})
+    known = [PlanLine(person, object_, line, costs[person, object_]) for person, object_, line in numbered
              if (person, object_) in costs]
-    return OldPlan(path, named, known, list(gone), [place for place in places if place[:2] not in costs])
+    return OldPlan(path, named, known, list(gone), [pair for pair in numbered if pair[:2] not in costs])
 
 
 def _as_written(names: List[str], numbers: Dict[str, int], name: str) -> str:
@@ -564,22 +564,22 @@ def _known(path: str, roster: Roster, name: str, line: int, side: int, column: i
     return numbers[name]
 
 
-def _refuse_twice(path: str, roster: Roster, places: List[Tuple[int, int, int]], by_counts: bool = True) -> None:
+def _refuse_twice(path: str, roster: Roster, numbered: List[Tuple[int, int, int]], by_counts: bool = True) -> None:
     """Refuses a name that stands more often than it may, if counts are to be kept, and a pair that stands twice."""
     for column, names, most in ((1, roster.persons, roster.tasks_of),
-                                (2, roster.objects, roster.places_of)) if by_counts else ():
+                                (2, roster.objects, roster.capacity_of)) if by_counts else ():
         lines: Dict[int, List[int]] = {}
-        for found in places:
+        for found in numbered:
             number = found[column - 1]
             before = lines.setdefault(number, [])
             if len(before) == most(number):
                 often = "a second time" if before[:1] and most(number) == 1 else f"more than {most(number)} times"
-                after = f", after {unit_of(path)} {before[0]}" if before else ""
+                after = f", after {item_of(path)} {before[0]}" if before else ""
                 raise RosterFault(path, f"{quoted(names[number])} {often}{after}", found[2], column)
             before.append(found[2])
     pairs: Dict[Tuple[int, int], int] = {}
-    for person, object_, line in places:
+    for person, object_, line in numbered:
         first = pairs.setdefault((person, object_), line)
         if first != line:
             named = f"the pair {roster.persons[person]}, {roster.objects[object_]}"
-            raise RosterFault(path, f"{named} a second time, after {unit_of(path)} {first}", line)
+            raise RosterFault(path, f"{named} a second time, after {item_of(path)} {first}", line)

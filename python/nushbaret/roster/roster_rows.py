@@ -39,12 +39,12 @@ class Built(NamedTuple):
         return self.making.rows
 
 
-def built(roster: Roster, rules: Rules, month: Month, wish: Request, own: Sequence[OwnRow] = (), may_miss: bool = False,
-          spreads: Sequence[int] = (), is_measured: bool = False) -> Built:
+def built(roster: Roster, rules: Rules, month: Month, request: Request, own: Sequence[OwnRow] = (),
+          may_miss: bool = False, spreads: Sequence[int] = (), is_measured: bool = False) -> Built:
     """The variables and rows of a roster with rules; with `may_miss` least counts may be missed. Counts of the first
     rules of evenness differ by `spreads`; with `is_measured` the model measures how little those of the next rule can
     differ."""
-    sign = -1 if wish.maximize else 1
+    sign = -1 if request.maximize else 1
     listed = [(person, object_, sign * cost) for person, object_, cost in zip(roster.of_persons, roster.of_objects,
                                                                               roster.costs)
               if object_ not in roster.past]
@@ -52,37 +52,38 @@ def built(roster: Roster, rules: Rules, month: Month, wish: Request, own: Sequen
     listed.sort(key=lambda triple: (triple[0], month.shifts[triple[1]].day if triple[1] in month.shifts
                                     else month.last + 1, triple[1]))
     pairs = [(person, object_) for person, object_, _ in listed]
-    past = [(pair.person, pair.object) for pair in wish.fixed if pair.object in roster.past]
+    past = [(pair.person, pair.object) for pair in request.fixed if pair.object in roster.past]
     work = Work(month, {pair: variable for variable, pair in enumerate(pairs)}, past)
-    used = Counter(pair.object for pair in wish.fixed)
-    places = [Bounds(0 if may_miss else _with(bounds, used[object_]).least, _with(bounds, used[object_]).most)
-              for object_, bounds in enumerate(bounds_around(roster, wish.fixed)[1])]
-    making = Making(roster, rules, work, Rows([cost for _, _, cost in listed], [person for person, _ in pairs]), places)
+    used = Counter(pair.object for pair in request.fixed)
+    capacities = [Bounds(0 if may_miss else _with(bounds, used[object_]).least, _with(bounds, used[object_]).most)
+                  for object_, bounds in enumerate(bounds_around(roster, request.fixed)[1])]
+    rows = Rows([cost for _, _, cost in listed], [person for person, _ in pairs])
+    making = Making(roster, rules, work, rows, capacities)
     if not pairs:
         # A solver needs one.
         making.rows.helper(None)
-    _fixed(making, wish)
-    missing = _counts(making, wish, may_miss)
+    _fixed(making, request)
+    missing = _counts(making, request, may_miss)
     _one_of_each(making)
     add_rules(making)
     _own(making, own, set(past))
     return Built(making, pairs, missing, len(making.rows.costs), add_evenness(making, spreads, is_measured))
 
 
-def _fixed(making: Making, wish: Request) -> None:
-    for pair in wish.fixed:
+def _fixed(making: Making, request: Request) -> None:
+    for pair in request.fixed:
         variable = making.work.variables.get((pair.person, pair.object))
         if variable is not None:
             names = making.roster.persons[pair.person], making.roster.objects[pair.object]
             making.rows.add(Sum().add(variable), 1, None, Said("fixed", ": ".join(names)), pair.person)
 
 
-def _counts(making: Making, wish: Request, may_miss: bool) -> Dict[int, int]:
+def _counts(making: Making, request: Request, may_miss: bool) -> Dict[int, int]:
     """How many each person and each object takes."""
     roster, work = making.roster, making.work
-    of_persons, of_objects = bounds_around(roster, wish.fixed)
-    had, used = Counter(pair.person for pair in wish.fixed), Counter(pair.object for pair in wish.fixed)
-    past = Counter(pair.person for pair in wish.fixed if pair.object in roster.past)
+    of_persons, of_objects = bounds_around(roster, request.fixed)
+    had, used = Counter(pair.person for pair in request.fixed), Counter(pair.object for pair in request.fixed)
+    past = Counter(pair.person for pair in request.fixed if pair.object in roster.past)
     sums: Tuple[List[Sum], List[Sum]] = ([Sum() for _ in of_persons], [Sum() for _ in of_objects])
     for (person, object_), variable in work.variables.items():
         sums[0][person].add(variable)

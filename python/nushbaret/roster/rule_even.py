@@ -109,9 +109,9 @@ def _total(making: Making, rule: Rule, sums: Dict[int, Sum]) -> Bounds:
         at[object_] = at.get(object_, 0) + 1
     for object_ in making.work.objects(rule.kinds):
         if month.shifts[object_].day in days:
-            places = making.places[object_]
-            least += max(0, places.least - others_at.get(object_, 0))
-            most += min(places.most, own_at.get(object_, 0))
+            capacity = making.capacities[object_]
+            least += max(0, capacity.least - others_at.get(object_, 0))
+            most += min(capacity.most, own_at.get(object_, 0))
     return Bounds(min(least, most), most)
 
 

@@ -15,7 +15,7 @@ from .sheets import RosterFault, Sheet
 REST, RUN, COUNT, HOURS, FREE, WHOLE, STAFF, APART, TOGETHER, EVEN = (
     "rest", "run", "count", "hours", "free weekends", "whole weekends", "staff", "apart", "together", "even")
 WEEKLY, MONTHLY = "week", "month"
-# Words for shifts of any kind, in place of a kind.
+# Words for shifts of any kind, instead of a kind.
 ANY = ("shift", "shifts", "day", "days")
 WEEKENDS = "weekend shifts"
 # The rules as they are written, for a hint where one is unknown; KIND is a kind of shifts.

@@ -20,7 +20,7 @@ class Making(NamedTuple):
     work: Work
     rows: Rows
     # How many persons each object takes.
-    places: Sequence[Bounds] = ()
+    capacities: Sequence[Bounds] = ()
 
     @property
     def month(self) -> Month:
@@ -172,7 +172,7 @@ def working_days(month: Month, days: Sequence[int]) -> List[int]:
 def _staff(making: Making, rule: Rule) -> None:
     """So many of some persons at each object, if it takes anybody."""
     for object_ in making.work.objects(rule.kinds):
-        if making.roster.places_of(object_) > 0:
+        if making.roster.capacity_of(object_) > 0:
             making.rows.add(_at(making, rule.persons, object_), rule.least, rule.most,
                             Said(rule.sentence, making.roster.objects[object_]))
 

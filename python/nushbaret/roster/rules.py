@@ -8,7 +8,7 @@ from .changes import pairs_of
 from .groups import Broken, Missing, Paired, missing_of, order_of
 from .names import joined
 from .roster import NamedPair, OldPlan, PlanLine, Roster
-from .sheets import unit_of
+from .sheets import item_of
 
 
 def broken_rules(roster: Roster, hand: OldPlan, repeated: Sequence[NamedPair],
@@ -38,9 +38,9 @@ def _repeated(hand: OldPlan, repeated: Sequence[NamedPair]) -> Iterator[Broken]:
     for pair in repeated:
         lines.setdefault((pair.person, pair.object), [first[pair.person, pair.object]]).append(pair.line)
     for (person, object_), own in lines.items():
-        places = f"{', '.join(map(str, own[:-1]))} and {own[-1]}"
+        listed = f"{', '.join(map(str, own[:-1]))} and {own[-1]}"
         yield Broken("repeated", [person], [object_], f"{person}, {object_}: {len(own)} times, in "
-                     f"{unit_of(hand.path)}s {places}")
+                     f"{item_of(hand.path)}s {listed}")
 
 
 def _two_of_a_group(roster: Roster, pairs: Sequence[Paired]) -> Iterator[Broken]:
@@ -61,8 +61,8 @@ def _too_many(roster: Roster, pairs: Sequence[Paired]) -> Iterator[Broken]:
         if had[person] > roster.tasks_of(person):
             yield _of_count(roster, "most", 0, person, had[person], f"at most {roster.tasks_of(person)}")
     for object_ in sorted(used, key=order_of(roster).__getitem__):
-        if used[object_] > roster.places_of(object_) and object_ not in roster.past:
-            yield _of_count(roster, "most", 1, object_, used[object_], f"at most {roster.places_of(object_)}")
+        if used[object_] > roster.capacity_of(object_) and object_ not in roster.past:
+            yield _of_count(roster, "most", 1, object_, used[object_], f"at most {roster.capacity_of(object_)}")
 
 
 def lacking(roster: Roster, pairs: Sequence[Paired], fixed: Sequence[PlanLine]) -> List[Missing]:

@@ -155,7 +155,7 @@ def _bounded(plan: DailyPlan, rule: Rule, of: Callable[[Sequence[Had]], Fraction
 
 
 def _decimal(number: Fraction) -> str:
-    """A number as people write it, to two places."""
+    """A number as people write it, with two decimals at most."""
     return str(number.numerator) if number.denominator == 1 else f"{float(number):.2f}".rstrip("0")
 
 
@@ -209,7 +209,7 @@ def _staff(plan: DailyPlan, rule: Rule) -> Iterator[Broken]:
         there = [person for person in rule.persons if person in plan.who.get(object_, ())]
         is_broken = (rule.least is not None and len(there) < rule.least or rule.most is not None
                      and len(there) > rule.most)
-        if is_broken and plan.roster.places_of(object_) > 0:
+        if is_broken and plan.roster.capacity_of(object_) > 0:
             names = joined([plan.roster.persons[person] for person in there]) or "none of them"
             yield plan.broken(rule, there, [object_], f"{plan.roster.objects[object_]}: {names}")
 

@@ -58,7 +58,7 @@ def broken_rules_of(ruling: Ruling, roster: Roster, pairs: Sequence[Paired]) -> 
     return broken_by(plan_of(roster, ruling.rules, ruling.month, pairs))
 
 
-def answered_by(ruling: Ruling, roster: Roster, wish: Request, options: Options) -> Tuple[Answer, Proved]:
+def answered_by(ruling: Ruling, roster: Roster, request: Request, options: Options) -> Tuple[Answer, Proved]:
     """The answer, with progress on a terminal.
 
     Raises `WordsFault` where SciPy isn't installed.
@@ -66,7 +66,7 @@ def answered_by(ruling: Ruling, roster: Roster, wish: Request, options: Options)
     seconds = DEFAULT_SECONDS if options.time is None else options.time
     with _interruptible(), _shown(roster, options) as progress:
         try:
-            return answer_by_rules(Task(roster, ruling.month, ruling.rules, wish, seconds, (), progress))
+            return answer_by_rules(Task(roster, ruling.month, ruling.rules, request, seconds, (), progress))
         except ImportError as fault:
             raise WordsFault(str(fault)) from fault
 

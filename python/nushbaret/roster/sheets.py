@@ -24,21 +24,21 @@ OTHER_ENDS = "\v\f\x1c\x1d\x1e\x85\u2028\u2029"
 
 
 class RosterFault(ValueError):
-    """What is wrong in a file, and where: line and column from 1, as far as there is a place. In a plan in JSON the
+    """What is wrong in a file, and where: line and column from 1, as far as they are known. In a plan in JSON the
     line is the number of a pair."""
 
     def __init__(self, path: str, text: str, line: Optional[int] = None, column: Optional[int] = None) -> None:
         self.path, self.text, self.line, self.column = path, text, line, column
-        place = path
+        where = path
         if line is not None:
-            place += f", {unit_of(path)} {line}"
-        if column is not None and unit_of(path) == "line":
-            place += f", column {column}"
-        super().__init__(f"{place}: {text}")
+            where += f", {item_of(path)} {line}"
+        if column is not None and item_of(path) == "line":
+            where += f", column {column}"
+        super().__init__(f"{where}: {text}")
 
 
 class Reading(NamedTuple):
-    """How text is read: in which encoding, if one was named; and where it is said what was read in place of what was
+    """How text is read: in which encoding, if one was named; and where it is said what was read instead of what was
     named."""
 
     encoding: Optional[str] = None
@@ -62,12 +62,12 @@ def is_json(path: str) -> bool:
     return os.path.splitext(file_and_sheet(path)[0])[1].lower() == ".json"
 
 
-def unit_of(path: str) -> str:
-    """What the contents of a file are counted in."""
+def item_of(path: str) -> str:
+    """What a file lists, one after the other."""
     return "pair" if is_json(path) else "line"
 
 
-def _held(path: str) -> bytes:
+def _content_of(path: str) -> bytes:
     """What a file holds, or standard input where the path is `-`; no more than one byte too many."""
     if path == "-":
         return _standard_input()
@@ -105,7 +105,7 @@ class Sheet:
         elif name is not None:
             self.refuse("only a workbook, .xlsx, has sheets: not with --sheet")
         else:
-            self._take_text(_held(path), reading)
+            self._take_text(_content_of(path), reading)
 
     def _take_workbook(self, path: str, comma: bool, name: Optional[str], preferred: Optional[str],
                        reading: Reading) -> None:

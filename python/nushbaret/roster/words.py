@@ -6,7 +6,7 @@ import re
 import sys
 from typing import Any, Callable, Dict, NamedTuple, NoReturn, Optional, Sequence, Tuple
 
-from ..costs.reading import MOST_PLACES
+from ..costs.reading import MOST_UNIT_DECIMALS
 from ..lap.library import VERSION
 from .encodings import WESTERN
 from .files import KINDS, Output, OutputFault, print_content
@@ -124,8 +124,8 @@ def _encoding(word: str) -> str:
     return word
 
 
-PLACES = tuple(map(str, range(MOST_PLACES + 1)))
-COUNT_OF_PLACES = Value("K", choices=PLACES, read=_number(0, MOST_PLACES))
+DECIMALS = tuple(map(str, range(MOST_UNIT_DECIMALS + 1)))
+COUNT_OF_DECIMALS = Value("K", choices=DECIMALS, read=_number(0, MOST_UNIT_DECIMALS))
 PLAN = Value("PLAN", True, (".csv", ".json", ".xlsx"))
 COUNTS = Value("FILE.csv", True, (".csv", ".xlsx"))
 
@@ -135,10 +135,10 @@ SECTIONS = (READING, COUNTING, PLANNING, SHOWING, WRITING)
 
 OPTIONS = (Option("--lines", "the roster has lines", READING, "form", sets=LINES, choice="form"),
            Option("--matrix", "the roster is a matrix", READING, "form", sets=MATRIX, choice="form"),
-           Option("--decimals", f"costs have at most K decimal places, 0 to {MOST_PLACES} (else as many as the roster "
-                  "uses)", READING, "decimals", COUNT_OF_PLACES, choice="places"),
+           Option("--decimals", f"costs have at most K decimal places, 0 to {MOST_UNIT_DECIMALS} (else as many as the "
+                  "roster uses)", READING, "decimals", COUNT_OF_DECIMALS, choice="decimals"),
            Option("--round", "round costs to K decimal places, and say by how much that may matter", READING, "round",
-                  COUNT_OF_PLACES, choice="places"), Option("--decimal-comma", "costs are written as 2,50", READING,
+                  COUNT_OF_DECIMALS, choice="decimals"), Option("--decimal-comma", "costs are written as 2,50", READING,
                                                             "decimal_comma"),
            Option("--encoding", f"files of text are in this encoding (else UTF-8, or plain {WESTERN})", READING,
                   "encoding", Value("NAME", read=_encoding)), Option("--sheet", "read this sheet of the roster's "
@@ -281,25 +281,25 @@ def parser_of(options: Sequence[Option] = OPTIONS) -> _Parser:
     sections = {name: parser.add_argument_group(name) for name in SECTIONS}
     choices: Dict[str, Any] = {}
     for option in options:
-        place = sections[option.section]
+        group = sections[option.section]
         if option.choice and option.choice not in choices:
-            choices[option.choice] = place.add_mutually_exclusive_group()
-        _add(choices[option.choice] if option.choice else place, option)
+            choices[option.choice] = group.add_mutually_exclusive_group()
+        _add(choices[option.choice] if option.choice else group, option)
     return parser
 
 
-def _add(place: Any, option: Option) -> None:
+def _add(group: Any, option: Option) -> None:
     """Adds an option to a group of the parser."""
     words = [word for word in (option.short, option.word) if word]
     if option.value is None:
         default = False if option.sets is True else None
-        place.add_argument(*words, dest=option.field, action="store_const", const=option.sets, default=default,
+        group.add_argument(*words, dest=option.field, action="store_const", const=option.sets, default=default,
                            help=option.help)
         return
     # A word that isn't one of the choices is refused by argparse; numbers refuse their own.
     choices = option.value.choices if option.value.read is str and option.value.choices else None
     action = "append" if option.repeats else _Once if option.value.is_file else "store"
-    place.add_argument(*words, dest=option.field, metavar=option.value.name, type=option.value.read, choices=choices,
+    group.add_argument(*words, dest=option.field, metavar=option.value.name, type=option.value.read, choices=choices,
                        help=option.help, action=action, default=[] if option.repeats else option.default)
 
 
@@ -399,7 +399,7 @@ def _judge_files(options: Options, refuse: Callable[[str], NoReturn]) -> None:
         refuse(f"--sheet and {options.roster} both name a sheet")
     seen = {os.path.realpath(file_and_sheet(path)[0]) for path in read if path}
     for path in [output.path for output in options.outputs] + list(filter(None, [options.certificate])):
-        place = os.path.realpath(path)
-        if place in seen:
+        file = os.path.realpath(path)
+        if file in seen:
             refuse(f"{path} is named twice, or is read too")
-        seen.add(place)
+        seen.add(file)

@@ -78,7 +78,7 @@ class Trees:
         self.sums = [row for row in self.used if len(part.rows[row].terms) > 1
                      and all(abs(factor) == 1 for _, factor in part.rows[row].terms)]
         self.leaves = 0
-        # What a unit of a candidate gained in the half below and above, by the candidates' keys.
+        # What a step of 1 of a candidate gained in the half below and above, by the candidates' keys.
         self.gains: Dict[int, List[float]] = {}
         # A plan that a tree came upon instead of its end.
         self.plan: Optional[List[int]] = None
@@ -166,7 +166,7 @@ class Trees:
         return low, high
 
     def _learn(self, candidate: _Candidate, value: float, values: Sequence[float]) -> None:
-        """Keeps the mean of what a unit of the candidate gained before and gains now."""
+        """Keeps the mean of what a step of 1 of the candidate gained before and gains now."""
         shares = (candidate.above, 1 - candidate.above)
         gains = [min(new - value, 10 * abs(value) + 10) / share for new, share in zip(values, shares)]
         before = self.gains.get(candidate.key(), gains)

@@ -5,11 +5,11 @@ from fractions import Fraction
 from unittest import mock
 
 import nushbaret
-from nushbaret.api import solve
-from nushbaret.costs import printing, problem as _problem
-from nushbaret.lap import direct, levels
+from nushbaret.costs import kinds as _kinds, printing, problem as _problem
+from nushbaret.lap import levels
 from drawn import drawing
-from optional import extension, np, pd as pandas
+from optional import np, pd as pandas
+from ways import by_the_longer_way, extension, is_short, longer_call
 
 FLOATS = ("f8", "f4", "f2")
 WHOLE = ("i8", "i4", "i2", "i1", "u4", "u2", "u1", "?")
@@ -80,7 +80,7 @@ def _said(call, costs, maximize):
             [name for name, held in (("row", found.row_duals), ("column", found.column_duals)) if len(held)])
 
 
-CALLS = ((nushbaret.solve, nushbaret.solve), (nushbaret.linear_sum_assignment, solve.linear_sum_assignment))
+CALLS = ((nushbaret.solve, nushbaret.solve), (nushbaret.linear_sum_assignment, longer_call))
 
 
 @unittest.skipUnless(np, "NumPy isn't there")
@@ -90,7 +90,7 @@ class Forms(unittest.TestCase):
         for call, longer in CALLS:
             with self.subTest(costs=costs, kind=costs.dtype, maximize=maximize, call=call.__name__):
                 shorter = _said(call, costs, maximize)
-                with mock.patch.object(direct, "extension", return_value=None):
+                with by_the_longer_way():
                     self.assertEqual(shorter, _said(longer, costs, maximize))
 
     def test_beside_the_longer_way(self):
@@ -123,7 +123,7 @@ class Forms(unittest.TestCase):
         if pandas:
             forms += [pandas.DataFrame(plain), pandas.DataFrame((plain * 99).astype("i4"))]
         for form in forms:
-            self.assertIsNotNone(direct.found(form, False))
+            self.assertTrue(is_short(form, False))
 
     @unittest.skipUnless(pandas, "pandas isn't there")
     def test_frames(self):
@@ -137,7 +137,7 @@ class Forms(unittest.TestCase):
                 frame[0] = draw.randint(0, 9)
             for call, longer in CALLS:
                 shorter = _said(call, frame, turn % 2 == 0)
-                with mock.patch.object(direct, "extension", return_value=None):
+                with by_the_longer_way():
                     self.assertEqual(shorter, _said(longer, frame, turn % 2 == 0))
 
     def test_what_is_forbidden_is_never_taken(self):
@@ -191,9 +191,10 @@ class Listed(unittest.TestCase):
 
     def once_by_arrays(self, n, m, rows, columns, costs):
         kind = np.uint16
-        problem = _problem.once(_problem.Problem(n, m, False, costs, (rows + 1).astype(kind),
-                                                 (columns + 1).astype(kind), raw=True, numpy=np))
-        return list(zip((problem.persons - 1).tolist(), (problem.objects - 1).tolist(), problem.costs.tolist()))
+        held = _kinds.Doubles(costs, np, False)
+        problem = _problem.once(_problem.AssignmentProblem(n, m, False, held, (rows + 1).astype(kind),
+                                                           (columns + 1).astype(kind)))
+        return list(zip((problem.persons - 1).tolist(), (problem.objects - 1).tolist(), problem.costs.listed()))
 
 
 @unittest.skipUnless(np, "NumPy isn't there")

@@ -1,4 +1,4 @@
-"""Results that releases 3.0.0 and 4.0.0 pickled load, and say what they said there; pickled.py made them."""
+"""Results that releases 3.0.0, 4.0.0 and 4.1.0 pickled load, and say what they said there; pickled.py made them."""
 import base64
 import json
 import pathlib

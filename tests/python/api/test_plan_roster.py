@@ -1,12 +1,12 @@
 """Rosters with rules from Python: plans next to a search of all, own rows, and what is refused."""
 import datetime
-import os
-import tempfile
+import subprocess
 import unittest
 from decimal import Decimal
 from fractions import Fraction
 
 import nushbaret
+from commands import InFolder, program
 from optional import np, optimize
 
 DAYS = [datetime.date(2027, 3, day) for day in (5, 6, 7, 8)]
@@ -51,7 +51,7 @@ class Refusals(unittest.TestCase):
 
 
 @unittest.skipIf(optimize is None or np is None, "needs SciPy")
-class Plans(unittest.TestCase):
+class Plans(InFolder):
     def test_best(self):
         found = planned()
         self.assertEqual((found.proved, found.cost, found.better, found.reasons), ("best", 6, 0, []))
@@ -80,13 +80,10 @@ class Plans(unittest.TestCase):
     def test_evenness_and_certificates(self):
         found = planned(rules=[RULES[0], ("even", "Night")])
         self.assertEqual((found.proved, found.cost, found.even), ("best", 13, [("even: Night", 1, 2)]))
-        with tempfile.TemporaryDirectory() as folder:
-            path = os.path.join(folder, "c.txt")
-            found.write_certificate(path)
-            from nushbaret.roster.check_file import checked
-            self.assertEqual(checked(path)[0], 0)
-            with self.assertRaisesRegex(ValueError, "nothing was proved"):
-                found._replace(certificate=None).write_certificate(path)
+        found.write_certificate("c.txt")
+        self.assertEqual(program("--check", "c.txt", stdout=subprocess.DEVNULL).returncode, 0)
+        with self.assertRaisesRegex(ValueError, "nothing was proved"):
+            found._replace(certificate=None).write_certificate("c.txt")
 
 
 if __name__ == "__main__":

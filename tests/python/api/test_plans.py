@@ -8,7 +8,6 @@ from unittest import mock
 import nushbaret
 from nushbaret.lap import ranking
 from nushbaret.lap.paths import Paths, PathSearch
-from nushbaret.lap.ranking import has_other
 from drawn import drawing, matrix
 from optional import np
 
@@ -174,11 +173,11 @@ class Checked(unittest.TestCase):
 
     def test_a_plan_taken_for_the_only_one(self):
         result = nushbaret.solve([[1, 1], [1, 1]])
-        ranking = result._solved.ranking()
-        self.assertTrue(has_other(ranking.paths, ranking.whole))
-        ranking.whole = ranking.whole._replace(row_duals=[dual + 1 for dual in ranking.whole.row_duals])
+        own = result._solved.ranking()
+        self.assertTrue(ranking.has_other(own.paths, own.whole))
+        own.whole = own.whole._replace(row_duals=[dual + 1 for dual in own.whole.row_duals])
         with self.assertRaisesRegex(RuntimeError, "along pairs of reduced cost 0, and the library says otherwise"):
-            has_other(ranking.paths, ranking.whole)
+            ranking.has_other(own.paths, own.whole)
 
 
 class Bottlenecks(unittest.TestCase):

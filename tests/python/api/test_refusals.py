@@ -97,12 +97,13 @@ class Refused(unittest.TestCase):
             self.assertEqual(nushbaret.solve(view).without(1, 2).cost, 1, code)
         frozen = memoryview(array("q", [1, 2, 3, 5]).tobytes()).cast("q", (2, 2))
         self.assertEqual(nushbaret.solve(frozen).cost, 5)
-        lent = memoryview(array("q", [1, 2, 3, 5])).cast("B").cast("q", (2, 2))
-        result = nushbaret.solve(lent)
-        self.assertEqual((result.cost, bool(result.verify(lent)), nushbaret.compare(lent, [0, 1]).worse), (5, True, 1))
-        lent = memoryview(array("q", [1, MOST + 1])).cast("B").cast("q", (1, 2))
-        self.assertEqual(nushbaret.solve(lent).cost, 1)
-        self.assertEqual(nushbaret.solve(lent, maximize=True).cost, MOST + 1)
+        borrowed = memoryview(array("q", [1, 2, 3, 5])).cast("B").cast("q", (2, 2))
+        result = nushbaret.solve(borrowed)
+        worse = nushbaret.compare(borrowed, [0, 1]).worse
+        self.assertEqual((result.cost, bool(result.verify(borrowed)), worse), (5, True, 1))
+        borrowed = memoryview(array("q", [1, MOST + 1])).cast("B").cast("q", (1, 2))
+        self.assertEqual(nushbaret.solve(borrowed).cost, 1)
+        self.assertEqual(nushbaret.solve(borrowed, maximize=True).cost, MOST + 1)
 
     def test_forbidden(self):
         self.assertEqual(nushbaret.solve([[1, 2], [3, math.inf]]).columns, [1, 0])
@@ -195,10 +196,10 @@ class Library(unittest.TestCase):
     def test_constants_are_those_of_the_header(self):
         header = (TOP / "c/nushbaret.h").read_text()
         codes = {name: int(code) for name, code in re.findall(r"NUSHBARET_(?!ROWS_)(\w+) = (\d+)", header)}
-        self.assertEqual({name: code for code, name in enumerate(library.CODES)}, codes)
+        self.assertEqual({name: code for code, name in enumerate(library.CODES) if name}, codes)
         self.assertIn(f"NUSHBARET_MOST_PERSONS {nushbaret.MOST_PERSONS}\n", header)
         self.assertIn(f"NUSHBARET_GREATEST_COST INT64_C({nushbaret.GREATEST_COST})\n", header)
-        self.assertIn(f'NUSHBARET_VERSION "{library.VERSION}"', header)
+        self.assertIn(f'NUSHBARET_VERSION "{nushbaret.__version__}"', header)
         self.assertIn(f"NUSHBARET_GREATEST_PRICE INT64_C({GREATEST_PRICE})\n", header)
         for struct, held in ("info", library.Info), ("record", library.Record):
             fields = re.search(rf"struct nushbaret_{struct} \{{(.*?)\n\}}", header, re.S)[1]
@@ -207,7 +208,7 @@ class Library(unittest.TestCase):
             self.assertEqual([(name, kind) for kind, name in re.findall(r"(\w+) (\w+);", fields)], kinds)
 
     def test_no_library(self):
-        code = ("import pathlib, nushbaret, nushbaret.lap.library as library\nlibrary.PLACES = "
+        code = ("import pathlib, nushbaret, nushbaret.lap.library as library\nlibrary.PATHS = "
                 "(pathlib.Path('/nowhere.so'),)\ntry:\n    nushbaret.solve([[1]])\nexcept OSError as fault:\n    "
                 "print(type(fault).__name__, fault)\n")
         ran = subprocess.run([sys.executable, "-c", code], capture_output=True, text=True, check=True, env=os.environ)

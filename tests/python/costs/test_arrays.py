@@ -9,7 +9,7 @@ from decimal import Decimal
 from fractions import Fraction
 
 import nushbaret
-from nushbaret.costs import reading, problem as _problem
+from nushbaret.costs import printing, problem as _problem, reading
 from nushbaret.lap import proved
 from drawn import drawing
 from optional import np, pd
@@ -348,7 +348,6 @@ class Ends(unittest.TestCase):
 
     def test_all_of_16_bits(self):
         """Each float of 16 bits, and drawn ones of 32, are what NumPy prints."""
-        from nushbaret.costs import printing
         every = np.arange(2**16, dtype=np.uint16).view(np.float16)
         bits = np.random.default_rng(60).integers(0, 2**32, 20000, dtype=np.uint64).astype(np.uint32).view(np.float32)
         near = (np.random.default_rng(61).integers(-10**6, 10**6, 20000) / 256).astype(np.float32)

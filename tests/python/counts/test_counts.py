@@ -7,9 +7,9 @@ from fractions import Fraction
 from unittest import mock
 
 import nushbaret
-from nushbaret.api.counts import planned
 from nushbaret.counts import nodes
 from nushbaret.counts.nodes import Bounds, Counted
+from nushbaret.counts.planned import planned
 import drawn
 from optional import np as numpy, pd as pandas
 

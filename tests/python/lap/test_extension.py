@@ -17,10 +17,11 @@ from fractions import Fraction
 from unittest import mock
 
 import nushbaret
-from nushbaret.api import batch, solve
+from nushbaret.api import batch
 from nushbaret.lap import direct
 from drawn import best, drawing, exactly
-from optional import extension, np
+from optional import np
+from ways import by_the_longer_way, extension, longer_call
 
 if np:
     import exact_doubles
@@ -142,7 +143,7 @@ class Reading(unittest.TestCase):
                              ([[1]], {"missing": "so"}), (5, {}), ([], {}), ([[1]], {"timeout": -1}),
                              ([[-math.inf]], {}), ([[10**400]], {})):
             said = []
-            for call in nushbaret.linear_sum_assignment, solve.linear_sum_assignment:
+            for call in nushbaret.linear_sum_assignment, longer_call:
                 with self.assertRaises(Exception) as seen:
                     call(costs, **named)
                 said.append((type(seen.exception), str(seen.exception)))
@@ -158,7 +159,7 @@ class Reading(unittest.TestCase):
                              best(exactly(costs, False), False, n))
 
     def test_what_it_is_called(self):
-        call, plain = nushbaret.linear_sum_assignment, solve.linear_sum_assignment
+        call, plain = nushbaret.linear_sum_assignment, longer_call
         self.assertIs(batch.linear_sum_assignment, call)
         self.assertIs(pickle.loads(pickle.dumps(call)), call)
         self.assertEqual([inspect.signature(call).parameters[name].default
@@ -191,7 +192,7 @@ class Exact(unittest.TestCase):
         module, call = another()
         for maximize in False, True:
             rows, columns = call(-costs if maximize else costs, maximize)
-            wanted = solve.linear_sum_assignment(-costs if maximize else costs, maximize)
+            wanted = longer_call(-costs if maximize else costs, maximize)
             self.assertEqual(sums(costs, rows, columns), sums(costs, *wanted))
         self.assertIs(call(rng.random((520, 520))), LONGER)
         self.assertIs(call(costs[:, ::-1]), LONGER)
@@ -224,7 +225,7 @@ class Batch(unittest.TestCase):
 
     def test_without_the_extension(self):
         costs = np.random.default_rng(8).random((5, 4, 6))
-        with mock.patch.object(direct, "extension", return_value=None):
+        with by_the_longer_way():
             rows, columns = nushbaret.linear_sum_assignment_batch(costs)
         self.assertEqual([columns.tolist(), rows.tolist()],
                          [nushbaret.linear_sum_assignment_batch(costs)[1].tolist(), [[0, 1, 2, 3]] * 5])
@@ -450,9 +451,9 @@ class Around(unittest.TestCase):
                 "nushbaret\nprint(type(nushbaret.linear_sum_assignment).__name__, "
                 "nushbaret.linear_sum_assignment([[1.5, 2], [3, 5]]))")
         self.assertEqual(self.run_here(text), "function ([0, 1], [1, 0])\n")
-        text = ("import pathlib\nfrom nushbaret.lap import library\nplaces = library.PLACES\nimport nushbaret\ncall = "
-                "nushbaret.linear_sum_assignment\nlibrary.PLACES = ()\ntry:\n    call([[1]])\nexcept "
-                "nushbaret.LibraryNotFound as fault:\n    print(fault)\nlibrary.PLACES = places\nprint(call([[1]]))")
+        text = ("import pathlib\nfrom nushbaret.lap import library\npaths = library.PATHS\nimport nushbaret\ncall = "
+                "nushbaret.linear_sum_assignment\nlibrary.PATHS = ()\ntry:\n    call([[1]])\nexcept "
+                "nushbaret.LibraryNotFound as fault:\n    print(fault)\nlibrary.PATHS = paths\nprint(call([[1]]))")
         self.assertRegex(self.run_here(text), r"^libnushbaret.so isn't there: .*\n\(\[0\], \[0\]\)\n$")
 
 

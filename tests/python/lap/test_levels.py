@@ -1,5 +1,6 @@
 """Costs of any size: plans, duals and verdicts are exact, compared with a slow search and a Hungarian method in
 fractions."""
+import itertools
 import os
 import subprocess
 import sys
@@ -9,10 +10,13 @@ from fractions import Fraction
 from unittest import mock
 
 import nushbaret
-from nushbaret.api import solve
-from nushbaret.lap import direct, doubles as _doubles, duals, level as _level, levels, pricing, reduced, ties as _ties
+from nushbaret.costs.kinds import ExactNumbers
+from nushbaret.costs.problem import AssignmentProblem, of_matrix
+from nushbaret.costs.reading import manner
+from nushbaret.lap import doubles as _doubles, duals, level as _level, levels, pricing, reduced, ties as _ties
 from drawn import KINDS, best, doubles, drawing, exactly, hungarian, proves
 from optional import np
+from ways import by_the_longer_way, longer_call
 
 
 def as_array(costs, maximize):
@@ -116,7 +120,6 @@ class Small(unittest.TestCase):
 
 class OtherCalls(unittest.TestCase):
     def all_plans(self, exact, sign, served):
-        import itertools
         n_rows, n_columns = len(exact), len(exact[0])
         found = []
         for rows in itertools.combinations(range(n_rows), served):
@@ -292,9 +295,8 @@ class Larger(unittest.TestCase):
             self.assertEqual(sum_of(exact, rows, columns), sum_of(exact, *zip(*other)))
 
     def listed(self, costs, maximize):
-        from nushbaret.costs.problem import Problem
-        return Problem(len(costs), len(costs[0]), maximize, [cost for row in costs for cost in row], raw=True,
-                       doubles=True)
+        numbers = [cost for row in costs for cost in row]
+        return AssignmentProblem(len(costs), len(costs[0]), maximize, ExactNumbers(numbers, doubles=True))
 
 
 @unittest.skipUnless(np, "NumPy isn't there")
@@ -304,8 +306,7 @@ class Priced(unittest.TestCase):
     def test_beside_hungarian(self):
         draw, rounds, whole = drawing(69), 0, 0
         with mock.patch.object(pricing, "LARGE", 1), mock.patch.object(pricing, "CHEAPEST", 1), \
-                mock.patch.object(pricing, "MOST_SHARE", 1), \
-                mock.patch.object(direct, "extension", return_value=None), \
+                mock.patch.object(pricing, "MOST_SHARE", 1), by_the_longer_way(), \
                 mock.patch.object(_doubles, "best_from", return_value=None), \
                 mock.patch.object(_ties, "of_problem", return_value=None):
             for turn in range(240):
@@ -314,7 +315,7 @@ class Priced(unittest.TestCase):
                 costs = doubles(draw, n_rows, draw.choice([n_rows, n_rows + 4, max(n_rows // 2, 1)]), kind)
                 with mock.patch.object(pricing._Matrix, "answer", autospec=True,
                                        side_effect=pricing._Matrix.answer) as asked:
-                    rows, columns = solve.linear_sum_assignment(np.array(costs), maximize)
+                    rows, columns = longer_call(np.array(costs), maximize)
                     result = nushbaret.solve(np.array(costs), maximize)
                 rounds += asked.call_count > 2
                 whole += not asked.call_count
@@ -345,14 +346,11 @@ class Steps(unittest.TestCase):
     def test_which_pairs_go_out(self):
         """No pair of any best plan goes out at the first level."""
         draw, out = drawing(68), 0
-        from nushbaret.costs.reading import manner
-        from nushbaret.costs.problem import of_matrix
-        import itertools
         for turn in range(300):
             n_rows, n_columns = draw.randint(2, 4), draw.randint(2, 4)
             costs = doubles(draw, n_rows, n_columns, list(KINDS)[turn % len(KINDS)])
             problem = levels.prepared(of_matrix(costs, manner(False, doubles=True)))
-            if not problem.raw:
+            if problem.costs.of_64_bits() is not None:
                 continue
             level = levels.first_level(problem, None)
             pairs = reduced.kept(level, level.asked.n + _level.more(level.asked.n))

@@ -4,9 +4,10 @@ import unittest
 from unittest import mock
 
 import nushbaret
-from nushbaret.lap import direct, library
+from nushbaret.lap import library
 from drawn import best, drawing, matrix
 from optional import np
+from ways import by_the_longer_way
 
 
 def asked(run):
@@ -17,7 +18,7 @@ def asked(run):
         calls.append((name, n, m, len(lists[0])))
         return call(name, sense, n, m, *lists, **words)
 
-    with mock.patch.object(library, "call", noted), mock.patch.object(direct, "extension", return_value=None):
+    with mock.patch.object(library, "call", noted), by_the_longer_way():
         run()
     return calls
 

@@ -7,9 +7,10 @@ from fractions import Fraction
 from unittest import mock
 
 import nushbaret
-from nushbaret.lap import direct, levels
+from nushbaret.lap import levels
 from drawn import KINDS, best, doubles, drawing, exactly, hungarian, proves
-from optional import extension, np
+from optional import np
+from ways import by_the_longer_way, extension, is_short
 
 
 def _tied(draw):
@@ -55,7 +56,7 @@ class Small(unittest.TestCase):
                 form = costs if turn % 3 else np.array(costs)
                 with self.subTest(kind=kind, costs=form, maximize=maximize):
                     before = finer.call_count
-                    small += direct.found(form, maximize) is not None
+                    small += is_short(form, maximize)
                     result, exact = nushbaret.solve(form, maximize), exactly(costs, True)
                     wanted = best(exact, maximize, served)
                     paid = sum((exact[row][column] for row, column in zip(result.rows, result.columns)), Fraction(0))
@@ -111,7 +112,7 @@ class Small(unittest.TestCase):
                 costs = self.costs(draw, kind, n_rows, n_columns)
             for form in (costs,) if kind == "great whole" else (costs, np.array(costs)):
                 result = nushbaret.solve(form, maximize)
-                with mock.patch.object(direct, "extension", return_value=None):
+                with by_the_longer_way():
                     longer = nushbaret.solve(form, maximize)
                 for own in result, pickle.loads(pickle.dumps(result)):
                     self.assertEqual(self.form_of(own), self.form_of(longer))

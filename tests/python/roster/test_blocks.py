@@ -70,7 +70,7 @@ class Weeks(unittest.TestCase):
                 entries = Counter((row.person, entry.object) for week in weeks for row in week.persons
                                   for cell in row.cells for entry in cell.entries)
                 self.assertEqual(entries, Counter((pair.person, pair.object) for pair in plan.pairs))
-                who = [name for week in weeks for row in week.objects for place in row.places if place
+                who = [name for week in weeks for row in week.objects for place in row.staff if place
                        for name in place.persons]
                 self.assertEqual(Counter(who), Counter(roster.persons[pair.person] for pair in plan.pairs))
                 for week in weeks:
@@ -92,7 +92,7 @@ class Cells(unittest.TestCase):
         self.assertEqual([(row.total, row.whole) for row in week.persons], [(1, 1), (2, 2)])
         self.assertEqual(week.totals, [2, 1, 0])
         self.assertTrue(week.persons[1].cells[1].entries[0].is_fixed)
-        self.assertEqual([(row.label, [place and place.persons for place in row.places]) for row in week.objects],
+        self.assertEqual([(row.label, [place and place.persons for place in row.staff]) for row in week.objects],
                          [("early", [["p0"], [], None]), ("late", [["p1"], ["p1"], None]),
                           ("office", [None, None, []])])
 
@@ -121,9 +121,9 @@ class Cells(unittest.TestCase):
                          [(True, date(2027, 3, 1)), (False, date(2027, 3, 2))])
 
     def test_missing(self):
-        roster = roster_by_days(["Mon"])._replace(places={0: 3}, least=({}, {0: 2}))
+        roster = roster_by_days(["Mon"])._replace(capacities={0: 3}, least=({}, {0: 2}))
         week, = blocks_of(roster, plan_of([(0, 0)]))
-        self.assertEqual([row.places[0] for row in week.objects if row.label == "early"], [(["p0"], (1, 2))])
+        self.assertEqual([row.staff[0] for row in week.objects if row.label == "early"], [(["p0"], (1, 2))])
 
 
 if __name__ == "__main__":

@@ -33,7 +33,7 @@ def drawn(seed):
     persons, objects = range(len(roster.persons)), range(len(roster.objects))
     least = {object_: int(r.random() < 0.25) for object_ in objects if object_ not in roster.past}
     roster = roster._replace(tasks={person: r.randint(2, 5) for person in persons},
-                             places={object_: r.randint(1, 2) for object_ in objects},
+                             capacities={object_: r.randint(1, 2) for object_ in objects},
                              least=({person: r.choice((0, 0, 1, 2)) for person in persons}, least))
     shapes = SHAPES if len(persons) > 1 else [shape for shape in SHAPES if not shape[2]]
     month = month_of(roster, roster.groups, "g.csv", before)
@@ -58,7 +58,7 @@ def options_of(roster):
 def keeps_counts(roster, plan):
     """Whether the counts are kept; what the past alone exceeds can't be kept."""
     for side, most_of, least_of, names in ((0, roster.tasks, roster.least[0], roster.persons),
-                                           (1, roster.places, roster.least[1], roster.objects)):
+                                           (1, roster.capacities, roster.least[1], roster.objects)):
         for number in range(len(names)):
             own = [pair for pair in plan if pair[side] == number]
             past = sum(pair.object in roster.past for pair in own)

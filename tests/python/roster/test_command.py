@@ -1,5 +1,4 @@
 """The command for rosters with names: what it prints and writes, and with which status it ends."""
-import contextlib
 import csv
 import io
 import itertools
@@ -7,71 +6,24 @@ import json
 import os
 import pathlib
 import random
-import re
 import subprocess
-import sys
 import tempfile
 import unittest
-from html.parser import HTMLParser
 from unittest import mock
 
-TOP = pathlib.Path(__file__).resolve().parents[3]
-sys.path.insert(0, str(TOP / "python"))
-
+import nushbaret
 from nushbaret.lap import library
-from nushbaret.roster import command
 from nushbaret.roster.answer import ShortGroup, listed, plural, sentence
 from nushbaret.roster.files import OutputFault, write_file
 from nushbaret.roster.names import without_marks
 from nushbaret.roster.roster import read_roster
 from nushbaret.roster.words import parser_of
+from commands import OTHERS, SQUARE, TOP, Runs, parsed, program, shell, square, without_names
 
 NIGHTS = ("person,shift,hours\nAda,early,1\nBen,night,2\nBen,weekend,3\nCleo,night,2\nDan,night,1\nDan,weekend,5\n"
           "Ada,late,2\nAda,office,1\n")
 SENTENCE = ("3 people (Ben, Cleo, Dan) can take only 2 shifts between them (night, weekend): "
             "allow one of them another, or leave one out")
-OTHERS = "other plans are as good: --others shows who could change places\n"
-SQUARE = ",early,late,night\nAda,4,1,3\nBen,2,0,5\nCleo,3,2,2\n"
-
-
-class Runs(unittest.TestCase):
-    """Tests in a folder of their own, in which the command runs."""
-
-    def setUp(self):
-        holder = tempfile.TemporaryDirectory()
-        self.addCleanup(holder.cleanup)
-        self.addCleanup(os.chdir, os.getcwd())
-        os.chdir(holder.name)
-
-    def file(self, name, content):
-        pathlib.Path(name).write_text(content, encoding="utf-8")
-
-    def read(self, name):
-        return pathlib.Path(name).read_text(encoding="utf-8")
-
-    def run_words(self, *words):
-        out, err = io.StringIO(), io.StringIO()
-        with contextlib.redirect_stdout(out), contextlib.redirect_stderr(err):
-            try:
-                status = command.main(words)
-            except SystemExit as end:
-                status = end.code
-        return status, out.getvalue(), err.getvalue()
-
-    def expect(self, status, out, err, *words):
-        self.assertEqual(self.run_words(*words), (status, out, err))
-
-    def refused(self, status, text, *words):
-        before = sorted(os.listdir())
-        found, out, err = self.run_words(*words)
-        self.assertEqual((found, out), (status, ""))
-        self.assertIn(text, err)
-        self.assertEqual(sorted(os.listdir()), before)
-
-
-class Terminal(io.StringIO):
-    def isatty(self):
-        return True
 
 
 class Plans(Runs):
@@ -115,9 +67,7 @@ class Plans(Runs):
                  "spaces alone\n")
         out = "least hours: 3\nAda: day, 1\nada: night, 2\nunused: N ight\n" + OTHERS
         self.expect(0, out, alike, "r.csv")
-        with contextlib.redirect_stdout(io.StringIO()), contextlib.redirect_stderr(Terminal()) as err:
-            self.assertEqual(command.main(["r.csv"]), 0)
-        self.assertEqual(err.getvalue(), "2 nurses, 3 shifts, 3 pairs\n" + alike)
+        self.assertEqual(self.on_terminal("r.csv"), (0, "2 nurses, 3 shifts, 3 pairs\n" + alike))
         self.file("r.csv", "," + ",".join(f"x{number},X{number}" for number in range(22)) + "\nAda" + ",1" * 44 + "\n")
         self.assertTrue(self.run_words("r.csv")[2].endswith("r.csv: and 2 more of these names\n"))
 
@@ -250,7 +200,7 @@ class Plans(Runs):
         self.file("r.csv", "a,b,c,note\nAda,x,1,y\n")
         self.refused(3, "'note' is a fourth column", "r.csv", "--lines")
         status, out, _ = self.run_words("--version")
-        self.assertEqual((status, out), (0, f"nushbaret {library.VERSION}\n"))
+        self.assertEqual((status, out), (0, f"nushbaret {nushbaret.__version__}\n"))
 
     def test_refused_places(self):
         self.file("r.csv", SQUARE)
@@ -317,13 +267,6 @@ def fullest(persons, objects, pairs):
         if len({object_ for _, object_ in had}) == len(had) and all(pair in pairs for pair in had):
             best = min(best, (-len(had), sum(pairs[pair] for pair in had)))
     return -best[0], best[1]
-
-
-def square(size):
-    """A drawn matrix of so many persons and objects."""
-    drawn = random.Random(size)
-    return "," + ",".join(f"o{number}" for number in range(size)) + "\n" + "".join(
-        f"p{number}," + ",".join(str(drawn.randrange(1000)) for _ in range(size)) + "\n" for number in range(size))
 
 
 class NoPlans(Runs):
@@ -561,51 +504,6 @@ class Outputs(Runs):
         self.assertIn("isn't drawn", self.read("q.html"))
 
 
-class Page(HTMLParser):
-    """What a page has: its tags, the cells with their kinds, and the headings of the short group."""
-
-    def __init__(self):
-        super().__init__()
-        self.tags, self.cells, self.short, self.open = set(), [], [], []
-        self.kinds = []
-
-    def handle_starttag(self, tag, attributes):
-        self.tags.add(tag)
-        named = dict(attributes)
-        for name in named:
-            assert name in ("class", "scope", "colspan", "span", "style", "tabindex", "lang", "charset", "name",
-                            "http-equiv", "content"), name
-        if tag not in ("meta", "col", "br"):
-            self.open.append((tag, (named.get("class") or "").split()))
-        if tag == "td":
-            self.cells.append(["", self.open[-1][1]])
-
-    def handle_endtag(self, tag):
-        assert self.open.pop()[0] == tag, tag
-
-    def handle_data(self, data):
-        if self.open and self.open[-1][0] == "td":
-            self.cells[-1][0] += data
-        if any(tag == "th" and "short" in kinds for tag, kinds in self.open):
-            self.short.append(data)
-
-
-def without_names(text):
-    """A page without the elements around names."""
-    return re.sub("</?bdi[^>]*>", "", text)
-
-
-def parsed(text):
-    page = Page()
-    page.feed(text)
-    page.close()
-    assert not page.open, page.open
-    assert "content=\"default-src 'none'; style-src 'unsafe-inline'\"" in text
-    assert not page.tags & {"script", "link", "img", "iframe",
-                            "object"} and "url(" not in text and "@import" not in text
-    return page
-
-
 class Statuses(Runs):
     def test_words(self):
         self.file("r.csv", SQUARE)
@@ -648,41 +546,29 @@ class Statuses(Runs):
 
     def test_no_library_and_no_memory(self):
         self.file("r.csv", SQUARE)
-        with mock.patch.dict(library._calls, clear=True), mock.patch.object(library, "PLACES", ()):
+        with mock.patch.dict(library._calls, clear=True), mock.patch.object(library, "PATHS", ()):
             self.refused(4, "c/build.sh", "r.csv", "--output", "p.csv")
         with mock.patch("nushbaret.roster.answer.best_plan", side_effect=MemoryError):
             self.refused(4, "memory refused", "r.csv", "--output", "p.csv")
 
-    def program(self, *words, **options):
-        return subprocess.run([sys.executable, "-m", "nushbaret", *words],
-                              env={**os.environ, "PYTHONPATH": str(TOP / "python")}, stderr=subprocess.PIPE, **options)
-
     @unittest.skipIf("NUSHBARET_EMULATED" in os.environ, "an emulator takes more memory")
     def test_memory_refused_by_a_limit(self):
         self.file("r.csv", square(500))
-        ended = subprocess.run(["bash", "-c", f"ulimit -v 60000; {sys.executable} -m nushbaret r.csv --output p.csv"],
-                               stdout=subprocess.PIPE, stderr=subprocess.PIPE,
-                               env={**os.environ, "PYTHONPATH": str(TOP / "python")})
-        self.assertEqual((ended.returncode, ended.stdout, ended.stderr), (4, b"", b"memory refused\n"))
+        self.assertEqual(shell("ulimit -v 60000; N r.csv --output p.csv"), (4, "", "memory refused\n"))
         self.assertEqual(os.listdir(), ["r.csv"])
 
     def test_as_a_program(self):
         self.file("r.csv", SQUARE.replace("Ada", "Ad\u00e4"))
-        ended = self.program("r.csv", stdout=subprocess.PIPE)
+        ended = program("r.csv", stdout=subprocess.PIPE)
         self.assertEqual((ended.returncode, ended.stderr, ended.stdout.splitlines()[0]), (0, b"", b"least cost: 5"))
         self.file("n.csv", NIGHTS + "Eve,early,1\n")
-        self.assertEqual(self.program("n.csv", stdout=subprocess.PIPE).returncode, 1)
-        self.assertEqual(self.program(stdout=subprocess.PIPE).returncode, 2)
+        self.assertEqual(program("n.csv", stdout=subprocess.PIPE).returncode, 1)
+        self.assertEqual(program(stdout=subprocess.PIPE).returncode, 2)
         for closing, status in ((">&-", 4), ("2>&-", 0)):
-            ended = subprocess.run(["bash", "-c", f"{sys.executable} -m nushbaret r.csv {closing}"],
-                                   stdout=subprocess.PIPE, stderr=subprocess.PIPE,
-                                   env={**os.environ, "PYTHONPATH": str(TOP / "python")})
-            self.assertEqual(ended.returncode, status)
-        ended = subprocess.run(["bash", "-c", f"{sys.executable} -m nushbaret none.csv 2>&-"], stdout=subprocess.PIPE,
-                               env={**os.environ, "PYTHONPATH": str(TOP / "python")})
-        self.assertEqual((ended.returncode, ended.stdout), (4, b""))
+            self.assertEqual(shell(f"N r.csv {closing}")[0], status)
+        self.assertEqual(shell("N none.csv 2>&-")[:2], (4, ""))
         with open("/dev/full", "wb") as full:
-            ended = self.program("r.csv", stdout=full)
+            ended = program("r.csv", stdout=full)
         self.assertEqual((ended.returncode, ended.stderr), (4, b"standard output: No space left on device\n"))
 
 

@@ -4,7 +4,7 @@ import unittest
 from unittest import mock
 
 from nushbaret.counts import nodes
-from roster.test_command import OTHERS, Runs, without_names
+from commands import OTHERS, Runs, without_names
 
 WEEK = ("nurse,shift,hours\nAda,early Mon,1\nAda,late Mon,2\nAda,early Tue,3\nBen,early Mon,2\nBen,late "
         "Mon,1\nBen,early Tue,2\nCleo,late Mon,5\nCleo,early Tue,1\nCleo,office,4\n")
@@ -14,12 +14,13 @@ DAYS = "shift,day\nearly Tue,Tue\nearly Mon,Mon\nlate Mon,Mon\n"
 RULES = ("r.csv", "--places", "p.csv", "--tasks", "t.csv", "--groups", "g.csv")
 
 
-class Week(Runs):
+class Files(Runs):
     def setUp(self):
         super().setUp()
-        for name, content in (("r.csv", WEEK), ("p.csv", PLACES), ("t.csv", TASKS), ("g.csv", DAYS)):
-            self.file(name, content)
+        self.files({"r.csv": WEEK, "p.csv": PLACES, "t.csv": TASKS, "g.csv": DAYS})
 
+
+class Week(Files):
     def test_bounds_and_days(self):
         self.expect(0, "least hours: 3\nAda: early Mon, 1\nBen: late Mon, 1\nCleo: early Tue, 1\nat early Tue: "
                     "Cleo\nat early Mon: Ada\nat late Mon: Ben\nunused: office\n", "", *RULES)
@@ -122,12 +123,7 @@ class Week(Runs):
             self.assertIn(f"<td>{cell}</td>", self.read("p.html"))
 
 
-class Refusals(Runs):
-    def setUp(self):
-        super().setUp()
-        for name, content in (("r.csv", WEEK), ("p.csv", PLACES), ("t.csv", TASKS), ("g.csv", DAYS)):
-            self.file(name, content)
-
+class Refusals(Files):
     def test_groups(self):
         for content, text in (("a,b\nnoon,Mon\n", "g.csv, line 2, column 1: the roster has no object 'noon'"),
                               ("a,b\nearly Mon,Mon\nearly Mon,Tue\n", "g.csv, line 3, column 1: 'early Mon' a second "

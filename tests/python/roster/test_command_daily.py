@@ -10,9 +10,8 @@ import unittest
 from unittest import mock
 
 from nushbaret.roster.output.page import _filled
+from commands import SQUARE, Runs, environment, parsed, shell, square, without_names
 from optional import openpyxl
-from roster import test_command
-from roster.test_command import SQUARE, TOP, Runs
 
 # The command as it runs where processes don't end by signals; what it needs is loaded before.
 INTERRUPTED_ON_WINDOWS = """import sys
@@ -34,13 +33,6 @@ class Daily(Runs):
     def setUp(self):
         super().setUp()
         self.file("r.csv", SQUARE)
-
-    def program(self, script, **options):
-        """What a line of the shell prints, in which N is the command."""
-        command = script.replace("N ", f"{sys.executable} -m nushbaret ")
-        ended = subprocess.run(["bash", "-c", command], stdout=subprocess.PIPE, stderr=subprocess.PIPE,
-                               env={**os.environ, "PYTHONPATH": str(TOP / "python")}, **options)
-        return ended.returncode, ended.stdout.decode(), ended.stderr.decode()
 
 
 class Shown(Daily):
@@ -84,10 +76,10 @@ class Shown(Daily):
             self.refused(2, "not with --fair", "r.csv", "--fair", *words)
 
     def test_print(self):
-        status, out, err = self.program("N r.csv --print json")
+        status, out, err = shell("N r.csv --print json")
         self.assertEqual((status, json.loads(out)["cost"], err), (0, "5", "least cost: 5\nAda: late, 1\nBen: early, "
                                                                   "2\nCleo: night, 2\n"))
-        status, out, err = self.program("N r.csv --print csv | N - --lines")
+        status, out, err = shell("N r.csv --print csv | N - --lines")
         self.assertEqual((status, out.splitlines()[0], err.splitlines()[0]), (0, "least cost: 5", "least cost: 5"))
         self.refused(2, "invalid choice", "r.csv", "--print", "html")
         self.refused(2, "standard output takes one thing", "r.csv", "--print", "csv", "--html", "/dev/stdout")
@@ -95,17 +87,17 @@ class Shown(Daily):
     def test_page_on_standard_output(self):
         for script in ("N r.csv --html /dev/stdout | cat", "N r.csv --html /dev/stdout > p.html; status=$?; cat "
                        "p.html; exit $status"):
-            status, out, err = self.program(script)
+            status, out, err = shell(script)
             self.assertEqual((status, err.splitlines()[0]), (0, "least cost: 5"))
-            test_command.parsed(out)
-        self.assertEqual(self.program("N r.csv --html /dev/null")[0], 0)
+            parsed(out)
+        self.assertEqual(shell("N r.csv --html /dev/null")[0], 0)
 
     def test_all_in_json_and_on_the_page(self):
         self.file("o.csv", "a,b\nAda,early\nBen,late\nEve,night\n")
         self.file("h.csv", "a,b\nAda,early\nBen,late\nCleo,night\n")
         _, out, _ = self.run_words("r.csv", "--keep", "o.csv", "--compare", "h.csv", "--others", "--output", "p.json",
                                    "--html", "p.html")
-        plan, page = json.loads(self.read("p.json")), test_command.without_names(self.read("p.html"))
+        plan, page = json.loads(self.read("p.json")), without_names(self.read("p.html"))
         self.assertEqual(plan["keep"], {"plan": "o.csv", "gone": ["Eve"],
                                         "changes": [{"person": "Ada", "goes": ["early"], "comes": ["late"]},
                                                     {"person": "Ben", "goes": ["late"], "comes": ["early"]},
@@ -126,10 +118,10 @@ class Shown(Daily):
 
 class Paper(Daily):
     def test_a_wide_matrix_in_parts(self):
-        self.file("w.csv", test_command.square(50))
+        self.file("w.csv", square(50))
         self.run_words("w.csv", "--html", "p.html")
         text = self.read("p.html")
-        page = test_command.parsed(text)
+        page = parsed(text)
         self.assertEqual(len(page.cells), 50 * 50 + 3 * 50)
         self.assertEqual(text.count('<th scope="row">p49</th>'), 2)
         self.assertEqual([text.count(f"(part {number} of 2)</th>") for number in (1, 2, 3)], [1, 1, 0])
@@ -146,7 +138,7 @@ class Paper(Daily):
     def test_lists_are_unfolded(self):
         self.file("w.csv", ",x,y,z\nAda,5,1,4\n")
         self.run_words("w.csv", "--html", "p.html")
-        text = test_command.without_names(self.read("p.html"))
+        text = without_names(self.read("p.html"))
         self.assertIn("<details><summary>unused: 2 objects</summary><p>x, z</p></details>\n<p class=\"paper\">unused: "
                       "2 objects: x, z</p>", text)
         self.assertIn("\n.matrix tr.part, p.paper { display: none }\n", text)
@@ -154,29 +146,23 @@ class Paper(Daily):
 
 
 class Faults(Daily):
-    def test_interrupted(self):
+    def interrupted(self, *words):
+        """The status of the command whose roster is a pipe when Ctrl-C comes, what it prints, and the files."""
         os.mkfifo("pipe.csv")
-        ended = subprocess.Popen([sys.executable, "-m", "nushbaret", "pipe.csv", "--output", "p.csv"],
-                                 stdout=subprocess.PIPE, stderr=subprocess.PIPE,
-                                 env={**os.environ, "PYTHONPATH": str(TOP / "python")})
+        ended = subprocess.Popen([sys.executable, *words, "pipe.csv", "--output", "p.csv"], stdout=subprocess.PIPE,
+                                 stderr=subprocess.PIPE, env=environment())
         pipe = self.opened("pipe.csv", ended)
         ended.send_signal(signal.SIGINT)
         out, err = ended.communicate()
         os.close(pipe)
-        self.assertEqual((ended.returncode, out, err, sorted(os.listdir())),
-                         (-signal.SIGINT, b"", b"", ["pipe.csv", "r.csv"]))
+        return ended.returncode, out, err, sorted(os.listdir())
+
+    def test_interrupted(self):
+        self.assertEqual(self.interrupted("-m", "nushbaret"), (-signal.SIGINT, b"", b"", ["pipe.csv", "r.csv"]))
 
     def test_interrupted_on_windows(self):
         """Where processes don't end by signals Ctrl-C raises, and the status is the same."""
-        os.mkfifo("pipe.csv")
-        ended = subprocess.Popen([sys.executable, "-c", INTERRUPTED_ON_WINDOWS, "pipe.csv", "--output", "p.csv"],
-                                 stdout=subprocess.PIPE, stderr=subprocess.PIPE,
-                                 env={**os.environ, "PYTHONPATH": str(TOP / "python")})
-        pipe = self.opened("pipe.csv", ended)
-        ended.send_signal(signal.SIGINT)
-        out, err = ended.communicate()
-        os.close(pipe)
-        self.assertEqual((ended.returncode, out, err, sorted(os.listdir())), (130, b"", b"", ["pipe.csv", "r.csv"]))
+        self.assertEqual(self.interrupted("-c", INTERRUPTED_ON_WINDOWS), (130, b"", b"", ["pipe.csv", "r.csv"]))
 
     def opened(self, pipe, ended):
         """A pipe to a command that has begun to read it."""
@@ -202,7 +188,7 @@ class Faults(Daily):
                 self.run_words("r.csv")
 
     def test_standard_input_closed(self):
-        self.assertEqual(self.program("N - <&-"), (4, "", "standard input is closed\n"))
+        self.assertEqual(shell("N - <&-"), (4, "", "standard input is closed\n"))
 
     def test_files_that_cannot_be_written(self):
         with mock.patch("nushbaret.roster.files.open", side_effect=OSError(28, "No space left on device"), create=True):
@@ -210,7 +196,7 @@ class Faults(Daily):
         with mock.patch("nushbaret.roster.files.tempfile.mkstemp",
                         side_effect=PermissionError(13, "Permission denied", ".nushbaret.x")):
             self.refused(4, "p.csv: Permission denied", "r.csv", "--output", "p.csv", "--force")
-        self.assertEqual(self.program("N r.csv --html /dev/full")[::2], (4, "/dev/full: No space left on device\n"))
+        self.assertEqual(shell("N r.csv --html /dev/full")[::2], (4, "/dev/full: No space left on device\n"))
 
     def test_replacing_that_fails(self):
         """Windows replaces no file that only may be read or is open elsewhere, and removes none that may only be

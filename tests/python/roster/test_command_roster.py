@@ -4,7 +4,6 @@ import datetime
 import os
 import random
 import sys
-import tempfile
 import unittest
 from array import array
 from unittest import mock
@@ -12,20 +11,14 @@ from unittest import mock
 from nushbaret.roster import roster as _roster
 from nushbaret.roster.roster import alike, form_of, read_plan, read_roster
 from nushbaret.roster.sheets import RosterFault, Sheet
+from commands import InFolder
 from optional import openpyxl
 
 LINES = "nurse,shift,hours\nAda,early,2.50\nAda,late,4.00\nBen,early,3.25\n"
 MATRIX = "nurse,early,late,night\nAda,1,2,\nBen,,5,-6\n"
 
 
-class Folder(unittest.TestCase):
-    """Tests with files in a folder of their own."""
-
-    def setUp(self):
-        holder = tempfile.TemporaryDirectory()
-        self.addCleanup(holder.cleanup)
-        self.folder = holder.name
-
+class Folder(InFolder):
     def file(self, content, name="roster.csv"):
         path = os.path.join(self.folder, name)
         with open(path, "wb") as out:

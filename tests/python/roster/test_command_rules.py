@@ -1,16 +1,13 @@
 """The command with rules: what is printed, written and drawn, and what is refused."""
-import contextlib
-import io
 import json
-import sys
 import unittest
 from unittest import mock
 
 from nushbaret.roster import ruling
 from nushbaret.rows import finding
 from nushbaret.rows.model import Finding
+from commands import Runs
 from optional import np, optimize
-from roster.test_command import Runs, Terminal
 
 WISHES = (",Early 2027-03-05,Night 2027-03-05,Early 2027-03-06,Night 2027-03-06,Early 2027-03-07,Night "
           "2027-03-07,Early 2027-03-08,Night "
@@ -44,8 +41,7 @@ REFUSED = (
 class Files(Runs):
     def setUp(self):
         super().setUp()
-        for name, content in (("s.csv", WISHES), ("d.csv", DAYS), ("t.csv", TASKS), ("r.csv", RULES)):
-            self.file(name, content)
+        self.files({"s.csv": WISHES, "d.csv": DAYS, "t.csv": TASKS, "r.csv": RULES})
 
     def rules(self, *lines):
         self.file("r.csv", "rule,value,for\n" + "".join(line + "\n" for line in lines))
@@ -109,14 +105,10 @@ class Words(Files):
             progress("looks for plans", None, 4)
             progress("proofs", 7, 5)
             return Finding("undecided")
-        terminal = Terminal()
-        with mock.patch.object(finding, "find", side_effect=found), mock.patch.object(sys, "stderr", terminal):
-            from nushbaret.roster.command import main
-            with contextlib.redirect_stdout(io.StringIO()):
-                main([*WORDS, "-q"])
-        self.assertIn("\rcosts: looks for plans, proved at least 4\rcosts: proofs, found 7, proved at least 5",
-                      terminal.getvalue())
-        self.assertTrue(terminal.getvalue().endswith(" \r"))
+        with mock.patch.object(finding, "find", side_effect=found):
+            said = self.on_terminal(*WORDS, "-q")[1]
+        self.assertIn("\rcosts: looks for plans, proved at least 4\rcosts: proofs, found 7, proved at least 5", said)
+        self.assertTrue(said.endswith(" \r"))
 
 
 @unittest.skipIf(optimize is None or np is None, "needs SciPy")

@@ -6,8 +6,8 @@ import subprocess
 import sys
 import unittest
 
-from nushbaret.lap import library
-from roster.test_command import SQUARE, TOP, Runs
+import nushbaret
+from commands import SQUARE, TOP, Runs
 
 HINT = " (nushbaret --help lists all options)\n"
 
@@ -60,7 +60,7 @@ class Short(Runs):
 
     def test_version(self):
         for word in ("-V", "--version"):
-            self.expect(0, f"nushbaret {library.VERSION}\n", "", word)
+            self.expect(0, f"nushbaret {nushbaret.__version__}\n", "", word)
 
     def test_help_has_workbooks(self):
         text = " ".join(self.run_words("--help")[1].split())

@@ -8,8 +8,8 @@ from datetime import date, datetime, time, timedelta
 from nushbaret.roster.output.calendar import Event, calendar
 from nushbaret.roster.output.each import file_names
 from nushbaret.roster.times import Times
+from commands import Runs, parsed, without_names
 from optional import openpyxl
-from roster.test_command import Runs, parsed, without_names
 
 ROSTER = ("nurse,shift,points\nAda,early Mon,1\nAda,night Tue,2\nAda,early Wed,9\nBen,early Mon,5\nBen,early "
           "Wed,1\nBen,night Tue,7\nCleo,office,1\n")

@@ -10,7 +10,7 @@ import zipfile
 from html.parser import HTMLParser
 
 import test_package
-from roster.test_command import TOP, Runs
+from commands import TOP, Runs
 
 EXAMPLES = sorted(file.name for file in (TOP / "examples").glob("*.csv"))
 

@@ -8,7 +8,7 @@ from nushbaret.roster.past import groups_before
 from nushbaret.roster.roster import Groups
 from nushbaret.roster.sheets import RosterFault
 import drawn
-from roster.test_command import TOP, Runs, Terminal, without_names
+from commands import TOP, Runs, without_names
 from roster.test_planners_counts import Drawn
 
 CASES = 500
@@ -485,16 +485,12 @@ class Forgotten(Month):
         self.assertEqual(self.run_words("r.csv", "--places", "p.csv"), self.run_words("r.csv", "--places", "q.csv"))
 
     def test_first_line_on_a_terminal(self):
-        import contextlib
-        import io
-        from nushbaret.roster import command
         self.file("sums.csv", "shift,places\nMon,2\nTue,1\nWed,1\n")
         self.file("bounds.csv", "shift,at least,at most\nMon,1,2\nTue,1,1\nWed,1,1\n")
         for words, rule in ((("--places", "sums.csv"), "; single counts: the side with the smaller sum takes all"),
                             (("--places", "bounds.csv"), "; bounds: each name's counts are kept"), ((), "")):
-            with contextlib.redirect_stdout(io.StringIO()), contextlib.redirect_stderr(Terminal()) as err:
-                command.main(["r.csv", *words])
-            self.assertEqual(err.getvalue().splitlines()[0], "2 nurses, 3 shifts, 5 pairs" + rule)
+            said = self.on_terminal("r.csv", *words)[1]
+            self.assertEqual(said.splitlines()[0], "2 nurses, 3 shifts, 5 pairs" + rule)
 
     def test_what_was_read_is_said_before_a_refusal(self):
         self.file("r.csv", "nurse,shift,hours\nAda,Mon,1\nada,Mon,2\n")

@@ -13,9 +13,9 @@ from datetime import date, timedelta
 from unittest import mock
 
 from nushbaret.roster.names import BEGIN, END, Piece, joined, marked, pieces, without_marks
-from nushbaret.roster.output import days, each, html as _html, page
+from nushbaret.roster.output import html as _html, page
 from nushbaret.roster.output.days import SIZES, _size
-from roster.test_command import SQUARE, TOP, Runs, parsed, without_names
+from commands import SQUARE, TOP, Runs, parsed, without_names
 
 BROWSER = next(filter(None, map(shutil.which, ("chromium", "chromium-browser", "google-chrome"))), None)
 SHIFTS = ("early", "late", "night")
@@ -57,7 +57,7 @@ class Colours(unittest.TestCase):
 
     def test_no_colour_is_in_a_rule(self):
         """All colours are named, so that dark rooms have their own."""
-        for style in (_html.FRAME, page.STYLE, days.STYLE, each.STYLE):
+        for style in map(_html.style_of, ("frame.css", "page.css", "days.css", "each.css")):
             self.assertIsNone(re.search("#[0-9a-fA-F]{3}", style))
 
 

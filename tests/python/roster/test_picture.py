@@ -5,7 +5,7 @@ import re
 import unittest
 from xml.etree import ElementTree
 
-from roster.test_command import TOP
+from commands import TOP
 
 ROWS = {"program, rounds": (0.5, None), "library": (None, 0.02), "SciPy": (2.0, 0.2)}
 

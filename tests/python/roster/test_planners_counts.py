@@ -14,7 +14,7 @@ from nushbaret.roster.by_counts import answer_by_counts
 from nushbaret.roster.names import without_marks
 from nushbaret.roster.roster import Groups, Roster
 import drawn
-from roster.test_command import Runs, without_names
+from commands import Runs, without_names
 
 CASES = 300
 

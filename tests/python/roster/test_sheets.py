@@ -10,9 +10,8 @@ import zipfile
 
 from nushbaret.roster.dates import spellings
 from nushbaret.roster.encodings import LETTERS, MARKS
-from nushbaret.roster.sheets import heading_of
+from commands import SQUARE, Runs, shell
 from optional import openpyxl
-from roster.test_command import SQUARE, Runs
 
 WARD = {"Roster": [["nurse", "shift", "hours"], ["Ada", "early", 2], ["Ada", "late", 1], ["Ben", "early", 1],
                    ["Ben", "late", 3]], "Places": [["shift", "places"], ["early", 1], ["late", 1]],
@@ -63,8 +62,14 @@ class Named(Books):
         self.assertIn("Ada: early, 2 (fixed)", self.run_words("r.csv", "--lines", "--fixed", "w.xlsx#Old")[1])
         self.assertEqual(self.run_words("w.xlsx#Roster", "--lines", "--html", "p.html")[0], 0)
         self.assertIn('<title lang="">p</title>', self.read("p.html"))
-        self.assertEqual((heading_of("a/p.2.html"), heading_of("a/w.xlsx#May 2.0"), heading_of("w.xlsx")),
-                         ("p.2", "w, May 2.0", "w"))
+
+    def test_titles_of_pages_that_are_printed(self):
+        """The roster's name without its end, and that of its sheet."""
+        os.mkdir("a")
+        self.file("a/p.2.html", SQUARE)
+        self.book("a/w.xlsx", {"May 2.0": WARD["Roster"]})
+        for roster, title in (("a/p.2.html", "p.2"), ("a/w.xlsx#May 2.0", "w, May 2.0"), ("w.xlsx", "w")):
+            self.assertIn(f'<title lang="">{title}</title>', shell(f"N '{roster}' --html /dev/stdout")[1])
 
     def test_refusals(self):
         self.refused(3, "w.xlsx#June: no sheet 'June': it has 'Roster', 'Places', 'Tasks', 'Days', 'Old'",

@@ -4,8 +4,8 @@ import importlib.util
 import json
 import unittest
 
+from commands import TOP, Runs
 from optional import np, optimize, sparse
-from roster.test_command import TOP, Runs
 
 RULES = ("ward.csv", "--places", "ward_places.csv", "--groups", "ward_days.csv", "--tasks")
 # So much more than all changes together.

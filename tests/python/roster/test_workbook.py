@@ -4,8 +4,8 @@ import unittest
 from unittest import mock
 
 from nushbaret.roster.output import day_sheets
+from commands import Runs
 from optional import openpyxl
-from roster.test_command import Runs
 
 FIRST = datetime.date(2027, 3, 1)
 WORDS = ("r.csv", "--groups", "g.csv", "--places", "p.csv", "--tasks", "t.csv")

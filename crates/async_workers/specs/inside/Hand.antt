@@ -36,4 +36,6 @@ KeepsBook d b after c = (taken : BookData) → IsInHand d taken b → IsInHand a
 
 -- how a session ended: well, or with a growth refused
 abbrev pub Ends : {E : Type 0} → ℕ → ℕ → Known → Option Offer → Note → Result Claim E → BookData → Known → BookData → Bool → Type 0
-Ends refresh since k offer told outcome b left new caught = MatchResult outcome (λ answer. EndsWell refresh since k offer told answer b left new caught) (λ refused. EndsUndone refresh since k offer told b left new caught)
+Ends refresh since k offer told outcome b left new caught =
+    MatchResult outcome (λ answer. EndsWell refresh since k offer told answer b left new caught)
+    (λ refused. EndsUndone refresh since k offer told b left new caught)

@@ -20,4 +20,5 @@ pub record HasWorked (old new : CachePadded Worker) : Type 0 where
 
 -- workers after their runs
 abbrev pub HaveWorked : List (CachePadded Worker) → List (CachePadded Worker) → Type 0
-HaveWorked old new = (length new ≡ length old) × ((k : ℕ) (d : CachePadded Worker) → k < length old → HasWorked (slice_index_or old k d) (slice_index_or new k d))
+HaveWorked old new = (length new ≡ length old) × ((k : ℕ) (d : CachePadded Worker) → k < length old →
+    HasWorked (slice_index_or old k d) (slice_index_or new k d))

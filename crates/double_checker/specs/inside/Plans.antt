@@ -1,5 +1,6 @@
 -- Plans and prices over all rows of costs.
-use Rattle.std.specs.Prelude.{◌≡◌, ℕ, ℤ, pos, ◌+ℤ◌, ◌≤ℤ◌, ◌<ℤ◌, ◌+◌, ◌-◌, ◌*◌, ◌<◌, ◌⊎◌, List, length, Bool, true, IsTrue, Contains, slice_index_or}
+use Rattle.std.specs.Prelude.{◌≡◌, ℕ, ℤ, pos, ◌+ℤ◌, ◌≤ℤ◌, ◌<ℤ◌, ◌+◌, ◌-◌, ◌*◌, ◌<◌, ◌⊎◌, List, length, Bool, true}
+use Rattle.std.specs.Prelude.{IsTrue, Contains, slice_index_or}
 use lib.Ieee.{Float, nan}
 use Rattle.assign_core.specs.declared.sense.Sense.{Sense}
 use Rattle.assign_core.specs.Numbered.{IsNumber, IsMarked, numbered}
@@ -28,7 +29,8 @@ pub record IsFirstNotOwn (m : ℕ) (costs : List Float) (xs : List ℕ) (i : ℕ
 -- each cost of a row is at least the own one with its price, and by the margin if that is said
 pub record IsRowSeen (sense : Sense) (margin : ℤ) (row prices : List Float) (own : ℕ) (by_margin : Bool) : Type 0 where
   pub least : AreAtLeast sense (paid sense (at row own) (at prices own)) row prices (length row)
-  pub above : by_margin ≡ true → AreAbove sense (paid sense (at row own) (at prices own) +ℤ margin) row prices own (length row)
+  pub above : by_margin ≡ true →
+      AreAbove sense (paid sense (at row own) (at prices own) +ℤ margin) row prices own (length row)
 
 -- the rows of the first k persons are
 abbrev pub AreRowsSeen : Sense → ℤ → ℕ → List Float → List ℕ → List Float → Bool → ℕ → Type 0

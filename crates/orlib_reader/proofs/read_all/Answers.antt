@@ -13,6 +13,8 @@ pub loop-preserved : goal.loop-preserved
 loop-preserved g c = let a = c.in_ok-feed_all.ensures.at in record {
   follows = follows_more _ _ _ _ c.loop.machine c.feed_all.new.self _ c.loop.invariant.follows c.in_ok-count.ensures.bytes.0 c.in_ok-feed_all.ensures.after;
   layout = c.in_ok-feed_all.ensures.layout ∙ c.loop.invariant.layout;
-  far = let b = c.in_ok-count.ensures.bound in let z = c.if-count-eq0.false in let t : length (take c.in_ok-count.count c.read.new.buf) ≡ c.in_ok-count.count = length-take-le c.in_ok-count.count c.read.new.buf (omega (arith, b)) in omega arith;
+  far = let b = c.in_ok-count.ensures.bound in let z = c.if-count-eq0.false in
+      let t : length (take c.in_ok-count.count c.read.new.buf) ≡ c.in_ok-count.count =
+      length-take-le c.in_ok-count.count c.read.new.buf (omega (arith, b)) in omega arith;
   bound = c.in_ok-feed_all.ensures.bound;
 }

@@ -1,5 +1,6 @@
 -- The same texts, read byte by byte.
-use Rattle.std.specs.Prelude.{ℕ, ◌+◌, ◌-◌, ◌*◌, ℤ, List, [], ◌∷◌, ◌++◌, Option, None, Some, Result, Ok, Err, nat_le, ◌==◌, if◌then◌else◌, true, false, min, IfSome, ◌≡◌, ◌<◌, ◌≤◌, length, drop, get_or}
+use Rattle.std.specs.Prelude.{ℕ, ◌+◌, ◌-◌, ◌*◌, ℤ, List, [], ◌∷◌, ◌++◌, Option, None, Some, Result, Ok, Err, nat_le}
+use Rattle.std.specs.Prelude.{◌==◌, if◌then◌else◌, true, false, min, IfSome, ◌≡◌, ◌<◌, ◌≤◌, length, drop, get_or}
 use Rattle.orlib_reader.specs.Tokens.{is_space}
 use Rattle.orlib_reader.specs.Numbers.{is_digit, is_sign, signed, judged_number}
 use Rattle.orlib_reader.specs.Texts.{wanted_in, ended, and_then}
@@ -32,7 +33,13 @@ begun at b =
 -- a token with one more byte
 abbrev pub continued : OpenToken → ℕ → OpenToken
 continued t b =
-    if is_digit b then record { place = t.place; is_negative = t.is_negative; has_digits = true; is_bad = t.is_bad; value = saturated (t.value * 10 + (b - 48)) }
+    if is_digit b then record {
+      place = t.place;
+      is_negative = t.is_negative;
+      has_digits = true;
+      is_bad = t.is_bad;
+      value = saturated (t.value * 10 + (b - 48));
+    }
     else record { place = t.place; is_negative = t.is_negative; has_digits = t.has_digits; is_bad = true; value = t.value }
 
 -- the number of a token
@@ -57,7 +64,8 @@ in_token layout at (Some t) found b = Ok (continued t b)
 abbrev pub step : State → ℕ → Result State InputFault
 step s b =
     if nat_le TEXT_LIMIT s.at then Err faults.TooLong
-    else if is_space b then and_then (with_token s.layout s.token s.found) (λ found. Ok (record { layout = s.layout; at = s.at + 1; token = None; found = found }))
+    else if is_space b then and_then (with_token s.layout s.token s.found)
+    (λ found. Ok (record { layout = s.layout; at = s.at + 1; token = None; found = found }))
     else and_then (in_token s.layout s.at s.token s.found b) (λ t. Ok (record { layout = s.layout; at = s.at + 1; token = Some t; found = s.found }))
 
 -- after these bytes

@@ -21,5 +21,6 @@ pub record HaveOffered (b : BookData) (persons : List ℕ) (offers : List Offer)
 
 -- offers are submitted one by one, up to the first that is below the floor
 abbrev pub AreSubmitted : BookData → List Offer → Option ℕ → BookData → Type 0
-AreSubmitted old offers None new = (after_offers offers (plain_of old) ≡ Goes (plain_of new)) × IsAtRest new × (0 < length offers → room (prices_of new) < room (prices_of old))
+AreSubmitted old offers None new = (after_offers offers (plain_of old) ≡ Goes (plain_of new)) × IsAtRest new ×
+    (0 < length offers → room (prices_of new) < room (prices_of old))
 AreSubmitted old offers (Some person) new = (after_offers offers (plain_of old) ≡ Ends (Halted person (plain_of new))) × IsBelowFloor new person

@@ -4,7 +4,7 @@ import re
 from typing import Any, Dict, Iterator, List, NamedTuple, Optional, Sequence, Tuple
 
 from ..answer import NamedPlan
-from ..blocks import Block, Cell, Day, Place, blocks_of
+from ..blocks import Block, Cell, Day, Staff, blocks_of
 from ..roster import Roster
 from .page import MOST_CELLS
 from .sheet_looks import Looks, Marked, set_to_print, set_widths
@@ -125,17 +125,17 @@ def _write_days(sheet: Any, looks: Looks, roster: Roster, blocks: Sequence[Block
 def _line(block: Block, column: int, day: Day, labels: Sequence[str]) -> List[Marked]:
     """Who is at each kind of object on a day."""
     base = ("weekend",) if day.is_weekend else ()
-    places = {row.label: row.places[column] for row in block.objects}
+    staff = {row.label: row.staff[column] for row in block.objects}
     return [Marked(f"{day.weekday} {day.name}".strip(), ("title",)),
-            *(_place(places.get(label), base) for label in labels)]
+            *(_staff(staff.get(label), base) for label in labels)]
 
 
-def _place(place: Optional[Place], base: Tuple[str, ...]) -> Marked:
+def _staff(staff: Optional[Staff], base: Tuple[str, ...]) -> Marked:
     """Who is at an object on a day, and how many of how many where these are too few."""
-    if place is None:
+    if staff is None:
         return Marked("", base)
-    missing = [f"{place.missing[0]} of {place.missing[1]}"] if place.missing else []
-    return Marked(", ".join([*place.persons, *missing]), (*base, "missing") if missing else base)
+    missing = [f"{staff.missing[0]} of {staff.missing[1]}"] if staff.missing else []
+    return Marked(", ".join([*staff.persons, *missing]), (*base, "missing") if missing else base)
 
 
 def _size(sheet: Any, top: int, columns: Sequence[Sequence[Marked]]) -> None:

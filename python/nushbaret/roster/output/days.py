@@ -4,7 +4,7 @@ from math import ceil
 from typing import FrozenSet, Iterator, List, NamedTuple, Optional, Sequence, Tuple
 
 from ..answer import NamedPlan
-from ..blocks import Block, Cell, Day, PersonRow, Place, blocks_of
+from ..blocks import Block, Cell, Day, PersonRow, Staff, blocks_of
 from ..roster import OldPlan, Roster
 from .html import classes, name, ours, scrolling
 
@@ -15,42 +15,6 @@ SIZES = (13.0, 12.5, 12.0, 11.5, 11.0, 10.5, 10.0, 9.5, 9.0, 8.5, 8.0, 7.5, 7.0)
 HEIGHT, NAME_WIDTH, DAY_WIDTH = 640, 150, 105
 LETTER, LINE, REST = 0.56, 1.3, 5
 MARGIN = 10
-
-STYLE = """
-.days { --name: 11em; --day: 8.5em; --total: 5.5em; table-layout: fixed; \
-width: calc(var(--name) + var(--totals) + var(--days) * var(--day)) }
-.days { --totals: var(--total) }
-.days.objects { --totals: 0em }
-.days col.name { width: var(--name) }
-.days col.day { width: var(--day) }
-.days col.total { width: var(--total) }
-.days td, .days th { vertical-align: top; text-align: left; font-weight: normal; overflow-wrap: anywhere }
-.days thead th, .days th[scope=row] { font-weight: bold }
-.days th[scope=row] { position: sticky; left: 0; z-index: 1 }
-.days thead th:first-child { position: sticky; left: 0; z-index: 2 }
-.days .weekend { background: var(--weekend) }
-.days .changed { background: var(--changed) }
-.days td.past { color: var(--soft); font-style: italic }
-.days td.free { color: var(--soft); text-align: center }
-.days td.fixed { outline: 3px double var(--own); outline-offset: -3px }
-.days .total { text-align: right; font-variant-numeric: tabular-nums }
-.days td.broken { outline: 3px solid var(--alarm); outline-offset: -3px }
-.days tr.totals > * { border-top: 2px solid var(--soft); font-variant-numeric: tabular-nums }
-.days td div { padding-left: .8em; text-indent: -.8em }
-.days em { color: var(--alarm); font-style: normal; font-weight: bold }
-.days s { color: var(--soft) }
-@media (max-width: 75em) {
-.days { --day: 6.5em }
-}
-@media (max-width: 40em) {
-.days { --name: 8.5em; --day: 6.2em; --total: 5em }
-}
-@media print {
-.days { --name: 150px; --day: calc(735px / max(7, var(--days))); --total: 60px; \
-font-size: calc(1px * var(--size)); break-inside: avoid }
-.days th[scope=row], .days thead th:first-child { position: static }
-}
-"""
 
 
 class Shown(NamedTuple):
@@ -92,10 +56,10 @@ def _total(row: PersonRow, shown: Shown) -> str:
 
 def _objects(block: Block, title: str, roster: Roster, shown: Shown) -> Iterator[str]:
     names = [row.label for row in block.objects]
-    lines = [[[] if place is None else place.persons for place in row.places] for row in block.objects]
+    lines = [[[] if staff is None else staff.persons for staff in row.staff] for row in block.objects]
     yield _head(block, title, roster, shown, "objects", _size(names, lines, len(block.days)))
     for row in block.objects:
-        cells = "".join(_place(place, day) for place, day in zip(row.places, block.days))
+        cells = "".join(_staff(staff, day) for staff, day in zip(row.staff, block.days))
         yield f'<tr><th scope="row">{escape(row.label)}</th>{cells}</tr>\n'
     yield "</tbody>\n</table>\n"
 
@@ -154,11 +118,11 @@ def _texts(cell: Cell, shown: Shown) -> List[str]:
             for entry in cell.entries] + [*cell.gone]
 
 
-def _place(place: Optional[Place], day: Day) -> str:
-    if place is None:
+def _staff(staff: Optional[Staff], day: Day) -> str:
+    if staff is None:
         return '<td class="none"></td>'
-    lines = [f"<div>{escape(person)}</div>" for person in place.persons]
-    lines += [f'<em lang="en">{place.missing[0]} of {place.missing[1]}</em>'] if place.missing else []
+    lines = [f"<div>{escape(person)}</div>" for person in staff.persons]
+    lines += [f'<em lang="en">{staff.missing[0]} of {staff.missing[1]}</em>'] if staff.missing else []
     return f'<td{classes("weekend" if day.is_weekend else "")}>{"".join(lines)}</td>'
 
 

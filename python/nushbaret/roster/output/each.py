@@ -10,7 +10,7 @@ from ..dates import Dates, dates_of
 from ..roster import OldPlan, Roster
 from ..times import Times
 from .calendar import Event, calendar
-from .html import document, name, ours, scrolling
+from .html import document, name, ours, scrolling, style_of
 
 PAGE, CALENDAR = ".html", ".ics"
 # Letters that some system forbids in the name of a file, and names that Windows keeps for itself.
@@ -18,20 +18,6 @@ FORBIDDEN = frozenset('<>:"/\\|?*')
 RESERVED = frozenset(("con", "prn", "aux", "nul", *(f"{word}{number}" for word in ("com", "lpt")
                                                     for number in range(1, 10))))
 MOST_OCTETS = 200
-
-STYLE = """
-@page { size: portrait }
-.own { table-layout: fixed; width: 26em; max-width: 100% }
-.own td, .own th { text-align: left; vertical-align: top; overflow-wrap: anywhere }
-.own tr.weekend > * { background: var(--weekend) }
-.own tr.changed > * { background: var(--changed) }
-.own tr.past > * { color: var(--soft); font-style: italic }
-.own tr.totals > * { border-top: 2px solid var(--soft) }
-.own s { color: var(--soft) }
-@media print {
-.own { break-inside: avoid }
-}
-"""
 
 
 class DayLine(NamedTuple):
@@ -66,7 +52,7 @@ def files_of(roster: Roster, plan: NamedPlan, kept: Optional[OldPlan], folder: s
         path, title = os.path.join(folder, stem), roster.persons[person]
         objects = own.get(person, [])
         content = _blocks(roster, blocks, person) if blocks else _list(roster, objects)
-        yield path + PAGE, "".join(document(title, STYLE, content)).encode()
+        yield path + PAGE, "".join(document(title, style_of("each.css"), content)).encode()
         if dates:
             days = [(object_, group_of(roster, object_)) for object_ in objects]
             events = [Event(roster.objects[object_], labels[object_], dates[group], times_at(roster, object_))

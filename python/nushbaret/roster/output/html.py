@@ -1,5 +1,7 @@
 """What all pages have in common: their frame, colours for light and dark rooms and for paper, and names that are set
 apart from our words."""
+import pathlib
+from functools import lru_cache
 from html import escape
 from typing import Dict, Iterable, Iterator, List, Sequence, Tuple
 
@@ -25,37 +27,6 @@ DARK_SHADES: Shades = (
     *((colour, _PALE) for colour in ("#1b2530", "#1e3144", "#213e59", "#244b6e", "#285a86", "#2c699e")),
     *((colour, _NIGHT) for colour in ("#6aaee0", "#8fc4ec", "#b7dbf6")))
 
-FRAME = """
-body { font: 15px/1.4 sans-serif; margin: 2em; color: var(--ink); background: var(--paper) }
-h1, p, caption { overflow-wrap: anywhere }
-bdi { white-space: nowrap }
-bdi.long { white-space: normal; overflow-wrap: anywhere }
-small { font-size: .8em; color: var(--soft) }
-.scroll { overflow-x: auto; margin: 1em 0 }
-table { border-collapse: separate; border-spacing: 0 }
-th, td { border: solid var(--line); border-width: 0 1px 1px 0; padding: .15em .45em }
-th { background: var(--paper) }
-th:first-child, td:first-child { border-left-width: 1px }
-thead tr:first-child th { border-top-width: 1px }
-caption { text-align: left; font-weight: bold; padding: .3em 0 }
-td.none { background: \
-repeating-linear-gradient(45deg, var(--paper), var(--paper) 4px, var(--hatch) 4px, var(--hatch) 6px) }
-@media (max-width: 40em) {
-body { margin: 1em }
-}
-@page { size: landscape; margin: 1cm }
-@media print {
-body { margin: 0; font-size: 12px; print-color-adjust: exact; -webkit-print-color-adjust: exact }
-h1 { font-size: 16px; margin: 0 0 4px }
-p { margin: 4px 0 }
-.scroll { overflow: visible; margin: 6px 0 }
-tr { break-inside: avoid }
-caption, thead { break-after: avoid }
-thead { display: table-header-group }
-tbody tr:first-child { break-before: avoid }
-}
-"""
-
 
 def _variables(colours: Colours, shades: Shades) -> str:
     named = [f"--{name}: {colour}" for name, colour in colours.items()]
@@ -68,13 +39,19 @@ COLOURS = (":root { color-scheme: light dark }\n" + _variables(LIGHT, LIGHT_SHAD
            + "@media print {\n:root { color-scheme: light }\n}\n")
 
 
+@lru_cache(maxsize=None)
+def style_of(file: str) -> str:
+    """The style in a file of this folder."""
+    return "\n" + pathlib.Path(__file__).with_name(file).read_text(encoding="utf-8")
+
+
 def document(title: str, style: str, content: Iterable[str]) -> Iterator[str]:
     """A whole page without scripts or anything from elsewhere."""
     yield ('<!DOCTYPE html>\n<html lang="en">\n<head>\n<meta charset="utf-8">\n<meta name="viewport" '
            'content="width=device-width, initial-scale=1">\n<meta name="color-scheme" content="light dark">\n'
            "<meta http-equiv=\"Content-Security-Policy\" content=\"default-src 'none'; style-src 'unsafe-inline'\">\n"
-           f'<title lang="">{escape(title)}</title>\n<style>\n{COLOURS}{FRAME}{style}</style>\n</head>\n<body>\n<h1 '
-           f'lang="">{escape(title)}</h1>\n')
+           f'<title lang="">{escape(title)}</title>\n<style>\n{COLOURS}{style_of("frame.css")}{style}</style>\n'
+           f'</head>\n<body>\n<h1 lang="">{escape(title)}</h1>\n')
     yield from content
     yield "</body>\n</html>\n"
 

@@ -88,7 +88,7 @@ def _outside(roster: Roster, plan: NamedPlan) -> Content:
                                "least": missing.least} for missing in missing_of(roster, plan.pairs)]
     content["without"] = [{"person": roster.persons[person], "had": had[person], "most": roster.tasks_of(person)}
                           for person in plan.without]
-    content["unused"] = [{"object": roster.objects[object_], "had": used[object_], "most": roster.places_of(object_)}
+    content["unused"] = [{"object": roster.objects[object_], "had": used[object_], "most": roster.capacity_of(object_)}
                          for object_ in plan.unused]
     return content
 

@@ -8,8 +8,8 @@ from ..answer import Answer, NamedPlan, Pair, ShortGroup, counted, left_out
 from ..groups import order_of
 from ..names import MOST_NAMES, joined
 from ..roster import Roster
-from .days import STYLE as DAYS_STYLE, by_days
-from .html import LIGHT_SHADES, classes, document, name, scrolling, words
+from .days import by_days
+from .html import LIGHT_SHADES, classes, document, name, scrolling, style_of, words
 from .texts import Hand, Note, Report, broken_rules, first_lines, notes_of, persons_at, with_marks
 
 MOST_CELLS = 250_000
@@ -21,42 +21,6 @@ SHEET_WIDTH = 960
 LETTER, LINE, MARGIN = 6, 13, 10
 MOST_NAME_WIDTH = 180
 MOST_HEADING_HEIGHT = 120
-
-STYLE = """
-.matrix { overflow: auto; max-height: 85vh; white-space: nowrap }
-.matrix table { display: inline-table; vertical-align: top; margin: 0 }
-.matrix td { text-align: right; font-variant-numeric: tabular-nums }
-.matrix th { position: sticky }
-.matrix thead th { top: 0; z-index: 2; padding: .5em .15em; vertical-align: bottom }
-.matrix thead th span { writing-mode: vertical-rl }
-.matrix tbody th { left: 0; z-index: 1; text-align: left }
-.matrix thead th:first-child { left: 0; z-index: 3 }
-.plan td { vertical-align: top; overflow-wrap: anywhere }
-.plan td:nth-child(3) { text-align: right; white-space: nowrap; font-variant-numeric: tabular-nums }
-.matrix tr.part, p.paper { display: none }
-details { margin: .5em 0 }
-summary { cursor: pointer }
-td.own { outline: 3px solid var(--own); outline-offset: -3px; font-weight: bold }
-td.own.fixed { outline-style: double }
-.matrix th.short { color: var(--alarm); background: var(--alarm-paper) }
-.matrix td.top { border-top: 3px solid var(--alarm) }
-.matrix td.bottom { border-bottom: 3px solid var(--alarm) }
-.matrix td.left { border-left: 3px solid var(--alarm) }
-.matrix td.right { border-right: 3px solid var(--alarm) }
-p.short { color: var(--alarm); font-weight: bold }
-@media print {
-.matrix { overflow: visible; max-height: none; font-size: 9px }
-.matrix table { display: table; margin-bottom: 1em; break-inside: avoid }
-.matrix th { position: static }
-.matrix tbody th { white-space: normal; overflow-wrap: anywhere; max-width: 180px }
-.matrix thead tr:last-child th { padding: .3em .15em }
-.matrix thead th span { max-height: 120px; white-space: normal; overflow-wrap: anywhere }
-.matrix tr.part { display: table-row }
-.matrix tr.part th { text-align: left; font-size: 11px }
-details { display: none }
-p.paper { display: block }
-}
-"""
 
 
 class Outline(NamedTuple):
@@ -130,7 +94,7 @@ def page(report: Report, title: str) -> str:
     where even these have more than 250000 cells none is, and the page says so.
     """
     content = _plan_alone(report) if report.options.plan_only else _whole(report)
-    return "".join(document(title, STYLE + DAYS_STYLE + SHADES_STYLE, content))
+    return "".join(document(title, style_of("page.css") + style_of("days.css") + SHADES_STYLE, content))
 
 
 def _whole(report: Report) -> Iterator[str]:
@@ -230,21 +194,21 @@ def named_parts(roster: Roster, frame: Frame) -> List[Tuple[range, str]]:
 def _parts(roster: Roster, frame: Frame) -> List[range]:
     """As many columns at a time as fit on a sheet next to the names of persons; in parts of about one width."""
     names = max(len(roster.persons[person]) for person in frame.persons)
-    room = SHEET_WIDTH - MARGIN - min(LETTER * names, MOST_NAME_WIDTH)
+    most = SHEET_WIDTH - MARGIN - min(LETTER * names, MOST_NAME_WIDTH)
     cost = MARGIN + LETTER * max(len(roster.shown(cost))
                                  for cost in (min(roster.costs, default=0), max(roster.costs, default=0)))
     lines = [-(-LETTER * len(roster.objects[object_]) // MOST_HEADING_HEIGHT) for object_ in frame.objects]
     widths = [max(cost, LINE * count + 4) for count in lines]
-    parts = _filled(widths, room)
-    even = _filled(widths, min(room, sum(widths) // len(parts) + max(widths)))
+    parts = _filled(widths, most)
+    even = _filled(widths, min(most, sum(widths) // len(parts) + max(widths)))
     return even if len(even) == len(parts) else parts
 
 
-def _filled(widths: List[int], room: int) -> List[range]:
-    """Columns one after the other, in parts of at most so much room."""
+def _filled(widths: List[int], most: int) -> List[range]:
+    """Columns one after the other, in parts of at most so much width."""
     parts, begin, width = [], 0, 0
     for column, own in enumerate(widths):
-        if column > begin and width + own > room:
+        if column > begin and width + own > most:
             parts.append(range(begin, column))
             begin, width = column, 0
         width += own
@@ -322,7 +286,7 @@ def _notes(notes: List[Note]) -> Iterator[str]:
 
 
 def _folded(roster: Roster, plan: NamedPlan) -> Iterator[str]:
-    """Who gets less than it should, and what has places left, under their count; names have marks."""
+    """Who gets less than it should, and what isn't full, under their count; names have marks."""
     for out in left_out(roster, plan):
         yield from _fold(f"{out.how}: {counted(len(out.names), roster.titles[out.side])}", joined(out.names))
 

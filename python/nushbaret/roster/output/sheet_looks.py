@@ -2,7 +2,7 @@
 import textwrap
 from typing import Any, NamedTuple, Sequence, Union
 
-NARROWEST, WIDEST, ROOM = 4, 40, 1.5
+NARROWEST, WIDEST, PADDING = 4, 40, 1.5
 # In points: the height of a line, and that of an upright letter.
 LINE_HEIGHT, LETTER_HEIGHT = 15, 6
 # Spreadsheets begin with this font.
@@ -62,7 +62,7 @@ def set_widths(sheet: Any, top: int, columns: Sequence[Sequence[Marked]]) -> Non
     alike = max((width for width, cells in zip(widest[1:], columns[1:]) if not _has_numbers(cells)), default=NARROWEST)
     widths = [widest[0], *(width if _has_numbers(cells) else alike for width, cells in zip(widest[1:], columns[1:]))]
     for number, width in enumerate(widths, 1):
-        sheet.column_dimensions[letter(number)].width = width + ROOM
+        sheet.column_dimensions[letter(number)].width = width + PADDING
     for row, cells in enumerate(zip(*columns), top):
         lines = max(_lines(marked, width) for marked, width in zip(cells, widths))
         if lines > 1:

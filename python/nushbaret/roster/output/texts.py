@@ -214,7 +214,7 @@ def _why_fixed(roster: Roster, pair: Pair) -> str:
 def persons_at(roster: Roster, plan: NamedPlan) -> List[Tuple[int, List[str]]]:
     """Who is at each object that is in a pair, in the roster's order, or the groups'; nothing where no object may have
     several."""
-    if all(roster.places_of(object_) <= 1 for object_ in range(len(roster.objects))):
+    if all(roster.capacity_of(object_) <= 1 for object_ in range(len(roster.objects))):
         return []
     who: Dict[int, List[str]] = {}
     for pair in plan.pairs:
@@ -246,7 +246,7 @@ def fairness(report: Report, fair: Fair) -> Note:
 
 
 def others(report: Report, plan: NamedPlan) -> List[Note]:
-    """That there are other best plans, and where it is asked for, who could change places, or the next best plan."""
+    """That there are other best plans, and where it is asked for, who could swap, or the next best plan."""
     roster, options = report.roster, report.options
     if not options.others:
         is_shown = not plan.is_only_one and not options.keep and options.plans < 2 and not options.fair

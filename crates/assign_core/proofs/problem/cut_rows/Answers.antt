@@ -11,9 +11,12 @@ loop-preserved c =
     record {
       whole =
           ap (λ l. map (λ r. r.items) l ++ rows_cut c.args.m (c.args.n - (c.loop.counter + 1)) c.split_at.result.1.now) c.in_ok-push.ensures.items
-          ∙ rows_moved (λ r. r.items) c.loop.rows.items c.in_ok-row_of_costs.field-0 (row_from 1 (take c.args.m c.loop.left.now)) (rows_cut c.args.m (c.args.n - (c.loop.counter + 1)) c.split_at.result.1.now) row
+          ∙ rows_moved (λ r. r.items) c.loop.rows.items c.in_ok-row_of_costs.field-0
+          (row_from 1 (take c.args.m c.loop.left.now)) (rows_cut c.args.m (c.args.n - (c.loop.counter + 1))
+          c.split_at.result.1.now) row
           ∙ ap (λ l. map (λ r. r.items) c.loop.rows.items ++ l)
-          (ap (λ l. row_from 1 (take c.args.m c.loop.left.now) ∷ rows_cut c.args.m (c.args.n - (c.loop.counter + 1)) l) c.split_at.ensures.back ∙ sym (rows_cut-step c.args.m c.args.n c.loop.counter c.loop.left.now lt))
+          (ap (λ l. row_from 1 (take c.args.m c.loop.left.now) ∷ rows_cut c.args.m (c.args.n - (c.loop.counter + 1))
+          l) c.split_at.ensures.back ∙ sym (rows_cut-step c.args.m c.args.n c.loop.counter c.loop.left.now lt))
           ∙ c.loop.invariant.whole;
       long = let b = c.split_at.ensures.back_len in let w = c.loop.invariant.long in omega arith;
     }

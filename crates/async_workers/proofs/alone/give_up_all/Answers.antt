@@ -14,5 +14,6 @@ loop-before-preserved c =
     record {
       goes_on = all_given_up c.args.book.now b c.give_up.new.self (c.loop-before.before + 1) c.loop-before.invariant.goes_on e.book;
       free = e.free;
-      none = subst (λ (x : BookData). HaveNone x.claims (c.loop-before.before + 1)) (sym e.book) (one_given_up b c.loop-before.before c.loop-before.invariant.none);
+      none = subst (λ (x : BookData). HaveNone x.claims (c.loop-before.before + 1)) (sym e.book)
+          (one_given_up b c.loop-before.before c.loop-before.invariant.none);
     }

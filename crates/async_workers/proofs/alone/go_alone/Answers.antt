@@ -22,4 +22,10 @@ step_alone-requires-clause-worker g c = one_of c.args.book.now c.loop.book c.req
 pub loop-preserved : goal.loop-preserved
 loop-preserved g c =
     let e = c.in_ok-step_alone.ensures in
-    record { goes_on = goes_on_through c.args.book.now c.loop.book c.step_alone.new.book c.loop.invariant.goes_on e.goes_on; free = e.free; none = e.none; resumed = e.stopped ∙ c.loop.invariant.resumed }
+    record {
+      goes_on = goes_on_through c.args.book.now c.loop.book c.step_alone.new.book c.loop.invariant.goes_on
+          e.goes_on;
+      free = e.free;
+      none = e.none;
+      resumed = e.stopped ∙ c.loop.invariant.resumed;
+    }

@@ -16,7 +16,8 @@ prepare-offer-requires-clause-table c =
 
 pub prepare-offer-requires-clause-asked : goal.prepare-offer-requires-clause-asked
 prepare-offer-requires-clause-asked c =
-    let base = c.deref.ensures ∙ c.scaled.ensures.scaled ∙ ap (λ (b : BookData). b.base) c.claim-claim.ensures.book ∙ after_claim-base c.args.book.now 1 c.claim-claim.result in
+    let base = c.deref.ensures ∙ c.scaled.ensures.scaled ∙ ap (λ (b : BookData). b.base) c.claim-claim.ensures.book
+    ∙ after_claim-base c.args.book.now 1 c.claim-claim.result in
     subst (λ (s : ScaledProblem). IsAsked s c.claim-claim.result) (sym base) c.claim-claim.ensures.asked
 
 pub submit_offer-requires-clause-worker : goal.submit_offer-requires-clause-worker
@@ -30,7 +31,8 @@ submit_offer-requires-clause-prepared c =
       prices_of b,
       c.version.result,
       below_itself (prices_of b),
-      alone_prepared c.args.book.now b c.deref.result.now c.prices.result.now c.version.result c.claim-claim.result c.prepare-offer.result c.invariant.ensures c.requires.worker c.requires.none
+      alone_prepared c.args.book.now b c.deref.result.now c.prices.result.now c.version.result c.claim-claim.result
+          c.prepare-offer.result c.invariant.ensures c.requires.worker c.requires.none
           c.claim-claim.ensures.answer c.claim-claim.ensures.book (c.deref.ensures ∙ c.scaled.ensures.scaled) c.prices.ensures.prices c.prepare-offer.ensures,
     )
 
@@ -41,4 +43,5 @@ returns-clause-goes_on c =
 
 pub returns-clause-stopped : goal.returns-clause-stopped
 returns-clause-stopped c =
-    c.submit_offer.ensures.ends.stopped ∙ ap (λ (b : BookData). b.stopped) c.claim-claim.ensures.book ∙ after_claim-stopped c.args.book.now 1 c.claim-claim.result
+    c.submit_offer.ensures.ends.stopped ∙ ap (λ (b : BookData). b.stopped) c.claim-claim.ensures.book ∙
+    after_claim-stopped c.args.book.now 1 c.claim-claim.result

@@ -6,7 +6,8 @@ use Rattle.async_workers.proofs.Runs.{moved}
 use Rattle.async_workers.proofs.working.seat_workers.Goals as goal
 
 pub loop-desk-init : goal.loop-desk-init
-loop-desk-init c = ap (λ ws. map desk_in ws ++ c.into_iter-desk-iterator.result.rest.items) c.in_ok-workers.ensures.items ∙ c.into_iter-desk-iterator.ensures.into_iter_gives.0
+loop-desk-init c = ap (λ ws. map desk_in ws ++ c.into_iter-desk-iterator.result.rest.items)
+    c.in_ok-workers.ensures.items ∙ c.into_iter-desk-iterator.ensures.into_iter_gives.0
 
 pub loop-desk-preserved : goal.loop-desk-preserved
 loop-desk-preserved c =

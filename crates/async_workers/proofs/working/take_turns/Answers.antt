@@ -21,7 +21,17 @@ returns-in-Ok-Done g c = record {
   can_turn = c.turn.ensures.can_turn;
   works = works g (goal.at.returns-in-Ok-Done g c).After-turn;
   fault = tt;
-  last = (c.loop.desk, c.loop.invariant.can_turn, c.loop.invariant.works, (turn.Done, subst (Turned c.args.refresh c.loop.desk c.turn.new.desk) c.in-Ok-Done.field-0-is c.in-Ok-Done.ensures.turned, tt));
+  last = (
+    c.loop.desk,
+    c.loop.invariant.can_turn,
+    c.loop.invariant.works,
+    (
+      turn.Done,
+      subst (Turned c.args.refresh c.loop.desk c.turn.new.desk) c.in-Ok-Done.field-0-is
+          c.in-Ok-Done.ensures.turned,
+      tt,
+    ),
+  );
 }
 
 pub returns-in-Ok-Refuted : goal.returns-in-Ok-Refuted
@@ -29,7 +39,17 @@ returns-in-Ok-Refuted g c = record {
   can_turn = c.turn.ensures.can_turn;
   works = works g (goal.at.returns-in-Ok-Refuted g c).After-turn;
   fault = tt;
-  last = (c.loop.desk, c.loop.invariant.can_turn, c.loop.invariant.works, (turn.Refuted, subst (Turned c.args.refresh c.loop.desk c.turn.new.desk) c.in-Ok-Refuted.field-0-is c.in-Ok-Refuted.ensures.turned, tt));
+  last = (
+    c.loop.desk,
+    c.loop.invariant.can_turn,
+    c.loop.invariant.works,
+    (
+      turn.Refuted,
+      subst (Turned c.args.refresh c.loop.desk c.turn.new.desk) c.in-Ok-Refuted.field-0-is
+          c.in-Ok-Refuted.ensures.turned,
+      tt,
+    ),
+  );
 }
 
 pub returns-in-Ok-Stopped : goal.returns-in-Ok-Stopped
@@ -37,7 +57,17 @@ returns-in-Ok-Stopped g c = record {
   can_turn = c.turn.ensures.can_turn;
   works = works g (goal.at.returns-in-Ok-Stopped g c).After-turn;
   fault = tt;
-  last = (c.loop.desk, c.loop.invariant.can_turn, c.loop.invariant.works, (turn.Stopped, subst (Turned c.args.refresh c.loop.desk c.turn.new.desk) c.in-Ok-Stopped.field-0-is c.in-Ok-Stopped.ensures.turned, tt));
+  last = (
+    c.loop.desk,
+    c.loop.invariant.can_turn,
+    c.loop.invariant.works,
+    (
+      turn.Stopped,
+      subst (Turned c.args.refresh c.loop.desk c.turn.new.desk) c.in-Ok-Stopped.field-0-is
+          c.in-Ok-Stopped.ensures.turned,
+      tt,
+    ),
+  );
 }
 
 pub returns-in-Err-clause-works : goal.returns-in-Err-clause-works

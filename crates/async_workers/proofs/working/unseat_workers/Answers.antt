@@ -18,7 +18,8 @@ loop-worker-preserved c =
     let inv = c.loop-worker.invariant in
     let step : old.items ≡ worker ∷ left.items = c.in-Some.ensures.steps.0 in
     let fewer = ap length step in
-    let pushed : after.items ≡ before.items ++ desk_in worker ∷ [] = c.push_reserved.ensures.items ∙ ap (λ (w : Worker). before.items ++ w.desk ∷ []) c.into_inner-desk.ensures in
+    let pushed : after.items ≡ before.items ++ desk_in worker ∷ [] = c.push_reserved.ensures.items ∙
+    ap (λ (w : Worker). before.items ++ w.desk ∷ []) c.into_inner-desk.ensures in
     let long : length after.items ≡ length before.items + 1 = ap length pushed ∙ length_push before.items (desk_in worker) in
     let room = inv.room in
     let capacity = c.push_reserved.ensures.capacity in

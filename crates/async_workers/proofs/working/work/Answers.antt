@@ -9,6 +9,8 @@ pub returns-clause-works : goal.returns-clause-works
 returns-clause-works g c =
     let old = c.args.worker.now.desk in
     elim c.if-is_some.branch [
-      | then-is_some w ↦ subst (λ (x : Worker). WorksOn old x.desk) (sym w.worker-is) (works_through old c.take_turns-fault.new.desk w.ask_stop.new.desk c.take_turns-fault.ensures.works w.ask_stop.ensures.works)
+      | then-is_some w ↦ subst (λ (x : Worker). WorksOn old x.desk) (sym w.worker-is)
+          (works_through old c.take_turns-fault.new.desk w.ask_stop.new.desk c.take_turns-fault.ensures.works
+          w.ask_stop.ensures.works)
       | else-is_some w ↦ subst (λ (x : Worker). WorksOn old x.desk) (sym w.worker-is) c.take_turns-fault.ensures.works
     ]

@@ -1,6 +1,7 @@
 use Rattle.std.proofs.Common.{false, true}
 use Rattle.auction_book.proofs.Accepting.{accepted_follows, released_follows}
-use Rattle.auction_book.proofs.Following.{caught_up_follows, claimed_follows, follows_itself, follows_through, given_up_follows, phased_follows, recorded_follows, stop_follows}
+use Rattle.auction_book.proofs.Following.{caught_up_follows, claimed_follows, follows_itself, follows_through}
+use Rattle.auction_book.proofs.Following.{given_up_follows, phased_follows, recorded_follows, stop_follows}
 use Rattle.auction_book.proofs.law.changes_follow.Goals as goal
 
 pub returns : goal.returns

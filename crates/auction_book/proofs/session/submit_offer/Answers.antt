@@ -3,7 +3,7 @@ use Rattle.std.proofs.Common.{sym, Some, ap, subst, ◌∙◌}
 use Rattle.auction_book.specs.Session.{IsPrepared}
 use Rattle.bidder.proofs.Sound.{bid_sound}
 use Rattle.bidder.specs.declared.offers.Offer.TheVariants as made
-use Rattle.auction_book.proofs.Runs.{handed_left}
+use Rattle.auction_book.proofs.WorkerSteps.{handed_left}
 use Rattle.auction_book.proofs.session.submit_offer.Goals as goal
 
 pub submit_bid-requires-clause-fitting : goal.submit_bid-requires-clause-fitting

@@ -15,5 +15,7 @@ returns-in-Ok g c =
     let options = c.args.options in
     let rule = subst (λ (t : ScaledProblem). IsProblem t.problem) c.deref.ensures c.problem.ensures.rule in
     let rows = c.problem.ensures.problem ∙ ap (λ (t : ScaledProblem). t.problem) c.deref.ensures in
-    let put = subst (λ (l : List Listing). Puts options l outcome (g.W.Write.contents c.args.w.now) (g.W.Write.contents c.put_report.new.w) c.put_report.result) rows c.put_report.ensures in
-    reports_on (solver_of Auction options) c.args.problem c.args.prices s outcome _ _ _ c.in_ok-scaled.ensures rule c.in-Ok.ensures.mode c.in-Ok.ensures.proof put
+    let put = subst (λ (l : List Listing). Puts options l outcome (g.W.Write.contents c.args.w.now)
+    (g.W.Write.contents c.put_report.new.w) c.put_report.result) rows c.put_report.ensures in
+    reports_on (solver_of Auction options) c.args.problem c.args.prices s outcome _ _ _ c.in_ok-scaled.ensures rule
+    c.in-Ok.ensures.mode c.in-Ok.ensures.proof put

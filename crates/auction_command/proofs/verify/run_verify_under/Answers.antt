@@ -11,7 +11,9 @@ pub returns : goal.returns
 returns g c =
     let line = c.as_bytes.ensures.value ∙ c.in_ok-line.ensures.ok in (
       c.in_ok-finding.finding,
-      finding_is _ _ _ c.in_ok-problem.problem (seen_report c.in_ok-report.report) _ (subst IsProblem c.problem.view_is c.problem.invariant) c.in_ok-problem.ensures c.in_ok-report.ensures.answer c.in_ok-finding.ensures,
+      finding_is _ _ _ c.in_ok-problem.problem (seen_report c.in_ok-report.report) _
+          (subst IsProblem c.problem.view_is c.problem.invariant) c.in_ok-problem.ensures
+          c.in_ok-report.ensures.answer c.in_ok-finding.ensures,
       c.verified.ensures,
       subst (Appends (g.W.Write.contents c.args.w.now) (g.W.Write.contents c.write_text.new.w)) line c.in_ok-write_text.ensures,
     )
@@ -22,6 +24,8 @@ returns-in_err-write_text g c =
     let line = c.as_bytes.ensures.value ∙ c.in_ok-line.ensures.ok in
     rw (p.1, p.2) (
       c.in_ok-finding.finding,
-      finding_is _ _ _ c.in_ok-problem.problem (seen_report c.in_ok-report.report) _ (subst IsProblem c.problem.view_is c.problem.invariant) c.in_ok-problem.ensures c.in_ok-report.ensures.answer c.in_ok-finding.ensures,
+      finding_is _ _ _ c.in_ok-problem.problem (seen_report c.in_ok-report.report) _
+          (subst IsProblem c.problem.view_is c.problem.invariant) c.in_ok-problem.ensures
+          c.in_ok-report.ensures.answer c.in_ok-finding.ensures,
       subst (IsCutOff (g.W.Write.contents c.args.w.now) (g.W.Write.contents c.write_text.new.w)) line c.in_err-write_text.ensures,
     )

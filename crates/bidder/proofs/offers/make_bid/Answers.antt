@@ -13,12 +13,16 @@ use Rattle.bidder.proofs.offers.make_bid.Goals as goal
 pub level_of-requires-clause-object : goal.level_of-requires-clause-object
 level_of-requires-clause-object c =
     let s = c.args.scaled.now in
-    rw c.requires.table (entry_found (λ e. IsNumber (length s.problem) e.0) (benefits_at s c.args.person) c.in-Some.best.object _ (benefit_row_is s c.args.person c.in-Some.ensures.problem c.requires.person).within c.in-Some.ensures.best.listed)
+    rw c.requires.table (entry_found (λ e. IsNumber (length s.problem) e.0) (benefits_at s c.args.person)
+    c.in-Some.best.object _ (benefit_row_is s c.args.person c.in-Some.ensures.problem c.requires.person).within
+    c.in-Some.ensures.best.listed)
 
 pub level_of-requires-clause-benefit : goal.level_of-requires-clause-benefit
 level_of-requires-clause-benefit c =
     let s = c.args.scaled.now in
-    entry_found (λ e. IsBenefit e.1) (benefits_at s c.args.person) c.in-Some.best.object _ (benefit_row_is s c.args.person c.in-Some.ensures.problem c.requires.person).benefits c.in-Some.ensures.best.listed
+    entry_found (λ e. IsBenefit e.1) (benefits_at s c.args.person) c.in-Some.best.object _
+    (benefit_row_is s c.args.person c.in-Some.ensures.problem c.requires.person).benefits
+    c.in-Some.ensures.best.listed
 
 pub level_of-requires-clause-floor : goal.level_of-requires-clause-floor
 level_of-requires-clause-floor c = floor_least c.args.scaled.now c.args.ask c.in-Some.ensures.problem c.requires.ask
@@ -26,16 +30,20 @@ level_of-requires-clause-floor c = floor_least c.args.scaled.now c.args.ask c.in
 pub level_of-requires-clause-enough : goal.level_of-requires-clause-enough
 level_of-requires-clause-enough c =
     let best = c.in-Some.best in
-    bar_under c.args.ask.floor best.best best.second (λ w h. second_under (benefits_at c.args.scaled.now c.args.person) c.args.prices.now best w c.in-Some.ensures.best h) (grind (arith, ints, c.if-best-ask.false))
+    bar_under c.args.ask.floor best.best best.second
+    (λ w h. second_under (benefits_at c.args.scaled.now c.args.person) c.args.prices.now best w
+    c.in-Some.ensures.best h) (grind (arith, ints, c.if-best-ask.false))
 
 pub returns-clause-offer : goal.returns-clause-offer
 returns-clause-offer c =
     let f : SFits w128 c.level_of.result = search rules in
-    let is = made_is c.args.scaled.now c.args.prices.now c.args.version c.args.ask c.args.person c.in-Some.best c.level_of.result c.in-Some.ensures.best (grind (arith, ints, c.if-best-ask.false)) c.level_of.ensures in
+    let is = made_is c.args.scaled.now c.args.prices.now c.args.version c.args.ask c.args.person c.in-Some.best
+    c.level_of.result c.in-Some.ensures.best (grind (arith, ints, c.if-best-ask.false)) c.level_of.ensures in
     (refl, refl, refl, simp to_z-of_z is)
 
 pub returns-clause-sound : goal.returns-clause-sound
 returns-clause-sound c =
     let f : SFits w128 c.level_of.result = search rules in
-    let is = made_is c.args.scaled.now c.args.prices.now c.args.version c.args.ask c.args.person c.in-Some.best c.level_of.result c.in-Some.ensures.best (grind (arith, ints, c.if-best-ask.false)) c.level_of.ensures in
+    let is = made_is c.args.scaled.now c.args.prices.now c.args.version c.args.ask c.args.person c.in-Some.best
+    c.level_of.result c.in-Some.ensures.best (grind (arith, ints, c.if-best-ask.false)) c.level_of.ensures in
     simp to_z-of_z (bid_sound c.args.scaled.now c.args.prices.now c.args.ask _ is)

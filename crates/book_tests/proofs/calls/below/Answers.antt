@@ -9,10 +9,14 @@ use Rattle.book_tests.proofs.calls.below.Goals as goal
 pub refute-requires-clause-alone : goal.refute-requires-clause-alone
 refute-requires-clause-alone c = λ j h.
     let b = c.args.book.now in
-    unowned (length b.base.problem) b.owners b.queue b.claims c.args.worker c.in-Some.person j c.invariant.ensures.placed_once (sym c.in-Some.ensures.claim) (ap (λ o. owner_of o j) (sym c.owners.ensures.owners) ∙ h)
+    unowned (length b.base.problem) b.owners b.queue b.claims c.args.worker c.in-Some.person j
+    c.invariant.ensures.placed_once (sym c.in-Some.ensures.claim)
+    (ap (λ o. owner_of o j) (sym c.owners.ensures.owners) ∙ h)
 
 pub refute-requires-clause-person : goal.refute-requires-clause-person
 refute-requires-clause-person c =
     let b = c.args.book.now in
     let problem = ap (λ (s : ScaledProblem). s.problem) (c.deref.ensures ∙ c.scaled.ensures.scaled) in
-    subst (λ (rows : List Listing). IsNumber (length rows) c.in-Some.person) (sym problem) (held_person (length b.base.problem) b.owners b.queue b.claims c.args.worker c.in-Some.person c.invariant.ensures.placed_once (sym c.in-Some.ensures.claim))
+    subst (λ (rows : List Listing). IsNumber (length rows) c.in-Some.person) (sym problem)
+    (held_person (length b.base.problem) b.owners b.queue b.claims c.args.worker c.in-Some.person
+    c.invariant.ensures.placed_once (sym c.in-Some.ensures.claim))

@@ -18,7 +18,11 @@ invariant_of-trial-2 c =
     let log = c.invariant.ensures.log_ascends in
     record {
       below = All-set (λ (d : Desk). IsBelow d.table (prices_of new)) desks at c.call_by.new.desk c.call_by.ensures.below
-          (All-weaker (λ (d : Desk). IsBelow d.table (prices_of b)) (λ (d : Desk). IsBelow d.table (prices_of new)) (λ d h. below_through d.table (prices_of b) (prices_of new) h on.below) desks c.args.trial.now.below);
+          (All-weaker (λ (d : Desk). IsBelow d.table (prices_of b)) (λ (d : Desk). IsBelow d.table (prices_of new))
+          (λ d h. below_through d.table (prices_of b) (prices_of new) h on.below) desks c.args.trial.now.below);
       earlier = All-set (λ (d : Desk). IsEarlier new.log d.table d.version) desks at c.call_by.new.desk c.call_by.ensures.earlier
-          (All-weaker (λ (d : Desk). IsEarlier b.log d.table d.version) (λ (d : Desk). IsEarlier new.log d.table d.version) (λ d h. earlier_stays b.log new.log d.table d.version log on.log on.below h) desks c.args.trial.now.earlier);
+          (All-weaker (λ (d : Desk). IsEarlier b.log d.table d.version)
+          (λ (d : Desk). IsEarlier new.log d.table d.version)
+          (λ d h. earlier_stays b.log new.log d.table d.version log on.log on.below h)
+          desks c.args.trial.now.earlier);
     }

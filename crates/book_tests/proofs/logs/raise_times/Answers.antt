@@ -5,4 +5,5 @@ pub loop-init : goal.loop-init
 loop-init c = goes_on_itself c.args.log.now c.prices-log.ensures.log
 
 pub loop-preserved : goal.loop-preserved
-loop-preserved c = goes_on_through c.args.log.now c.loop.log c.raise_by_one.new.log c.loop.invariant c.in_ok-raise_by_one.ensures.continues c.in_ok-raise_by_one.ensures.below c.in_ok-raise_by_one.ensures.log
+loop-preserved c = goes_on_through c.args.log.now c.loop.log c.raise_by_one.new.log c.loop.invariant
+    c.in_ok-raise_by_one.ensures.continues c.in_ok-raise_by_one.ensures.below c.in_ok-raise_by_one.ensures.log

@@ -6,7 +6,8 @@ use Rattle.command_line.proofs.words.chosen_method.Goals as goal
 
 pub returns-in-Some : goal.returns-in-Some
 returns-in-Some c =
-    method_told (rows_of (found_of c.args.solve.now)) c.in-Some.name.now c.named_method.result (c.in-Some.ensures ∙ first_value-rows (found_of c.args.solve.now) (codes "method")) c.named_method.ensures
+    method_told (rows_of (found_of c.args.solve.now)) c.in-Some.name.now c.named_method.result (c.in-Some.ensures ∙
+    first_value-rows (found_of c.args.solve.now) (codes "method")) c.named_method.ensures
 
 pub returns-in-None : goal.returns-in-None
 returns-in-None c = method_untold (rows_of (found_of c.args.solve.now)) (c.in-None.ensures ∙ first_value-rows (found_of c.args.solve.now) (codes "method"))

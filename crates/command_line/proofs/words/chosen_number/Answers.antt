@@ -17,6 +17,7 @@ returns c = λ least most n. record {
   digits = n.1.digits;
   told = n.1.told;
   in_range = n.1.in_range;
-  value = same_Some _ _ (number_read _ (λ bs r. ParsesUnsigned 64 10 bs r × ExplainsUnsignedError 10 bs r × HasUnsignedDigitsIfOk bs r) n.1.digits (Some c.in-Some.number) _ _
+  value = same_Some _ _ (number_read _ (λ bs r. ParsesUnsigned 64 10 bs r × ExplainsUnsignedError 10 bs r ×
+      HasUnsignedDigitsIfOk bs r) n.1.digits (Some c.in-Some.number) _ _
       (c.in-Some.ensures.value n.1.digits (one_text-rows (found_of c.args.solve.now) c.args.name.now ∙ n.1.told)) (λ u x g. g.0) n.1.in_range);
 }

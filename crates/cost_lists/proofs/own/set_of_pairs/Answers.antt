@@ -29,7 +29,8 @@ loop-k-preserved c =
           let number = c.requires.persons k 0 c.loop-k-test.true in
           let room : place < length c.loop-k.own = let some = number.first in let last = number.last in let long = c.loop-k.auto.own in omega arith in
           subst (AreOwnSoFar c.args.sense p.persons.now p.objects.now p.costs.now c.args.objects.now (k + 1)) (sym (w.own-is ∙ lowered))
-          (own_take c.args.sense p.persons.now p.objects.now p.costs.now c.args.objects.now k c.loop-k.own (int_min (get_or c.loop-k.own place (pos 0)) w.to_minimise.result) room w.if-pairs-k.true
+          (own_take c.args.sense p.persons.now p.objects.now p.costs.now c.args.objects.now k c.loop-k.own
+          (int_min (get_or c.loop-k.own place (pos 0)) w.to_minimise.result) room w.if-pairs-k.true
           (ap (int_min (get_or c.loop-k.own place (pos 0))) turned) c.loop-k.invariant)
       | else-pairs-k w ↦
           subst (AreOwnSoFar c.args.sense p.persons.now p.objects.now p.costs.now c.args.objects.now (k + 1)) (sym w.own-is)
@@ -42,5 +43,6 @@ returns c =
     let end = c.loop-k-test.false in
     let most = c.loop-k.auto.k-end in
     let whole : c.loop-k.k ≡ length p.persons.now = omega arith in
-    own_given c.args.sense (length c.args.own.now) p.persons.now p.objects.now p.costs.now c.args.objects.now c.loop-k.own c.requires.objects_long c.requires.costs_long c.requires.persons c.requires.costs
+    own_given c.args.sense (length c.args.own.now) p.persons.now p.objects.now p.costs.now c.args.objects.now
+    c.loop-k.own c.requires.objects_long c.requires.costs_long c.requires.persons c.requires.costs
     (subst (λ k. AreOwnSoFar c.args.sense p.persons.now p.objects.now p.costs.now c.args.objects.now k c.loop-k.own) whole c.loop-k.invariant)

@@ -6,4 +6,5 @@ use Rattle.cost_lists.proofs.own.set_of_rows.Given as goal
 
 abbrev pub invariant-loop-i : goal.invariant-loop-i
 invariant-loop-i l =
-    (k : ℕ) → k < l.i → slice_index_or l.own k (pos 0) ≡ turned_or_unlisted l.sense (listed_in (row_of (rows_cut l.m (length l.initial.own) l.costs) (k + 1)) (slice_index l.objects k))
+    (k : ℕ) → k < l.i → slice_index_or l.own k (pos 0) ≡ turned_or_unlisted l.sense
+    (listed_in (row_of (rows_cut l.m (length l.initial.own) l.costs) (k + 1)) (slice_index l.objects k))

@@ -27,7 +27,10 @@ returns-in-Listed c =
     let rows = rows_given c.args.sense (triples_in p) m 1 n in
     let long = c.set_of_pairs.auto.own ∙ sym (length-rows_given c.args.sense (triples_in p) m 1 n) in
     let are : ArePairs n m p = subst (IsSource n m) c.in-Listed.is c.requires.given.costs in
-    let among : All (IsTripleAmong n m) (triples_in p) = triples_among p.persons.now p.objects.now p.costs.now are.objects_long are.costs_long n m are.persons_in are.objects_in are.costs_in in
+    let among : All (IsTripleAmong n m) (triples_in p) =
+    triples_among p.persons.now p.objects.now p.costs.now are.objects_long are.costs_long n m are.persons_in
+    are.objects_in are.costs_in in
     subst (λ s. AreOwnCosts c.args.sense (rows_in c.args.sense n m s) c.args.objects.now c.set_of_pairs.new.own) (sym c.in-Listed.is)
     (own_numbered c.args.sense rows c.args.objects.now c.set_of_pairs.new.own long
-    (λ i lt. c.set_of_pairs.ensures i lt ∙ ap (turned_or_unlisted c.args.sense) (sym (rows_list c.args.sense (triples_in p) n m among (i + 1) (get_or c.args.objects.now i 0)))))
+    (λ i lt. c.set_of_pairs.ensures i lt ∙ ap (turned_or_unlisted c.args.sense)
+    (sym (rows_list c.args.sense (triples_in p) n m among (i + 1) (get_or c.args.objects.now i 0)))))

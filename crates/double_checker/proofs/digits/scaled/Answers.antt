@@ -1,4 +1,4 @@
-use Rattle.std.proofs.Common.{◌≡◌, ℕ, ℤ, pos, ◌-ℤ◌, ◌<◌, arith, SFits}
+use Rattle.std.proofs.Common.{pos, ◌-ℤ◌, ◌<◌, arith, SFits}
 use Rattle.std.specs.Int.{w128}
 use Rattle.std.proofs.lemmas.Int.{ints, to_z-of_z}
 use Rattle.double_checker.proofs.Scales.{positive_scaled, negative_scaled}
@@ -19,4 +19,5 @@ returns-else-d-clause-value c =
     let below = c.shifted-size.ensures.below in
     let some : 0 < c.args.d.digits = (let h = c.if-d-eq0.false in omega arith) in
     let f : SFits w128 c.shifted-size.result = omega (arith, ints) in
-    simp to_z-of_z (positive_scaled c.args.d c.args.low c.shifted-size.result (c.requires.least some) value c.if-d.false)
+    simp to_z-of_z (positive_scaled c.args.d c.args.low c.shifted-size.result (c.requires.least some) value
+    c.if-d.false)

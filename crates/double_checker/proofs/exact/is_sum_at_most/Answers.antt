@@ -1,4 +1,4 @@
-use Rattle.std.proofs.Common.{◌≡◌, ℕ, ℤ, pos, neg_ℤ, ◌+ℤ◌, ◌≤ℤ◌, ◌<ℤ◌, ◌↔◌, ◌^◌, refl, IsTrue, Bool, true, false, T, arith, SFits}
+use Rattle.std.proofs.Common.{ℤ, ◌+ℤ◌, ◌≤ℤ◌, ◌↔◌, ◌^◌, refl, IsTrue, Bool, true, false, T, arith, SFits}
 use Rattle.std.specs.Int.{w128}
 use Rattle.std.proofs.lemmas.Int.{ints, to_z-of_z}
 use Rattle.std.proofs.lemmas.Float.{T_from_true}
@@ -32,5 +32,7 @@ returns c =
     let fs : SFits w128 (c.scaled.result +ℤ c.scaled-2.result) = omega (arith, ints, a0, a1, b0, b1) in
     let ft : SFits w128 (c.scaled-3.result +ℤ c.scaled-4.result) = omega (arith, ints, x0, x1, y0, y1) in
     let t = tested (c.scaled.result +ℤ c.scaled-2.result) (c.scaled-3.result +ℤ c.scaled-4.result) in
-    let s = sums_scaled (2 ^ c.args.low) c.scaled.result c.scaled-2.result c.scaled-3.result c.scaled-4.result (units_by c.args.a) (units_by c.args.b) (units_by c.args.c) (units_by c.args.d) (pow_pos c.args.low) a.value b.value x.value y.value in
+    let s = sums_scaled (2 ^ c.args.low) c.scaled.result c.scaled-2.result c.scaled-3.result c.scaled-4.result
+    (units_by c.args.a) (units_by c.args.b) (units_by c.args.c) (units_by c.args.d) (pow_pos c.args.low)
+    a.value b.value x.value y.value in
     simp to_z-of_z ((λ h. s.0 (t.0 h)), (λ h. t.1 (s.1 h)))

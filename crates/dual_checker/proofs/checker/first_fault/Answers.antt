@@ -13,4 +13,5 @@ pub first_given_twice-requires-clause-within : goal.first_given_twice-requires-c
 first_given_twice-requires-clause-within c =
     let rows = c.args.problem.now in
     let long = ap length c.requires.counts ∙ length-replicate (length rows) 0 in
-    subst (λ k. All (IsNumber k) c.args.objects.now) (sym long) (given_within (length rows) rows c.args.objects.now c.n-n.ensures.problem.each c.in_default.ensures)
+    subst (λ k. All (IsNumber k) c.args.objects.now) (sym long) (given_within (length rows) rows c.args.objects.now
+    c.n-n.ensures.problem.each c.in_default.ensures)

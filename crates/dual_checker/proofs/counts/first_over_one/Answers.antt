@@ -10,7 +10,8 @@ loop-i-init c = λ k h. absurd (omega arith)
 pub returns-then-count-gt1 : goal.returns-then-count-gt1
 returns-then-count-gt1 c =
     let counts = c.args.counts.now in
-    first_at (λ k. 1 < numbered counts k 0) _ c.loop-i.i c.loop-i-test.true (λ k h f. let few = c.loop-i.invariant k h in omega arith) (rw (numbered-next counts c.loop-i.i 0) c.if-count-gt1.true)
+    first_at (λ k. 1 < numbered counts k 0) _ c.loop-i.i c.loop-i-test.true (λ k h f. let few =
+    c.loop-i.invariant k h in omega arith) (rw (numbered-next counts c.loop-i.i 0) c.if-count-gt1.true)
 
 pub loop-i-preserved : goal.loop-i-preserved
 loop-i-preserved c =

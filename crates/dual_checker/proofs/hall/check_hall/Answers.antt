@@ -17,4 +17,5 @@ pub returns-clause-none : goal.returns-clause-none
 returns-clause-none c = λ e xs a.
     let m = (length c.args.problem.now) in
     let rows = c.args.problem.now in
-    no_assignment rows c.args.persons.now c.args.objects.now xs (subst (IsHallVerdict m rows c.args.persons.now c.args.objects.now) e c.first_hall_fault.ensures) a
+    no_assignment rows c.args.persons.now c.args.objects.now xs
+    (subst (IsHallVerdict m rows c.args.persons.now c.args.objects.now) e c.first_hall_fault.ensures) a

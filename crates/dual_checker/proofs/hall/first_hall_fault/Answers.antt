@@ -25,7 +25,9 @@ returns-in-Some-first_unmarked c =
       range,
       c.are_rising.ensures.0 c.if-not-are_rising.false,
       told_neighbours rows persons objects m c.args.named.now c.mark_objects.new.marks c.requires.named c.mark_objects.ensures c.in_default.ensures,
-      told_extra rows persons objects m c.args.listed.now c.mark_listed.new.marks c.requires.listed c.mark_listed.ensures m (length c.mark_listed.new.marks) c.in-Some-first_unmarked.object range.1 c.in-Some-first_unmarked.ensures,
+      told_extra rows persons objects m c.args.listed.now c.mark_listed.new.marks c.requires.listed
+          c.mark_listed.ensures m (length c.mark_listed.new.marks) c.in-Some-first_unmarked.object range.1
+          c.in-Some-first_unmarked.ensures,
     )
 
 pub returns-then-objects-persons : goal.returns-then-objects-persons
@@ -34,10 +36,12 @@ returns-then-objects-persons c =
     let persons = c.args.persons.now in
     let objects = c.args.objects.now in
     let m = (length c.args.problem.now) in
-    let near = told_neighbours rows persons objects m c.args.named.now c.mark_objects.new.marks c.requires.named c.mark_objects.ensures c.in_default.ensures in (
+    let near = told_neighbours rows persons objects m c.args.named.now c.mark_objects.new.marks c.requires.named
+    c.mark_objects.ensures c.in_default.ensures in (
       c.are_in_range.ensures.0 c.if-not-are_in_range.false,
       c.are_rising.ensures.0 c.if-not-are_rising.false,
-      told_equal rows persons objects m c.args.listed.now c.mark_listed.new.marks c.requires.listed c.mark_listed.ensures c.in_default-first_unmarked.ensures near,
+      told_equal rows persons objects m c.args.listed.now c.mark_listed.new.marks c.requires.listed
+          c.mark_listed.ensures c.in_default-first_unmarked.ensures near,
       c.if-objects-persons.true,
     )
 
@@ -54,6 +58,7 @@ returns c =
       persons_rise = rise.0;
       objects_rise = rise.1;
       within = range.0;
-      neighbours = told_equal rows persons objects m c.args.listed.now c.mark_listed.new.marks c.requires.listed c.mark_listed.ensures c.in_default-first_unmarked.ensures near;
+      neighbours = told_equal rows persons objects m c.args.listed.now c.mark_listed.new.marks c.requires.listed
+          c.mark_listed.ensures c.in_default-first_unmarked.ensures near;
       fewer = c.if-objects-persons.false;
     }

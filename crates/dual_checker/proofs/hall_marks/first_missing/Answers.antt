@@ -9,8 +9,10 @@ pub returns-in-Some : goal.returns-in-Some
 returns-in-Some c =
     let rows = c.args.problem.now in
     let object = c.in-Some.ensures in (
-      first_named (λ i. (j : ℕ) × ListsUnnamed rows (IsMarked c.args.named.now) i j) c.args.persons.now (length rows) c.loop-person.person-index c.person-item.result
-          c.requires.rise c.requires.persons c.loop-person-test.true c.person-item.is (λ k low g. g.1.1 (c.loop-person.invariant k g.0 low g.1.0)) (c.in-Some.object, object.here),
+      first_named (λ i. (j : ℕ) × ListsUnnamed rows (IsMarked c.args.named.now) i j) c.args.persons.now
+          (length rows) c.loop-person.person-index c.person-item.result
+          c.requires.rise c.requires.persons c.loop-person-test.true c.person-item.is
+          (λ k low g. g.1.1 (c.loop-person.invariant k g.0 low g.1.0)) (c.in-Some.object, object.here),
       object,
     )
 

@@ -24,4 +24,5 @@ returns c =
     let row = c.row-row.result.now in
     let rising = c.row-row.ensures.rule.rising in
     subst (λ q. AddsMarks c.args.marks.now (λ j. IsSome (listed_in q j)) c.loop-i.marks) c.row-row.ensures.row
-    (adds_same _ (λ j. IsSome (listed_in row j)) c.args.marks.now c.loop-i.marks (λ j. row_places row c.loop-i.i j rising (omega (arith, c.loop-i-test.false))) c.loop-i.invariant)
+    (adds_same _ (λ j. IsSome (listed_in row j)) c.args.marks.now c.loop-i.marks
+    (λ j. row_places row c.loop-i.i j rising (omega (arith, c.loop-i-test.false))) c.loop-i.invariant)

@@ -31,4 +31,5 @@ loop-i-preserved c =
     one_more (λ k. IsPrice (price_of prices k)) c.loop-i.i c.loop-i.invariant (rw price here)
 
 pub returns : goal.returns
-returns c = All-from_numbers IsPrice c.args.prices.now (pos 0) (λ i some last. c.loop-i.invariant i (record { first = some; last = omega (arith, c.loop-i-test.false) }))
+returns c = All-from_numbers IsPrice c.args.prices.now (pos 0) (λ i some last. c.loop-i.invariant i
+    (record { first = some; last = omega (arith, c.loop-i-test.false) }))

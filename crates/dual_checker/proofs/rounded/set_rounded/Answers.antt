@@ -14,8 +14,13 @@ loop-i-preserved c =
     let r : SFits w64 c.round_down.result = search rules in
     let p : SFits w128 (get_or prices i (pos 0)) = search rules in
     let below = simp to_z-of_z at c.round_down.ensures.below in
-    simp to_z-of_z (one_rounded (length prices) c.loop-i.rounded prices i c.round_down.result (omega (arith, c.loop-i.auto.rounded, c.requires.long, c.loop-i-test.true)) c.loop-i.invariant
+    simp to_z-of_z (one_rounded (length prices) c.loop-i.rounded prices i c.round_down.result
+    (omega (arith, c.loop-i.auto.rounded, c.requires.long, c.loop-i-test.true)) c.loop-i.invariant
     (record { range = c.round_down.ensures.range; below = below }))
 
 pub returns : goal.returns
-returns c = rounded_from c.loop-i.rounded c.args.prices.now c.loop-i.i (omega (arith, c.loop-i.auto.rounded, c.requires.long)) c.loop-i-test.false c.loop-i.invariant
+returns c = rounded_from c.loop-i.rounded c.args.prices.now c.loop-i.i (omega (
+  arith,
+  c.loop-i.auto.rounded,
+  c.requires.long,
+)) c.loop-i-test.false c.loop-i.invariant

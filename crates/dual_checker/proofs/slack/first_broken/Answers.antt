@@ -20,7 +20,9 @@ returns-then-worth-own_worth c =
     let price = c.price_at.ensures.value in
     let over = simp to_z-of_z at c.if-worth-own_worth.true in
     let inv = simp to_z-of_z at c.loop-i.invariant in
-    first_break c.args.sense _ c.args.prices.now c.args.row.now c.args.own c.loop-i.i c.args.own_worth c.index-row-i.result c.requires.row (omega (arith, c.loop-i-test.true)) c.index-row-i.is c.requires.own inv (grind (arith, ints, over, value, price))
+    first_break c.args.sense _ c.args.prices.now c.args.row.now c.args.own c.loop-i.i c.args.own_worth
+    c.index-row-i.result c.requires.row (omega (arith, c.loop-i-test.true)) c.index-row-i.is c.requires.own inv
+    (grind (arith, ints, over, value, price))
 
 pub loop-i-preserved : goal.loop-i-preserved
 loop-i-preserved c =
@@ -44,4 +46,5 @@ pub returns : goal.returns
 returns c =
     let g = c.ranges.own_worth in
     let inv = simp to_z-of_z at c.loop-i.invariant in
-    slack_from c.args.sense _ c.args.prices.now c.args.row.now c.args.own c.args.own_worth c.requires.own (λ k d lt. inv k d (omega (arith, c.loop-i-test.false)))
+    slack_from c.args.sense _ c.args.prices.now c.args.row.now c.args.own c.args.own_worth c.requires.own
+    (λ k d lt. inv k d (omega (arith, c.loop-i-test.false)))

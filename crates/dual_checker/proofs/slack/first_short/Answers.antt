@@ -18,7 +18,9 @@ loop-i-init c = λ k h. absurd (omega arith)
 pub first_of_row-requires-clause-number : goal.first_of_row-requires-clause-number
 first_of_row-requires-clause-number c =
     subst (λ m. IsNumber m c.index-objects-i.result) (sym c.requires.priced)
-    (own_within (length c.args.problem.now) c.args.problem.now c.args.objects.now c.loop-i.i c.index-objects-i.result c.requires.long c.n-persons.ensures.problem.each c.requires.listed c.loop-i-test.true c.index-objects-i.is)
+    (own_within (length c.args.problem.now) c.args.problem.now c.args.objects.now c.loop-i.i
+    c.index-objects-i.result c.requires.long c.n-persons.ensures.problem.each c.requires.listed
+    c.loop-i-test.true c.index-objects-i.is)
 
 pub returns-in-Some : goal.returns-in-Some
 returns-in-Some c =
@@ -29,10 +31,13 @@ returns-in-Some c =
     let rows = c.args.problem.now in
     let other = c.in-Some.other in
     let object = c.index-objects-i.is ∙ get_or_default xs i c.index-objects-i.result 0 c.loop-i-test.true ∙ sym (numbered-next xs i 0) in
-    let broken = by_number (λ r j. IsFirst (BreaksSlack (pos 1) prices r j) m other) c.args.sense m rows xs c.row-row.result.now (i + 1) c.index-objects-i.result c.row-row.ensures.row object c.in-Some.ensures in
+    let broken = by_number (λ r j. IsFirst (BreaksSlack (pos 1) prices r j) m other) c.args.sense m rows xs
+    c.row-row.result.now (i + 1) c.index-objects-i.result c.row-row.ensures.row object c.in-Some.ensures in
     let among = subst (λ k. IsFirst (BreaksSlackOf c.args.sense k rows xs prices (i + 1)) k other) c.requires.priced broken in (
       first_at (IsShort c.args.sense (length c.args.problem.now) rows xs prices) _ i (omega (arith, c.requires.long, c.loop-i-test.true))
-          (λ k h s. slack_unbroken (pos 1) prices (row_of (map (benefit_row c.args.sense (length c.args.problem.now)) rows) k) (own_object xs k) s.0 (c.loop-i.invariant k h) s.1) (other, among.here),
+          (λ k h s. slack_unbroken (pos 1) prices
+          (row_of (map (benefit_row c.args.sense (length c.args.problem.now)) rows) k) (own_object xs k) s.0
+          (c.loop-i.invariant k h) s.1) (other, among.here),
       among,
     )
 
@@ -44,9 +49,11 @@ loop-i-preserved c =
     let i = c.loop-i.i in
     let rows = c.args.problem.now in
     let object = c.index-objects-i.is ∙ get_or_default xs i c.index-objects-i.result 0 c.loop-i-test.true ∙ sym (numbered-next xs i 0) in
-    let here = by_number (λ r j. HasSlack (pos 1) prices r j) c.args.sense m rows xs c.row-row.result.now (i + 1) c.index-objects-i.result c.row-row.ensures.row object c.in_default.ensures in
+    let here = by_number (λ r j. HasSlack (pos 1) prices r j) c.args.sense m rows xs c.row-row.result.now (i + 1)
+    c.index-objects-i.result c.row-row.ensures.row object c.in_default.ensures in
     let among = subst (λ k. HasSlack (pos 1) prices (row_of (map (benefit_row c.args.sense k) rows) (i + 1)) (own_object xs (i + 1))) c.requires.priced here in
-    one_more (λ k. HasSlack (pos 1) prices (row_of (map (benefit_row c.args.sense (length c.args.problem.now)) rows) k) (own_object xs k)) i c.loop-i.invariant among
+    one_more (λ k. HasSlack (pos 1) prices (row_of (map (benefit_row c.args.sense (length c.args.problem.now)) rows)
+    k) (own_object xs k)) i c.loop-i.invariant among
 
 pub returns : goal.returns
 returns c =

@@ -27,7 +27,8 @@ loop-object-preserved c =
     let under = simp to_z-of_z at c.min-least.ensures.other_bound in
     let of : ℕ × ℤ → ℤ = λ e. minimised c.args.sense e.1 +ℤ price_of rounded e.0 in
     let whole : c.sum_of.result ≡ of entry = sum ∙ ap (λ f. minimised c.args.sense entry.1 +ℤ f) place in
-    let all = λ (k : ℕ) (e : ℕ × ℤ) (lt : k < i + 1). least_more (λ n. of (get_or c.args.pairs.now n e)) i _ c.min-least.result c.sum_of.result (λ n below. c.loop-object.invariant n e below) low under
+    let all = λ (k : ℕ) (e : ℕ × ℤ) (lt : k < i + 1). least_more (λ n. of (get_or c.args.pairs.now n e))
+    i _ c.min-least.result c.sum_of.result (λ n below. c.loop-object.invariant n e below) low under
     (whole ∙ ap of (c.loop-object-item.is ∙ get_or_default c.args.pairs.now i entry e c.loop-object-test.true)) k lt in
     simp to_z-of_z all
 

@@ -6,4 +6,6 @@ use Rattle.dual_checker.proofs.sums.least_sum.Given as goal
 -- no passed sum is less
 abbrev pub invariant-loop-object : goal.invariant-loop-object
 invariant-loop-object l =
-    (k : ℕ) (e : ℕ × ℤ) → k < l.object-index → l.least ≤ℤ (minimised l.sense (slice_index_or l.pairs k e).1 +ℤ price_of l.rounded (slice_index_or l.pairs k e).0)
+    (k : ℕ) (e : ℕ × ℤ) → k < l.object-index →
+    l.least ≤ℤ (minimised l.sense (slice_index_or l.pairs k e).1 +ℤ price_of l.rounded
+    (slice_index_or l.pairs k e).0)

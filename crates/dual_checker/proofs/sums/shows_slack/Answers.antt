@@ -21,7 +21,8 @@ returns c = λ t.
     let rounded = c.args.rounded.now in
     let own = c.args.own in
     let at : ℤ = get_or rounded c.place.result (pos 0) in
-    let read : at ≡ price_of rounded own = at_place rounded own c.place.result (pos 0) (subst (λ k. IsNumber k own) (sym c.requires.rounded.long) c.requires.number) c.place.ensures in
+    let read : at ≡ price_of rounded own = at_place rounded own c.place.result (pos 0) (subst (λ k. IsNumber k own)
+    (sym c.requires.rounded.long) c.requires.number) c.place.ensures in
     let fits_cost = c.ranges.cost in
     let fits_rounded : SFits w64 at = search rules in
     let fits_sum : SFits w64 c.sum_of.result = search rules in
@@ -35,9 +36,12 @@ returns c = λ t.
     let price = c.price_at.ensures.value in
     let upto = simp to_z-of_z at c.if-price_at-as_price.false in
     let near : price_of prices own ≤ℤ ((pos (length prices + 1) *ℤ price_of rounded own) +ℤ pos 1) =
-    subst (λ w. price_of prices own ≤ℤ (w +ℤ pos 1)) whole (subst (λ p. p ≤ℤ (c.as_price.result +ℤ pos 1)) price (from_no_test (c.as_price.result +ℤ pos 1) c.price_at.result upto)) in
+    subst (λ w. price_of prices own ≤ℤ (w +ℤ pos 1)) whole (subst (λ p. p ≤ℤ (c.as_price.result +ℤ pos 1)) price
+    (from_no_test (c.as_price.result +ℤ pos 1) c.price_at.result upto)) in
     let sum = simp to_z-of_z at c.sum_of.ensures in
     let total : c.sum_of.result ≡ minimised c.args.sense c.args.cost +ℤ price_of rounded own = sum ∙ ap (λ f. minimised c.args.sense c.args.cost +ℤ f) read in
     let test = simp to_z-of_z at t in
-    let under : (minimised c.args.sense c.args.cost +ℤ price_of rounded own) ≤ℤ c.least_sum.result = subst (λ z. z ≤ℤ c.least_sum.result) total (from_test c.sum_of.result c.least_sum.result test) in
-    slack_by_sums c.args.sense rounded prices c.args.row.now own c.args.cost c.least_sum.result c.requires.rounded c.requires.row c.requires.cost near c.least_sum.ensures under
+    let under : (minimised c.args.sense c.args.cost +ℤ price_of rounded own) ≤ℤ c.least_sum.result =
+    subst (λ z. z ≤ℤ c.least_sum.result) total (from_test c.sum_of.result c.least_sum.result test) in
+    slack_by_sums c.args.sense rounded prices c.args.row.now own c.args.cost c.least_sum.result c.requires.rounded
+    c.requires.row c.requires.cost near c.least_sum.ensures under

@@ -22,7 +22,8 @@ first_given_twice-requires-clause-within c =
     let xs = c.args.objects.now in
     let listed = c.in_default.ensures l xs c.persons-persons.ensures.rule c.requires.long.objects c.requires.own in
     let long = ap length c.requires.counts ∙ length-replicate l.m 0 in
-    subst (λ k. All (IsNumber k) xs) (sym long) (All-from_recursion (IsNumber l.m) xs (objects_within l.m l.rows xs c.persons-persons.ensures.rule.within listed))
+    subst (λ k. All (IsNumber k) xs) (sym long) (All-from_recursion (IsNumber l.m) xs
+    (objects_within l.m l.rows xs c.persons-persons.ensures.rule.within listed))
 
 pub add_prices-requires-clause-costs : goal.add_prices-requires-clause-costs
 add_prices-requires-clause-costs c =
@@ -36,7 +37,8 @@ add_prices-requires-clause-within c =
     let l = c.args.lists.now in
     let xs = c.args.objects.now in
     let listed = c.in_default.ensures l xs c.persons-persons.ensures.rule c.requires.long.objects c.requires.own in
-    subst (λ k. All (IsNumber k) xs) (sym c.requires.long.prices_too) (All-from_recursion (IsNumber l.m) xs (objects_within l.m l.rows xs c.persons-persons.ensures.rule.within listed))
+    subst (λ k. All (IsNumber k) xs) (sym c.requires.long.prices_too) (All-from_recursion (IsNumber l.m) xs
+    (objects_within l.m l.rows xs c.persons-persons.ensures.rule.within listed))
 
 pub returns-in-Some-first_under_value : goal.returns-in-Some-first_under_value
 returns-in-Some-first_under_value c =
@@ -44,9 +46,18 @@ returns-in-Some-first_under_value c =
     let xs = c.args.objects.now in
     let prices = c.args.prices.now in
     let listed = c.in_default.ensures l xs c.persons-persons.ensures.rule c.requires.long.objects c.requires.own in
-    let values = values_are l xs prices c.args.own.now c.add_prices.new.own c.requires.own listed c.add_prices.auto.own c.requires.long.objects c.add_prices.ensures in
+    let values = values_are l xs prices c.args.own.now c.add_prices.new.own c.requires.own listed
+    c.add_prices.auto.own c.requires.long.objects c.add_prices.ensures in
     let found = c.in-Some-first_under_value.ensures in (
-      record { long = c.requires.long; assigned = record { listed = listed; apart = c.in_default-first_given_twice.ensures.first }; in_range = c.in_default-first_out_of_range.ensures },
+      record {
+        long = c.requires.long;
+        assigned = record {
+          listed = listed;
+          apart =
+              c.in_default-first_given_twice.ensures.first;
+        };
+        in_range = c.in_default-first_out_of_range.ensures;
+      },
       short_first l xs prices c.add_prices.new.own values c.in-Some-first_under_value.person found.0,
       better_first l xs prices c.add_prices.new.own values c.in-Some-first_under_value.person c.in-Some-first_under_value.object found.1,
     )
@@ -57,9 +68,18 @@ returns-in-Some-first_priced_unowned c =
     let xs = c.args.objects.now in
     let prices = c.args.prices.now in
     let listed = c.in_default.ensures l xs c.persons-persons.ensures.rule c.requires.long.objects c.requires.own in
-    let values = values_are l xs prices c.args.own.now c.add_prices.new.own c.requires.own listed c.add_prices.auto.own c.requires.long.objects c.add_prices.ensures in
+    let values = values_are l xs prices c.args.own.now c.add_prices.new.own c.requires.own listed
+    c.add_prices.auto.own c.requires.long.objects c.add_prices.ensures in
     let found = c.in-Some-first_priced_unowned.ensures xs c.in_default-first_given_twice.ensures.counts in (
-      record { long = c.requires.long; assigned = record { listed = listed; apart = c.in_default-first_given_twice.ensures.first }; in_range = c.in_default-first_out_of_range.ensures },
+      record {
+        long = c.requires.long;
+        assigned = record {
+          listed = listed;
+          apart =
+              c.in_default-first_given_twice.ensures.first;
+        };
+        in_range = c.in_default-first_out_of_range.ensures;
+      },
       choices_from l xs prices c.add_prices.new.own values c.requires.long.objects c.in_default-first_under_value.ensures,
       subst (λ m. IsFirst (IsPricedUnowned xs prices) m c.in-Some-first_priced_unowned.object) c.requires.long.prices_too found,
     )
@@ -70,7 +90,8 @@ returns c =
     let xs = c.args.objects.now in
     let prices = c.args.prices.now in
     let listed = c.in_default.ensures l xs c.persons-persons.ensures.rule c.requires.long.objects c.requires.own in
-    let values = values_are l xs prices c.args.own.now c.add_prices.new.own c.requires.own listed c.add_prices.auto.own c.requires.long.objects c.add_prices.ensures in
+    let values = values_are l xs prices c.args.own.now c.add_prices.new.own c.requires.own listed
+    c.add_prices.auto.own c.requires.long.objects c.add_prices.ensures in
     let free = c.in_default-first_priced_unowned.ensures xs c.in_default-first_given_twice.ensures.counts in
     record {
       assigned = record { listed = listed; apart = c.in_default-first_given_twice.ensures.first };

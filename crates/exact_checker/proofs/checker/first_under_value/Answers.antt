@@ -11,8 +11,10 @@ returns-in-Dense c =
     let costs = c.in-Dense.costs.now in
     let prices = c.args.prices.now in
     let values = c.args.values.now in
-    let rows = ap (λ n. rows_cut (length prices) n costs) c.requires.persons ∙ ap (λ m. rows_cut m (length l.rows) costs) c.requires.objects ∙ c.in-Dense.ensures.rows in
-    under_shown c.sense.result l.sense (rows_cut (length prices) (length values) costs) l.rows (length values) (length l.rows) (length prices) l.m prices values c.first_of_rows.result
+    let rows = ap (λ n. rows_cut (length prices) n costs) c.requires.persons ∙
+    ap (λ m. rows_cut m (length l.rows) costs) c.requires.objects ∙ c.in-Dense.ensures.rows in
+    under_shown c.sense.result l.sense (rows_cut (length prices) (length values) costs) l.rows (length values)
+    (length l.rows) (length prices) l.m prices values c.first_of_rows.result
     c.sense.ensures rows c.requires.persons c.requires.objects c.first_of_rows.ensures
 
 pub returns-in-Listed : goal.returns-in-Listed
@@ -27,5 +29,6 @@ returns-in-Listed c =
     ∙ ap (λ m. rows_given sense (triples_in p) m 1 (length l.rows)) c.requires.objects
     ∙ ap (λ s. rows_given s (triples_in p) l.m 1 (length l.rows)) c.sense-in-Listed.ensures
     ∙ c.in-Listed.ensures.rows in
-    under_shown sense l.sense (rows_given sense (triples_in p) (length prices) 1 (length values)) l.rows (length values) (length l.rows) (length prices) l.m prices values c.first_of_pairs.result
+    under_shown sense l.sense (rows_given sense (triples_in p) (length prices) 1 (length values)) l.rows
+    (length values) (length l.rows) (length prices) l.m prices values c.first_of_pairs.result
     c.sense-in-Listed.ensures rows c.requires.persons c.requires.objects c.first_of_pairs.ensures

@@ -22,7 +22,8 @@ returns-in-Some-first_unmarked c =
     let objects = c.args.objects.now in (
       c.requires.rise,
       told_neighbours rows persons objects m c.args.named.now c.mark_numbers-2.new.marks c.requires.named c.mark_numbers-2.ensures c.in_default.ensures,
-      told_extra rows persons objects m c.args.listed.now c.mark_neighbours.new.listed c.requires.listed c.mark_neighbours.ensures m (length c.mark_neighbours.new.listed)
+      told_extra rows persons objects m c.args.listed.now c.mark_neighbours.new.listed c.requires.listed
+          c.mark_neighbours.ensures m (length c.mark_neighbours.new.listed)
           c.in-Some-first_unmarked.object c.requires.rise.in_range.1 c.in-Some-first_unmarked.ensures,
     )
 
@@ -32,9 +33,11 @@ returns-then-objects-persons c =
     let m = c.args.lists.now.m in
     let persons = c.args.persons.now in
     let objects = c.args.objects.now in
-    let near = told_neighbours rows persons objects m c.args.named.now c.mark_numbers-2.new.marks c.requires.named c.mark_numbers-2.ensures c.in_default.ensures in (
+    let near = told_neighbours rows persons objects m c.args.named.now c.mark_numbers-2.new.marks c.requires.named
+    c.mark_numbers-2.ensures c.in_default.ensures in (
       c.requires.rise,
-      told_equal rows persons objects m c.args.listed.now c.mark_neighbours.new.listed c.requires.listed c.mark_neighbours.ensures c.in_default-first_unmarked.ensures near,
+      told_equal rows persons objects m c.args.listed.now c.mark_neighbours.new.listed c.requires.listed
+          c.mark_neighbours.ensures c.in_default-first_unmarked.ensures near,
       c.if-objects-persons.true,
     )
 
@@ -44,11 +47,13 @@ returns c =
     let m = c.args.lists.now.m in
     let persons = c.args.persons.now in
     let objects = c.args.objects.now in
-    let near = told_neighbours rows persons objects m c.args.named.now c.mark_numbers-2.new.marks c.requires.named c.mark_numbers-2.ensures c.in_default.ensures in
+    let near = told_neighbours rows persons objects m c.args.named.now c.mark_numbers-2.new.marks c.requires.named
+    c.mark_numbers-2.ensures c.in_default.ensures in
     record {
       persons_rise = c.requires.rise.rising.0;
       objects_rise = c.requires.rise.rising.1;
       within = c.requires.rise.in_range.0;
-      neighbours = told_equal rows persons objects m c.args.listed.now c.mark_neighbours.new.listed c.requires.listed c.mark_neighbours.ensures c.in_default-first_unmarked.ensures near;
+      neighbours = told_equal rows persons objects m c.args.listed.now c.mark_neighbours.new.listed
+          c.requires.listed c.mark_neighbours.ensures c.in_default-first_unmarked.ensures near;
       fewer = c.if-objects-persons.false;
     }

@@ -23,5 +23,7 @@ returns-in-Listed c =
     let f = c.first_missing.result in
     let lists : ListJust l.rows p = subst (λ r. ListJust r p) c.in-Listed.ensures.rows (list_just l.sense n l.m p c.in-Listed.ensures.given.costs) in
     let found : IsFirstMissing n l.m p chosen named f =
-    subst (λ m. IsFirstMissing n m p chosen named f) c.requires.named (subst (λ k. IsFirstMissing k (length named) p chosen named f) c.requires.chosen.long c.first_missing.ensures) in
+    subst (λ m. IsFirstMissing n m p chosen named f) c.requires.named
+    (subst (λ k. IsFirstMissing k (length named) p chosen named f) c.requires.chosen.long
+    c.first_missing.ensures) in
     lacking_found l.rows n l.m p c.args.persons.now chosen named lists c.requires.chosen f found

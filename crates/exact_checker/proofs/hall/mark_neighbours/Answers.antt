@@ -21,4 +21,5 @@ returns-in-Listed c =
     let n : ℕ = length l.rows in
     let p = c.in-Listed.pairs in
     let lists : ListJust l.rows p = subst (λ r. ListJust r p) c.in-Listed.ensures.rows (list_just l.sense n l.m p c.in-Listed.ensures.given.costs) in
-    neighbours_added l.rows n l.m p c.args.persons.now c.args.chosen.now c.args.listed.now lists c.requires.chosen c.args.listed.now c.mark_listed.new.listed c.mark_listed.ensures
+    neighbours_added l.rows n l.m p c.args.persons.now c.args.chosen.now c.args.listed.now lists c.requires.chosen
+    c.args.listed.now c.mark_listed.new.listed c.mark_listed.ensures

@@ -40,7 +40,8 @@ returns c =
     let end = c.loop-k-test.false in
     let most = c.loop-k.auto.k-end in
     let whole : c.loop-k.k ≡ length p.persons.now = omega arith in
-    let last : IsFirstSoFar p.persons.now p.objects.now Bad (length p.persons.now) c.loop-k.first = subst (λ k. IsFirstSoFar p.persons.now p.objects.now Bad k c.loop-k.first) whole c.loop-k.invariant in
+    let last : IsFirstSoFar p.persons.now p.objects.now Bad (length p.persons.now) c.loop-k.first =
+    subst (λ k. IsFirstSoFar p.persons.now p.objects.now Bad k c.loop-k.first) whole c.loop-k.invariant in
     first_found p.persons.now p.objects.now Bad (IsMissing p chosen named) (length chosen) (length named) (length p.persons.now) c.loop-k.first
     (λ q lt bad. (bad.0, (q, lt, refl, refl), bad.1))
     (λ i j h. record {

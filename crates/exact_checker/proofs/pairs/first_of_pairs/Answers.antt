@@ -46,7 +46,9 @@ returns c =
     let end = c.loop-k-test.false in
     let most = c.loop-k.auto.k-end in
     let whole : c.loop-k.k ≡ length p.persons.now = omega arith in
-    let last : IsFirstSoFar p.persons.now p.objects.now Bad (length p.persons.now) c.loop-k.first = subst (λ k. IsFirstSoFar p.persons.now p.objects.now Bad k c.loop-k.first) whole c.loop-k.invariant in
-    first_found p.persons.now p.objects.now Bad (IsUnder c.args.sense (rows_given c.args.sense (triples_in p) (length prices) 1 (length values)) prices values) (length values) (length prices)
+    let last : IsFirstSoFar p.persons.now p.objects.now Bad (length p.persons.now) c.loop-k.first =
+    subst (λ k. IsFirstSoFar p.persons.now p.objects.now Bad k c.loop-k.first) whole c.loop-k.invariant in
+    first_found p.persons.now p.objects.now Bad (IsUnder c.args.sense (rows_given c.args.sense (triples_in p)
+    (length prices) 1 (length values)) prices values) (length values) (length prices)
     (length p.persons.now) c.loop-k.first (to_under c.args.sense p prices values c.requires.pairs) (from_under c.args.sense p prices values c.requires.pairs)
     (under_range c.args.sense p prices values c.requires.pairs) last

@@ -15,7 +15,8 @@ returns-in-Some c =
     let values = c.args.values.now in
     let v : SFits w64 (get_or values i (pos 0)) = search rules in
     let found = simp to_z-of_z at c.in-Some.ensures in
-    let P : List ℤ → Type 0 = λ r. (j < length r) × (sum_at c.args.sense r prices j <ℤ get_or values i (pos 0)) × ((q : ℕ) → q < j → get_or values i (pos 0) ≤ℤ sum_at c.args.sense r prices q) in
+    let P : List ℤ → Type 0 = λ r. (j < length r) × (sum_at c.args.sense r prices j <ℤ get_or values i (pos 0)) ×
+    ((q : ℕ) → q < j → get_or values i (pos 0) ≤ℤ sum_at c.args.sense r prices q) in
     let h : P (part_of (length prices) i costs) = subst P c.part-row.ensures found in
     let whole = part_long (length prices) i costs (part_fits (length values) (length prices) i costs c.requires.costs.long c.loop-i-test.true) in
     let lt = h.0 in

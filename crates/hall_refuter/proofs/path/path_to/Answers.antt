@@ -15,7 +15,8 @@ loop-at-preserved c =
     let pushed = c.in_ok-push-2.ensures in
     record {
       within = omega arith;
-      whole = one_more c.args.found.now c.args.last c.args.object c.loop-at.at c.in-Some.arrival c.loop-at.objects.items _ at pushed.items c.loop-at.invariant.whole;
+      whole = one_more c.args.found.now c.args.last c.args.object c.loop-at.at c.in-Some.arrival
+          c.loop-at.objects.items _ at pushed.items c.loop-at.invariant.whole;
     }
 
 pub returns : goal.returns

@@ -26,11 +26,13 @@ loop-next-preserved c =
     let v = c.in_ok-object.ensures in
     let longer = v.grows.longer in
     let lt : c.loop-next.next < length c.loop-next.reach.found.items = omega arith in
-    let visited = subst (IsVisited c.args.problem.now c.args.owners.now c.visit.new.reach.met.items (person_at c.loop-next.reach.found.items c.loop-next.next)) c.in_default.is v.visited in
+    let visited = subst (IsVisited c.args.problem.now c.args.owners.now c.visit.new.reach.met.items
+    (person_at c.loop-next.reach.found.items c.loop-next.next)) c.in_default.is v.visited in
     record {
       reach = v.reach;
       first = v.grows.same 0 (omega arith) ∙ i.first;
-      walked = walked_more c.args.problem.now c.loop-next.reach.found.items c.visit.new.reach.found.items c.loop-next.reach.met.items c.visit.new.reach.met.items c.loop-next.next i.walked lt v.grows visited;
+      walked = walked_more c.args.problem.now c.loop-next.reach.found.items c.visit.new.reach.found.items
+          c.loop-next.reach.met.items c.visit.new.reach.met.items c.loop-next.next i.walked lt v.grows visited;
       within = omega arith;
     }
 
@@ -44,10 +46,12 @@ returns-in-Some c =
     let i = c.loop-next.invariant in
     let v = c.in_ok-object.ensures in
     let lt : c.loop-next.next < length c.loop-next.reach.found.items = omega arith in
-    let visited = subst (IsVisited c.args.problem.now c.args.owners.now c.visit.new.reach.met.items (person_at c.loop-next.reach.found.items c.loop-next.next)) c.in-Some.is v.visited in
+    let visited = subst (IsVisited c.args.problem.now c.args.owners.now c.visit.new.reach.met.items
+    (person_at c.loop-next.reach.found.items c.loop-next.next)) c.in-Some.is v.visited in
     let way = c.in_ok-path.ensures in
     let climbs = subst (λ s. Climbs s c.loop-next.next way.0) c.as_slice.ensures.value way.1 in
-    path_answer c.args.problem.now c.args.owners.now c.loop-next.reach.found.items c.visit.new.reach.found.items c.loop-next.reach.met.items c.visit.new.reach.met.items c.args.person c.loop-next.next c.in-Some.object
+    path_answer c.args.problem.now c.args.owners.now c.loop-next.reach.found.items c.visit.new.reach.found.items
+    c.loop-next.reach.met.items c.visit.new.reach.met.items c.args.person c.loop-next.next c.in-Some.object
     c.in_ok-path.path.items v.reach v.grows i.first lt visited (way.0, climbs, way.2)
 
 pub returns : goal.returns
@@ -55,6 +59,7 @@ returns c =
     let i = c.loop-next.invariant in
     let lists = c.in_ok-hall_set.ensures in
     let all : c.loop-next.next ≡ length c.loop-next.reach.found.items = omega arith in
-    hall_answer c.args.problem.now c.args.owners.now c.loop-next.reach.found.items c.loop-next.reach.met.items c.args.person c.loop-next.next c.in_ok-hall_set.field-0
+    hall_answer c.args.problem.now c.args.owners.now c.loop-next.reach.found.items c.loop-next.reach.met.items
+    c.args.person c.loop-next.next c.in_ok-hall_set.field-0
     i.reach c.requires.matching i.first c.requires.person c.requires.alone i.walked all
     (record { persons_rise = lists.persons_rise; objects_rise = lists.objects_rise; each_person = lists.persons; each_object = lists.objects })

@@ -24,6 +24,8 @@ returns-clause-reported c =
       is = to_z-of_z w32 c.code_of_end.result fits ∙ c.code_of_end.ensures;
       solved = (
         subst (IsAllowed c.args.budget) (sym c.put_answer-end.ensures.end) searched.allowed,
-        of_given c.args.given.now c.in-Ok.searched.shape c.lists_of-lists.result (λ l. HoldsEnd l (buffers c.args.objects.now c.args.persons.now c.args.prices.now c.args.info.now) _ end) searched.shape searched.whole c.lists_of-lists.ensures.lists c.put_answer-end.ensures.holds,
+        of_given c.args.given.now c.in-Ok.searched.shape c.lists_of-lists.result
+            (λ l. HoldsEnd l (buffers c.args.objects.now c.args.persons.now c.args.prices.now c.args.info.now)
+            _ end) searched.shape searched.whole c.lists_of-lists.ensures.lists c.put_answer-end.ensures.holds,
       );
     }

@@ -16,6 +16,7 @@ returns-in-Ok c =
       is = to_z-of_z w32 c.report_hall_verdict.result fits ∙ c.report_hall_verdict.ensures.code;
       names = c.report_hall_verdict.ensures.names;
       holds = subst
-          (λ (form : Form). IsOfGiven (problem_alone form 0 c.args.n c.args.m c.args.of_persons.now c.args.of_objects.now c.args.costs.now) (λ l. IsHallVerdict l c.args.persons.now c.args.objects.now v))
+          (λ (form : Form). IsOfGiven (problem_alone form 0 c.args.n c.args.m c.args.of_persons.now
+          c.args.of_objects.now c.args.costs.now) (λ l. IsHallVerdict l c.args.persons.now c.args.objects.now v))
           c.form_of.ensures c.in-Ok.ensures.verdict;
     })

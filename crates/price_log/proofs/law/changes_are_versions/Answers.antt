@@ -1,4 +1,5 @@
-use Rattle.price_log.proofs.Histories.{today-after_raise, version-after_raise, today-trim, trim_version}
+use Rattle.price_log.proofs.Trims.{today-trim, trim_version}
+use Rattle.price_log.proofs.Histories.{today-after_raise, version-after_raise}
 use Rattle.price_log.proofs.law.changes_are_versions.Goals as goal
 
 pub returns : goal.returns

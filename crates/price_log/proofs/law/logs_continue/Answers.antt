@@ -1,4 +1,4 @@
-use Rattle.price_log.proofs.Histories.{continues-refl, continues-trans, continues-kept_raise, continues-trim}
+use Rattle.price_log.proofs.Trims.{continues-refl, continues-trans, continues-kept_raise, continues-trim}
 use Rattle.price_log.proofs.law.logs_continue.Goals as goal
 
 pub returns : goal.returns

@@ -28,7 +28,8 @@ begun rows owners n e long = rw e (record {
   passed = λ k x own. absurd (none_owned n k x own);
 })
 
-more : (rows : List Listing) (owners : List (Option ℕ)) (i : ℕ) → 1 < i → i ≤ length rows → IsListed rows i i → IsOwned rows owners i → IsOwned rows (set owners (i - 1) (Some i)) (i + 1)
+more : (rows : List Listing) (owners : List (Option ℕ)) (i : ℕ) → 1 < i → i ≤ length rows → IsListed rows i i →
+    IsOwned rows owners i → IsOwned rows (set owners (i - 1) (Some i)) (i + 1)
 more rows owners i low high listed h =
     let long = h.matching.long in
     let number : IsNumber (length owners) i = record { first = omega arith; last = omega arith } in
@@ -51,7 +52,8 @@ loop-i-preserved c =
     let low = c.loop-i.auto in
     let lt = c.loop-i-test.true in
     let n = c.n-n.ensures.count in
-    let h : IsOwned c.args.problem.now c.loop-i.owners.items c.loop-i.i = record { matching = c.loop-i.invariant.matching; passed = c.loop-i.invariant.passed } in
+    let h : IsOwned c.args.problem.now c.loop-i.owners.items c.loop-i.i =
+    record { matching = c.loop-i.invariant.matching; passed = c.loop-i.invariant.passed } in
     let m = more c.args.problem.now c.loop-i.owners.items c.loop-i.i (omega arith) (omega arith) (c.requires c.loop-i.i (omega arith) (omega arith)) h in
     record { matching = m.matching; passed = m.passed }
 

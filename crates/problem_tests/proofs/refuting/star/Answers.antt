@@ -1,4 +1,5 @@
-use Rattle.std.proofs.Common.{◌≡◌, ℕ, ℤ, pos, ◌+◌, ◌<◌, ◌≤◌, ◌&&◌, List, [], ◌∷◌, ◌++◌, Option, Some, IsSome, Bool, true, false, cond, nat_eq, refl, arith, sym, subst, inl, inr, eq-eqb}
+use Rattle.std.proofs.Common.{◌≡◌, ℕ, ℤ, pos, ◌+◌, ◌<◌, ◌≤◌, ◌&&◌, List, [], ◌∷◌, ◌++◌, Option, Some, IsSome, Bool}
+use Rattle.std.proofs.Common.{true, false, cond, nat_eq, refl, arith, sym, subst, inl, inr, eq-eqb}
 use Rattle.std.specs.List.{All}
 use Rattle.std.proofs.lemmas.Int.{ints}
 use Rattle.std.proofs.lemmas.Bool.{and_from}
@@ -39,8 +40,26 @@ further : (n i : ℕ) (a b c : List Triple) → 1 < i → i ≤ n → b ≡ a ++
 further n i a b c low high first second h =
     let u : Triple = (1, i, pos 0) in
     let v : Triple = (i, i, pos 0) in
-    let one : IsTriple n u = record { person = record { first = omega arith; last = omega arith }; object = record { first = omega arith; last = omega arith }; cost = record { least = omega (arith, ints); greatest = omega (arith, ints) } } in
-    let two : IsTriple n v = record { person = record { first = omega arith; last = omega arith }; object = record { first = omega arith; last = omega arith }; cost = record { least = omega (arith, ints); greatest = omega (arith, ints) } } in
+    let one : IsTriple n u = record {
+      person = record { first = omega arith; last = omega arith };
+      object =
+          record { first = omega arith; last = omega arith };
+      cost = record {
+        least = omega (arith, ints);
+        greatest =
+            omega (arith, ints);
+      };
+    } in
+    let two : IsTriple n v = record {
+      person = record { first = omega arith; last = omega arith };
+      object =
+          record { first = omega arith; last = omega arith };
+      cost = record {
+        least = omega (arith, ints);
+        greatest =
+            omega (arith, ints);
+      };
+    } in
     rw (second, first) (record {
       triples = All-push (IsTriple n) (a ++ u ∷ []) v (All-push (IsTriple n) a u h.triples one) two;
       given = λ k some lt. elim (low_or_same k i lt) [
@@ -54,5 +73,7 @@ loop-i-preserved c =
     let h : IsFurther MOST_PERSONS c.loop-i.i c.loop-i.triples.items = record { triples = c.loop-i.invariant.triples; given = c.loop-i.invariant.given } in
     let low = c.loop-i.auto in
     let lt = c.loop-i-test.true in
-    let f = further MOST_PERSONS c.loop-i.i c.loop-i.triples.items c.push.new.self.items c.push-in-loop-i.new.self.items (omega arith) (omega arith) c.in_ok-push.ensures.items c.in_ok-push-2.ensures.items h in
+    let f = further MOST_PERSONS c.loop-i.i c.loop-i.triples.items c.push.new.self.items
+    c.push-in-loop-i.new.self.items (omega arith) (omega arith) c.in_ok-push.ensures.items
+    c.in_ok-push-2.ensures.items h in
     record { triples = f.triples; given = f.given }

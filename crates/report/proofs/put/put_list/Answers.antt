@@ -22,4 +22,5 @@ pub returns : goal.returns
 returns g c =
     let xs = c.args.numbers.now in
     let parts = list_parts c.args.word.now (decimal (length xs)) (map decimal (map g.N.Numbered.number_of xs)) in
-    third_of_three _ _ _ _ c.args.pending.now c.put_head.new.pending c.put_numbers.new.pending _ c.put_feed.result _ _ _ _ parts c.in_ok-put_head.ensures c.in_ok-put_numbers.ensures c.put_feed.ensures
+    third_of_three _ _ _ _ c.args.pending.now c.put_head.new.pending c.put_numbers.new.pending _ c.put_feed.result _
+    _ _ _ parts c.in_ok-put_head.ensures c.in_ok-put_numbers.ensures c.put_feed.ensures

@@ -15,7 +15,8 @@ returns-in_err-put_cost g c =
     let p = err_from_is_err_and c.from_residual-in_err-put_cost.result c.from_residual-in_err-put_cost.ensures.1 in
     let fits : SFits w64 c.total.result = search rules in
     let cut = simp to_z-of_z at c.in_err-put_cost.ensures in
-    rw p.1 (second_of_four _ _ _ c.args.pending.now c.put_sense.new.pending _ _ _ _ _ (best_parts c.args.sense _ _ _) c.in_ok-put_sense.ensures (rw c.total.ensures at cut))
+    rw p.1 (second_of_four _ _ _ c.args.pending.now c.put_sense.new.pending _ _ _ _ _
+    (best_parts c.args.sense _ _ _) c.in_ok-put_sense.ensures (rw c.total.ensures at cut))
 
 pub returns-in_err-put_pairs : goal.returns-in_err-put_pairs
 returns-in_err-put_pairs g c =
@@ -29,5 +30,6 @@ pub returns : goal.returns
 returns g c =
     let fits : SFits w64 c.total.result = search rules in
     let put = simp to_z-of_z at c.in_ok-put_cost.ensures in
-    fourth_of_four _ _ _ _ _ c.args.pending.now c.put_sense.new.pending c.put_cost.new.pending c.put_pairs.new.pending _ c.put_chosen.result _ _ _ _ _ (best_parts c.args.sense _ _ _)
+    fourth_of_four _ _ _ _ _ c.args.pending.now c.put_sense.new.pending c.put_cost.new.pending
+    c.put_pairs.new.pending _ c.put_chosen.result _ _ _ _ _ (best_parts c.args.sense _ _ _)
     c.in_ok-put_sense.ensures (rw c.total.ensures at put) c.in_ok-put_pairs.ensures c.put_chosen.ensures

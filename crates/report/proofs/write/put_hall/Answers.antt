@@ -28,5 +28,6 @@ returns g c =
     let ps = c.persons.ensures.persons in
     let os = c.objects.ensures.objects in
     let parts = hall_lists c.args.sense c.args.hall.now.persons c.args.hall.now.objects c.persons.result.now c.objects.result.now ps os in
-    fourth_of_four _ _ _ _ _ c.args.pending.now c.put_sense.new.pending c.put_infeasible.new.pending c.put_list.new.pending _ c.put_list-2.result _ _ _ _ _ parts
+    fourth_of_four _ _ _ _ _ c.args.pending.now c.put_sense.new.pending c.put_infeasible.new.pending
+    c.put_list.new.pending _ c.put_list-2.result _ _ _ _ _ parts
     c.in_ok-put_sense.ensures c.in_ok-put_infeasible.ensures c.in_ok-put_list.ensures c.put_list-2.ensures

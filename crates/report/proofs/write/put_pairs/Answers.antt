@@ -28,7 +28,8 @@ returns-in_err-put_pair g c =
     let n = ap length e in
     let f : SFits w64 c.unwrap_or-cost.result = search rules in
     let x = c.object-item.is ∙ ap (λ xs. get_or xs c.loop-i.i c.object-item.result) e in
-    rw p.1 (parts_cut _ _ _ _ c.loop-i.pending _ _ _ (pairs_more c.args.problem.now c.args.assignment.now c.loop-i.i c.object-item.result c.unwrap_or-cost.result l (omega (arith, c.loop-i-test.true)) x
+    rw p.1 (parts_cut _ _ _ _ c.loop-i.pending _ _ _ (pairs_more c.args.problem.now c.args.assignment.now c.loop-i.i
+    c.object-item.result c.unwrap_or-cost.result l (omega (arith, c.loop-i-test.true)) x
     (c.unwrap_or-cost.ensures ∙ ap (λ o. unwrap_or o (pos 0)) c.cost_of.ensures)) c.loop-i.invariant (simp to_z-of_z at c.in_err-put_pair.ensures))
 
 pub loop-i-preserved : goal.loop-i-preserved
@@ -38,7 +39,9 @@ loop-i-preserved g c =
     let n = ap length e in
     let f : SFits w64 c.unwrap_or-cost.result = search rules in
     let x = c.object-item.is ∙ ap (λ xs. get_or xs c.loop-i.i c.object-item.result) e in
-    parts_on _ _ _ _ c.loop-i.pending c.put_pair.new.pending _ _ _ (pairs_more c.args.problem.now c.args.assignment.now c.loop-i.i c.object-item.result c.unwrap_or-cost.result l (omega (arith, c.loop-i-test.true)) x
+    parts_on _ _ _ _ c.loop-i.pending c.put_pair.new.pending _ _ _
+    (pairs_more c.args.problem.now c.args.assignment.now c.loop-i.i c.object-item.result c.unwrap_or-cost.result
+    l (omega (arith, c.loop-i-test.true)) x
     (c.unwrap_or-cost.ensures ∙ ap (λ o. unwrap_or o (pos 0)) c.cost_of.ensures)) c.loop-i.invariant (simp to_z-of_z at c.in_ok-put_pair.ensures)
 
 pub returns : goal.returns

@@ -16,11 +16,13 @@ loop-i-preserved c =
     let worker : i + 1 ≡ suc i = omega arith in
     let n : c.n-n.result ≡ persons_of old = c.n-n.ensures.count ∙ ap (λ (s : ScaledProblem). length s.problem) (c.deref.ensures ∙ c.scaled.ensures.scaled) in
     let room = claiming_room old now persons i is (omega arith) in
-    subst (λ xs. IsClaiming old new xs (i + 1)) (sym c.in_ok-push-in-Some.ensures.items) (claiming_more old now new persons i (i + 1) c.in-Some.person e.0 is worker room e.1 e.2 e.3)
+    subst (λ xs. IsClaiming old new xs (i + 1)) (sym c.in_ok-push-in-Some.ensures.items)
+    (claiming_more old now new persons i (i + 1) c.in-Some.person e.0 is worker room e.1 e.2 e.3)
 
 pub returns-after-loop-i-clause-claimed : goal.returns-after-loop-i-clause-claimed
 returns-after-loop-i-clause-claimed c =
     let old = c.args.book.now in
     let is = c.loop-i.invariant in
     let n : c.n-n.result ≡ persons_of old = c.n-n.ensures.count ∙ ap (λ (s : ScaledProblem). length s.problem) (c.deref.ensures ∙ c.scaled.ensures.scaled) in
-    claiming_done old c.loop-i.book c.loop-i.persons.items c.loop-i.i is (claiming_full old c.loop-i.book c.loop-i.persons.items c.loop-i.i c.requires is (omega arith))
+    claiming_done old c.loop-i.book c.loop-i.persons.items c.loop-i.i is
+    (claiming_full old c.loop-i.book c.loop-i.persons.items c.loop-i.i c.requires is (omega arith))

@@ -12,4 +12,8 @@ returns-in-Person-clause-some c =
 pub returns-in_default : goal.returns-in_default
 returns-in_default c =
     let e = c.claim.ensures in
-    record { some = tt; none = nobody_claimed c.args.book.now c.claim.new.self c.args.worker c.claim.result c.requires.going e.answer e.book c.in_default.not-Person }
+    record {
+      some = tt;
+      none = nobody_claimed c.args.book.now c.claim.new.self c.args.worker c.claim.result
+          c.requires.going e.answer e.book c.in_default.not-Person;
+    }

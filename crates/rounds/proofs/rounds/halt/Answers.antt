@@ -11,7 +11,9 @@ use Rattle.rounds.proofs.rounds.halt.Goals as goal
 
 pub refute-requires-clause-person : goal.refute-requires-clause-person
 refute-requires-clause-person c =
-    subst (λ (s : ScaledProblem). IsNumber (length s.problem) c.args.person) (sym (c.deref.ensures ∙ c.scaled.ensures.scaled)) (held_is_person c.args.book.now c.requires.worker c.args.person c.requires.free c.requires.held)
+    subst (λ (s : ScaledProblem). IsNumber (length s.problem) c.args.person)
+    (sym (c.deref.ensures ∙ c.scaled.ensures.scaled)) (held_is_person c.args.book.now c.requires.worker
+    c.args.person c.requires.free c.requires.held)
 
 pub refute-requires-clause-alone : goal.refute-requires-clause-alone
 refute-requires-clause-alone c = λ j h.
@@ -25,5 +27,7 @@ unreachable-requires c =
     let problem = ap (λ (s : ScaledProblem). s.problem) (c.deref.ensures ∙ c.scaled.ensures.scaled) in
     let found = subst (IsFound c.deref.result.now.problem c.owners.result.now i) c.in-Path.is c.in_ok-hall.ensures.found in
     let path : IsPath b.base.problem b.owners i c.in-Path.field-0.items =
-    subst (λ (rows : List Listing). IsPath rows b.owners i c.in-Path.field-0.items) problem (subst (λ (o : List (Option ℕ)). IsPath c.deref.result.now.problem o i c.in-Path.field-0.items) c.owners.ensures.owners found) in
+    subst (λ (rows : List Listing). IsPath rows b.owners i c.in-Path.field-0.items) problem
+    (subst (λ (o : List (Option ℕ)). IsPath c.deref.result.now.problem o i c.in-Path.field-0.items)
+    c.owners.ensures.owners found) in
     no_path b c.requires.table i c.in-Path.field-0.items c.requires.free c.requires.below c.requires.under path

@@ -16,7 +16,8 @@ pub drain-most-requires : goal.drain-most-requires
 drain-most-requires c = λ k none.
     let rows : List LinearRow = map row_in c.args.rows.now in
     let ms = c.args.multiples.now in
-    let t : c.as_slice.result.now ≡ touched_by rows ms = c.as_slice.ensures.value ∙ c.in_ok-touch_rows.ensures ∙ ap (λ l. l ++ touched_by rows ms) c.clear.ensures.items in
+    let t : c.as_slice.result.now ≡ touched_by rows ms = c.as_slice.ensures.value ∙ c.in_ok-touch_rows.ensures ∙
+    ap (λ l. l ++ touched_by rows ms) c.clear.ensures.items in
     let z = weight_none rows ms k (subst (λ l. is_among k l ≡ false) t none) in
     elim (cases_lt k (length c.args.weights.now)) [
       | inl lt ↦ c.add_rows.ensures k lt ∙ z
@@ -34,7 +35,8 @@ returns-clause-end c =
     let long : length c.add_rows.new.weights ≡ n = search rules in
     let small : size rows ms < 2 ^ 127 = omega (arith, c.size_of.ensures, c.if-size_of.false) in
     let cut : most ≡ min (greatest n (weight rows ms)) (2 ^ 128 - 1) =
-    c.drain-most.ensures.sum ∙ ap (λ g. min g (2 ^ 128 - 1)) (greatest_is c.add_rows.new.weights (weight rows ms) (λ k lt. c.add_rows.ensures k (omega (arith, lt, long))) ∙ ap (λ l. greatest l (weight rows ms)) long) in
+    c.drain-most.ensures.sum ∙ ap (λ g. min g (2 ^ 128 - 1)) (greatest_is c.add_rows.new.weights (weight rows ms)
+    (λ k lt. c.add_rows.ensures k (omega (arith, lt, long))) ∙ ap (λ l. greatest l (weight rows ms)) long) in
     let below : c.is_below.result ≡ int_lt (pos most) b = simp to_z-of_z at c.is_below.ensures in
     c.shown.ensures ∙ ap (λ h. if h && c.is_below.result then Shows else Lacks) c.have_sides-have_sides.ensures
     ∙ ap (λ t. if has_sides rows ms && t then Shows else Lacks) below

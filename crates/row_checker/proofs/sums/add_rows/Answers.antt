@@ -17,9 +17,11 @@ add_terms-requires c =
     let rows : List LinearRow = map row_in c.args.rows.now in
     let m : Multiple = get_or ms i (record { of = 0; times = pos 0 }) in
     let fm : SFits w64 m.times = search rules in
-    let d : IsWeighing rows n ws ms (m ∷ drop (i + 1) ms) = subst (IsWeighing rows n ws ms) (drop_more ms i _ c.loop-multiple-test.true) c.loop-multiple.invariant in
+    let d : IsWeighing rows n ws ms (m ∷ drop (i + 1) ms) =
+    subst (IsWeighing rows n ws ms) (drop_more ms i _ c.loop-multiple-test.true) c.loop-multiple.invariant in
     let all : (k : ℕ) → k < length ws → unsigned_abs (get_or ws k (pos 0)) + terms_size m.times c.terms_at.result.now < 2 ^ 127 =
-    λ k lt. subst (λ t. unsigned_abs (get_or ws k (pos 0)) + terms_size m.times t < 2 ^ 127) (sym c.terms_at.ensures) (row_fits rows n ws ms (drop (i + 1) ms) m d k (omega (arith, lt))) in
+    λ k lt. subst (λ t. unsigned_abs (get_or ws k (pos 0)) + terms_size m.times t < 2 ^ 127)
+    (sym c.terms_at.ensures) (row_fits rows n ws ms (drop (i + 1) ms) m d k (omega (arith, lt))) in
     simp to_z-of_z all
 
 pub loop-multiple-preserved : goal.loop-multiple-preserved
@@ -31,8 +33,10 @@ loop-multiple-preserved c =
     let rows : List LinearRow = map row_in c.args.rows.now in
     let m : Multiple = get_or ms i (record { of = 0; times = pos 0 }) in
     let fm : SFits w64 m.times = search rules in
-    let d : IsWeighing rows n ws ms (m ∷ drop (i + 1) ms) = subst (IsWeighing rows n ws ms) (drop_more ms i _ c.loop-multiple-test.true) c.loop-multiple.invariant in
-    let added : (k : ℕ) → k < length ws → get_or c.add_terms.new.weights k (pos 0) ≡ get_or ws k (pos 0) +ℤ (m.times *ℤ coefficient k c.terms_at.result.now) = simp to_z-of_z at c.add_terms.ensures in
+    let d : IsWeighing rows n ws ms (m ∷ drop (i + 1) ms) =
+    subst (IsWeighing rows n ws ms) (drop_more ms i _ c.loop-multiple-test.true) c.loop-multiple.invariant in
+    let added : (k : ℕ) → k < length ws → get_or c.add_terms.new.weights k (pos 0) ≡ get_or ws k (pos 0) +ℤ
+    (m.times *ℤ coefficient k c.terms_at.result.now) = simp to_z-of_z at c.add_terms.ensures in
     row_weighed rows n ws c.add_terms.new.weights ms (drop (i + 1) ms) m d
     (λ k lt. added k (omega (arith, lt)) ∙ ap (λ t. get_or ws k (pos 0) +ℤ (m.times *ℤ coefficient k t)) c.terms_at.ensures)
 
@@ -50,6 +54,8 @@ loop-multiple-init c = record {
 pub returns : goal.returns
 returns c = λ k lt.
     let rows : List LinearRow = map row_in c.args.rows.now in
-    let e : weight rows (drop c.loop-multiple.multiple-index c.args.multiples.now) k ≡ pos 0 = ap (λ l. weight rows l k) (drop_all c.loop-multiple.multiple-index c.args.multiples.now (omega (arith, c.loop-multiple-test.false))) in
+    let e : weight rows (drop c.loop-multiple.multiple-index c.args.multiples.now) k ≡ pos 0 =
+    ap (λ l. weight rows l k) (drop_all c.loop-multiple.multiple-index c.args.multiples.now
+    (omega (arith, c.loop-multiple-test.false))) in
     let h = c.loop-multiple.invariant.sums k lt in
     omega (arith, ints)

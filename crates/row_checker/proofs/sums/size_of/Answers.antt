@@ -9,5 +9,7 @@ returns c =
     let i = c.loop-multiple.multiple-index in
     let f = c.loop-multiple.invariant.1 in
     let h = c.loop-multiple.invariant.0 in
-    let n : size (map row_in c.args.rows.now) (drop i c.args.multiples.now) ≡ 0 = ap (size (map row_in c.args.rows.now)) (drop_all i c.args.multiples.now (omega (arith, c.loop-multiple-test.false))) in
+    let n : size (map row_in c.args.rows.now) (drop i c.args.multiples.now) ≡ 0 =
+    ap (size (map row_in c.args.rows.now)) (drop_all i c.args.multiples.now
+    (omega (arith, c.loop-multiple-test.false))) in
     omega arith

@@ -16,4 +16,5 @@ returns-else-branch-clause-step c = λ n numbers given all p long inside at.
     let h = subst (IsAt n numbers given (map row_in c.args.rows.now.items) all) c.in-Stands.is at in
     let r = c.in_ok-climb-in-Stands.ensures.climbed n numbers given all c.in-Stands.next long h in
     let after = map row_in c.climb.new.rows.items in
-    subst (λ b. MatchBool b (IsAt n numbers given after all (tree_ends n numbers (left_over given after) after c.in-Stands.next)) (Stands c.in-Stands.next ≡ all)) c.if-branch.false r
+    subst (λ b. MatchBool b (IsAt n numbers given after all (tree_ends n numbers (left_over given after)
+    after c.in-Stands.next)) (Stands c.in-Stands.next ≡ all)) c.if-branch.false r

@@ -19,8 +19,11 @@ pub returns-in-Some-clause-step : goal.returns-in-Some-clause-step
 returns-in-Some-clause-step c = λ given all long at.
     let rows : List LinearRow = map row_in c.args.rows.now.items in
     let l : length rows ≡ length c.args.rows.now.items = length-map c.args.rows.now.items row_in in
-    let room : length rows - length given < MOST_DEPTH = omega (arith, c.len.ensures, c.if-len-given-ge-MOST_DEPTH.false) in
-    (tt, stops_unnamed c.args.variables c.args.numbers.now given rows all c.args.place c.args.pairs c.in-Some.unnamed room c.requires.split c.in-Some.ensures at)
+    let room : length rows - length given < MOST_DEPTH = omega (arith, c.len.ensures, c.if-len-given-ge-MOST_DEPTH.false) in (
+      tt,
+      stops_unnamed c.args.variables c.args.numbers.now given rows all c.args.place c.args.pairs
+          c.in-Some.unnamed room c.requires.split c.in-Some.ensures at,
+    )
 
 pub returns-clause-step : goal.returns-clause-step
 returns-clause-step c = λ given all long at.
@@ -33,5 +36,10 @@ returns-clause-step c = λ given all long at.
     let split = split_is numbers p k c.requires.split in
     let none : None ≡ first_unnamed numbers (p + 3) k c.args.variables = search rules in
     let grown : map row_in c.push.new.self.items ≡ rows ++ low_row (multiples_at numbers (p + 3) k) (number_at numbers (p + 2)) ∷ [] =
-    ap (map row_in) c.in_ok-push.ensures.items ∙ map-append row_in c.args.rows.now.items (c.in_ok-low_row.field-0 ∷ []) ∙ ap (λ r. rows ++ r ∷ []) c.in_ok-low_row.ensures in
-    (omega arith, c.requires.room, goes_down c.args.variables numbers given rows all p k room c.requires.split none split.less at (map row_in c.push.new.self.items) grown)
+    ap (map row_in) c.in_ok-push.ensures.items ∙ map-append row_in c.args.rows.now.items
+    (c.in_ok-low_row.field-0 ∷ []) ∙ ap (λ r. rows ++ r ∷ []) c.in_ok-low_row.ensures in (
+      omega arith,
+      c.requires.room,
+      goes_down c.args.variables numbers given rows all p k room c.requires.split none
+          split.less at (map row_in c.push.new.self.items) grown,
+    )

@@ -14,7 +14,8 @@ loop-step-smaller c =
     let all = tree_ends n numbers MOST_DEPTH given 0 in
     let inv = c.loop-step.invariant in
     let at = subst (λ m. IsAt m numbers given rows all (tree_ends m numbers (left_over given rows) rows c.loop-step.place)) (sym inv.4) inv.5 in
-    let adv = c.in_ok-next.ensures.step (length c.loop-step.weights) numbers given all c.loop-step.place (sym inv.0) (c.in_ok-step.ensures.step given all (sym inv.0) at) in
+    let adv = c.in_ok-next.ensures.step (length c.loop-step.weights) numbers given all c.loop-step.place (sym inv.0)
+    (c.in_ok-step.ensures.step given all (sym inv.0) at) in
     let goes = subst (IsAdvance (length c.loop-step.weights) numbers given (map row_in c.after.new.rows.items) all c.loop-step.place) c.in-Goes.is adv in
     let a = goes.0 in
     let b = goes.1 in
@@ -29,7 +30,8 @@ loop-step-preserved c =
     let all = tree_ends n numbers MOST_DEPTH given 0 in
     let inv = c.loop-step.invariant in
     let at = subst (λ m. IsAt m numbers given rows all (tree_ends m numbers (left_over given rows) rows c.loop-step.place)) (sym inv.4) inv.5 in
-    let adv = c.in_ok-next.ensures.step (length c.loop-step.weights) numbers given all c.loop-step.place (sym inv.0) (c.in_ok-step.ensures.step given all (sym inv.0) at) in
+    let adv = c.in_ok-next.ensures.step (length c.loop-step.weights) numbers given all c.loop-step.place (sym inv.0)
+    (c.in_ok-step.ensures.step given all (sym inv.0) at) in
     let after : List LinearRow = map row_in c.after.new.rows.items in
     let goes = subst (IsAdvance (length c.loop-step.weights) numbers given after all c.loop-step.place) c.in-Goes.is adv in
     let long : length c.judge_node.new.weights ≡ n = c.judge_node.auto.weights ∙ inv.4 in (
@@ -50,5 +52,6 @@ returns-in-Ends c =
     let all = tree_ends n numbers MOST_DEPTH given 0 in
     let inv = c.loop-step.invariant in
     let at = subst (λ m. IsAt m numbers given rows all (tree_ends m numbers (left_over given rows) rows c.loop-step.place)) (sym inv.4) inv.5 in
-    let adv = c.in_ok-next.ensures.step (length c.loop-step.weights) numbers given all c.loop-step.place (sym inv.0) (c.in_ok-step.ensures.step given all (sym inv.0) at) in
+    let adv = c.in_ok-next.ensures.step (length c.loop-step.weights) numbers given all c.loop-step.place (sym inv.0)
+    (c.in_ok-step.ensures.step given all (sym inv.0) at) in
     subst (IsAdvance (length c.loop-step.weights) numbers given (map row_in c.after.new.rows.items) all c.loop-step.place) c.in-Ends.is adv

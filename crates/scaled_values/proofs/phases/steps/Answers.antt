@@ -12,7 +12,11 @@ record InRange (product : ℤ) : Type 0 where
   pub greatest : product ≤ℤ (pos MOST_PERSONS *ℤ most_step)
 
 in_range : (count : ℕ) (step : ℤ) → count ≤ MOST_PERSONS → pos 0 ≤ℤ step → step ≤ℤ most_step → InRange (pos count *ℤ step)
-in_range count (pos k) few least greatest = record { least = omega (arith, ints); greatest = steps_below count MOST_PERSONS (pos k) most_step few least greatest }
+in_range count (pos k) few least greatest = record {
+  least = omega (arith, ints);
+  greatest =
+      steps_below count MOST_PERSONS (pos k) most_step few least greatest;
+}
 in_range count (negsuc k) few least greatest = absurd (omega (arith, ints))
 
 -- the product of the widened numbers
@@ -25,7 +29,8 @@ product : (c : goal.After-from-2) → IsProduct c
 product c =
     let step_fits = c.ranges.step in
     let step : c.from-2.result ≡ c.args.step = simp to_z-of_z at c.from-2.ensures in
-    let value : c.from.result *ℤ c.from-2.result ≡ pos c.args.count *ℤ c.args.step = ap (λ x. x *ℤ c.from-2.result) c.from.ensures ∙ ap (λ x. pos c.args.count *ℤ x) step in
+    let value : c.from.result *ℤ c.from-2.result ≡ pos c.args.count *ℤ c.args.step =
+    ap (λ x. x *ℤ c.from-2.result) c.from.ensures ∙ ap (λ x. pos c.args.count *ℤ x) step in
     let range = in_range c.args.count c.args.step c.requires.few c.requires.least c.requires.greatest in
     let fits : SFits w128 (pos c.args.count *ℤ c.args.step) = omega (arith, ints) in
     record { value = value; range = range; fits = rw value fits }

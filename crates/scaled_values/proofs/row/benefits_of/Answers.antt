@@ -33,7 +33,8 @@ loop-cost-preserved c =
           ∙ ap (λ v. before ++ v ∷ rest) value
           ∙ ap (λ l. before ++ l) (sym (values_next c.args.sense c.args.n row i e c.loop-cost-test.true c.loop-cost-item.is))
           ∙ inv.benefits;
-      range = range_next c.args.sense c.args.n row i e c.loop-cost.range c.widened-range.result c.benefit-benefit.result c.loop-cost-test.true c.loop-cost-item.is value wider ∙ inv.range;
+      range = range_next c.args.sense c.args.n row i e c.loop-cost.range c.widened-range.result
+          c.benefit-benefit.result c.loop-cost-test.true c.loop-cost-item.is value wider ∙ inv.range;
       long = omega (arith, c.push_reserved.ensures.len, inv.long);
       room = c.push_reserved.ensures.capacity ∙ inv.room;
     }

@@ -35,7 +35,8 @@ loop-object-preserved c =
           ∙ ap (λ f. before ++ (f.0, benefit c.args.sense c.args.n f.1) ∷ rest) c.loop-object-item.is
           ∙ ap (λ l. before ++ benefit_row c.args.sense c.args.n l) (sym (drop_more row i e c.loop-object-test.true))
           ∙ inv.pairs;
-      range = range_next c.args.sense c.args.n row i e c.loop-object.range c.widened-range.result c.benefit-benefit.result c.loop-object-test.true c.loop-object-item.is value wider ∙ inv.range;
+      range = range_next c.args.sense c.args.n row i e c.loop-object.range c.widened-range.result
+          c.benefit-benefit.result c.loop-object-test.true c.loop-object-item.is value wider ∙ inv.range;
       long = omega (arith, c.push_reserved.ensures.len, inv.long);
       room = c.push_reserved.ensures.capacity ∙ inv.room;
     }

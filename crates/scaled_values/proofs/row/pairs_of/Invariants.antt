@@ -7,7 +7,8 @@ use Rattle.scaled_values.proofs.row.pairs_of.Given as goal
 abbrev pub invariant-loop-object : goal.invariant-loop-object
 invariant-loop-object l = record {
   pairs : l.pairs.items ++ benefit_row l.sense l.n (drop l.object-index l.row) ≡ benefit_row l.sense l.n l.row;
-  range : range_with l.range (map (λ e. e.1) (benefit_row l.sense l.n (drop l.object-index l.row))) ≡ range_with l.fn.range (map (λ e. e.1) (benefit_row l.sense l.n l.row));
+  range : range_with l.range (map (λ e. e.1) (benefit_row l.sense l.n (drop l.object-index l.row)))
+      ≡ range_with l.fn.range (map (λ e. e.1) (benefit_row l.sense l.n l.row));
   long : vec_len l.pairs ≡ l.object-index;
   room : vec_capacity l.pairs ≡ length l.row;
 }

@@ -14,7 +14,9 @@ invariant_of-result c =
     let greatest_fits : SFits w64 c.or_zeros-range.result.greatest = search rules in
     let problem = rw c.problem.view_is at c.problem.invariant in
     let in_range = all_in_range (record { problem = c.args.problem; sense = c.args.sense }) problem in
-    let known = range_is (values_in (benefit_rows c.args.sense c.args.problem)) c.in_ok-rows.found c.or_zeros-range.result in_range c.in_ok-rows.ensures.range c.or_zeros-range.ensures.some c.or_zeros-range.ensures.none in
+    let known = range_is (values_in (benefit_rows c.args.sense c.args.problem))
+    c.in_ok-rows.found c.or_zeros-range.result in_range c.in_ok-rows.ensures.range c.or_zeros-range.ensures.some
+    c.or_zeros-range.ensures.none in
     record {
       problem = problem;
       entries = c.in_ok-rows.ensures.entries;

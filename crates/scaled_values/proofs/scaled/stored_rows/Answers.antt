@@ -24,7 +24,8 @@ loop-i-preserved c =
     record {
       entries =
           ap (λ l. map stored_entries l ++ drop (c.loop-i.i + 1) (benefit_rows c.args.sense problem)) c.push_reserved.ensures.items
-          ∙ rows_moved stored_entries c.loop-i.rows.items c.in_ok-row.row (benefit_row c.args.sense (length problem) (row_of problem (c.loop-i.i + 1))) (drop (c.loop-i.i + 1) (benefit_rows c.args.sense problem)) row
+          ∙ rows_moved stored_entries c.loop-i.rows.items c.in_ok-row.row (benefit_row c.args.sense (length problem)
+          (row_of problem (c.loop-i.i + 1))) (drop (c.loop-i.i + 1) (benefit_rows c.args.sense problem)) row
           ∙ ap (λ l. map stored_entries c.loop-i.rows.items ++ l) (sym (rows_next c.args.sense (length problem) problem c.loop-i.i lt))
           ∙ c.loop-i.invariant.entries;
       form =

@@ -40,13 +40,16 @@ loop-object-preserved t c =
     elim c.if-not-is_among.branch [
       | then-not-is_among+in_ok-longer+in_ok-found w ↦
           let now : w.as_slice.result.now ≡ c.args.front.now ++ c.loop-object-item.result.0 ∷ [] = w.as_slice.ensures.value ∙ w.in_ok-longer.ensures in
-          let found = subst (λ (xs : List ℕ). IsBestIn c.args.sense c.args.problem.now (Begins c.args.problem.now xs) w.in_ok-found.found) now w.in_ok-found.ensures in
-          subst (λ (a : Option (List ℕ)). IsBestSoFar c.args.sense c.args.problem.now c.args.front.now c.row-object-items.result.now (c.loop-object.object-index + 1) a)
+          let found = subst (λ (xs : List ℕ). IsBestIn c.args.sense c.args.problem.now
+          (Begins c.args.problem.now xs) w.in_ok-found.found) now w.in_ok-found.ensures in
+          subst (λ (a : Option (List ℕ)). IsBestSoFar c.args.sense c.args.problem.now c.args.front.now
+          c.row-object-items.result.now (c.loop-object.object-index + 1) a)
           (sym w.best-is)
           (step_tried c.args.sense c.args.problem.now c.args.front.now c.row-object-items.result.now c.loop-object.object-index c.loop-object-item.result.0
           c.loop-object.best w.in_ok-found.found w.better-best.result short at c.loop-object.invariant found w.better-best.ensures)
       | else-not-is_among w ↦
-          subst (λ (a : Option (List ℕ)). IsBestSoFar c.args.sense c.args.problem.now c.args.front.now c.row-object-items.result.now (c.loop-object.object-index + 1) a)
+          subst (λ (a : Option (List ℕ)). IsBestSoFar c.args.sense c.args.problem.now c.args.front.now
+          c.row-object-items.result.now (c.loop-object.object-index + 1) a)
           (sym w.best-is)
           (step_taken c.args.sense c.args.problem.now c.args.front.now c.row-object-items.result.now c.loop-object.object-index c.loop-object-item.result.0
           c.loop-object.best short at (w.if-not-is_among.ensures.0 (search rules)) c.loop-object.invariant)

@@ -11,7 +11,9 @@ pub make_bid-requires-clause-person : goal.make_bid-requires-clause-person
 make_bid-requires-clause-person c =
     let b = c.args.book.now in
     let problem = ap (λ (s : ScaledProblem). s.problem) (c.deref.ensures ∙ c.scaled.ensures.scaled) in
-    subst (λ (rows : List Listing). IsNumber (length rows) c.in_ok-person.person) (sym problem) (held_person (length b.base.problem) b.owners b.queue b.claims c.args.plain.now.number c.in_ok-person.person c.invariant.ensures.placed_once (sym c.in_ok-person.ensures.claim))
+    subst (λ (rows : List Listing). IsNumber (length rows) c.in_ok-person.person) (sym problem)
+    (held_person (length b.base.problem) b.owners b.queue b.claims c.args.plain.now.number c.in_ok-person.person
+    c.invariant.ensures.placed_once (sym c.in_ok-person.ensures.claim))
 
 pub make_bid-requires-clause-ask : goal.make_bid-requires-clause-ask
 make_bid-requires-clause-ask c =

@@ -11,4 +11,6 @@ invariant_of-self c =
     let g : SFits w64 c.narrow_of.result = search rules in
     let view = ap length c.self.view_is in
     let at : c.place-place.result < length prices = omega (arith, view, c.requires.object.first, c.requires.object.last, c.place-place.ensures) in
-    simp to_z-of_z (pair_set prices c.self.inside.narrow.items (c.place-place.result) c.args.price c.narrow_of.result at c.requires.price c.narrow_of.ensures.range (simp to_z-of_z at c.narrow_of.ensures.below) c.self.invariant)
+    simp to_z-of_z (pair_set prices c.self.inside.narrow.items (c.place-place.result)
+    c.args.price c.narrow_of.result at c.requires.price c.narrow_of.ensures.range
+    (simp to_z-of_z at c.narrow_of.ensures.below) c.self.invariant)

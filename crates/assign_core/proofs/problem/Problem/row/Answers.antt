@@ -5,7 +5,8 @@ use Rattle.assign_core.proofs.problem.Problem.row.Goals as goal
 
 row_is : (c : goal.After-as_slice) → c.as_slice.result.now ≡ row_of c.args.self.now c.args.person
 row_is c =
-    row_of-mapped (λ r. r.items) c.self.inside.rows.items c.args.self.now c.args.person c.index.result.now c.as_slice.result.now c.self.view_is c.requires.first c.requires.last
+    row_of-mapped (λ r. r.items) c.self.inside.rows.items c.args.self.now c.args.person c.index.result.now
+    c.as_slice.result.now c.self.view_is c.requires.first c.requires.last
     (c.index.ensures ∙ ap (λ k. get_or c.self.inside.rows.items k c.index.result.now) c.place.ensures) c.as_slice.ensures.value
 
 pub returns-clause-row : goal.returns-clause-row

@@ -65,7 +65,8 @@ returns-in-Min-clause-value c =
     let more = s.more in
     let less = s.less in
     let cost = c.ranges.cost in
-    let product : SFits w64 ((pos 0 -ℤ (c.from-scale.result +ℤ pos 1)) *ℤ c.args.cost) = rw s.least (product_fits Min c.args.n c.args.cost c.requires.size c.requires.cost) in
+    let product : SFits w64 ((pos 0 -ℤ (c.from-scale.result +ℤ pos 1)) *ℤ c.args.cost) =
+    rw s.least (product_fits Min c.args.n c.args.cost c.requires.size c.requires.cost) in
     simp to_z-of_z (rw (s.least, c.in-Min.is) refl)
 
 pub returns-in-Min-clause-range : goal.returns-in-Min-clause-range
@@ -77,7 +78,8 @@ returns-in-Max-clause-value c =
     let number = s.fits in
     let more = s.more in
     let cost = c.ranges.cost in
-    let product : SFits w64 ((c.from-scale.result +ℤ pos 1) *ℤ c.args.cost) = rw s.greatest (product_fits Max c.args.n c.args.cost c.requires.size c.requires.cost) in
+    let product : SFits w64 ((c.from-scale.result +ℤ pos 1) *ℤ c.args.cost) =
+    rw s.greatest (product_fits Max c.args.n c.args.cost c.requires.size c.requires.cost) in
     simp to_z-of_z (rw (s.greatest, c.in-Max.is) refl)
 
 pub returns-in-Max-clause-range : goal.returns-in-Max-clause-range

@@ -7,4 +7,6 @@ use Rattle.async_workers.proofs.place.Held.give.Goals as goal
 pub returns-clause-gave : goal.returns-clause-gave
 returns-clause-gave g c t taken e number =
     let is = c.desk.view_is in
-    c.put_back.ensures.gave t taken (ap (λ (d : DeskData). d.view) is ∙ e) (number ∙ sym (ap (λ (d : DeskData). d.known.number) is)) ∙ (λ i. Away (session_at (is i).known taken (c.self.view_is i).book))
+    c.put_back.ensures.gave t taken (ap (λ (d : DeskData). d.view) is ∙ e) (number ∙
+    sym (ap (λ (d : DeskData). d.known.number) is)) ∙
+    (λ i. Away (session_at (is i).known taken (c.self.view_is i).book))

@@ -24,16 +24,19 @@ returns-clause-current g c =
     let b = c.take_book-book.result in
     let ready = All-pop (IsReady c.args.place) c.args.desks.items c.pop.new.self.items (Some desk) c.in-Some.ensures.items c.requires.ready in
     let t : LastSession = session_by desk ready.1.1.0 ready.1.1.1 in
-    let took = λ (taken : BookData) (put : BookData) (away : IsAway desk taken put). c.take_book-book.ensures.took (session_by desk taken put) (c.into_pass-pass.ensures.view ∙ away) in
+    let took = λ (taken : BookData) (put : BookData) (away : IsAway desk taken put). c.take_book-book.ensures.took
+    (session_by desk taken put) (c.into_pass-pass.ensures.view ∙ away) in
     let others = c.meet_all.ensures t b (inl (took ready.1.1.0 ready.1.1.1 ready.1.1.2).view) in
     subst (λ b. All (IsTrueOf b) c.args.desks.items) (sym c.into_book.ensures)
-    (subst (All (IsTrueOf b)) (sym c.in-Some.ensures.items) (All-push (IsTrueOf b) c.pop.new.self.items desk others (λ taken put away. (took taken put away).told)))
+    (subst (All (IsTrueOf b)) (sym c.in-Some.ensures.items) (All-push (IsTrueOf b) c.pop.new.self.items desk others
+    (λ taken put away. (took taken put away).told)))
 
 pub returns-clause-free : goal.returns-clause-free
 returns-clause-free g c =
     let desk = c.in-Some.closer in
     let ready = All-pop (IsReady c.args.place) c.args.desks.items c.pop.new.self.items (Some desk) c.in-Some.ensures.items c.requires.ready in
-    subst IsFree (sym c.into_book.ensures) (c.take_book-book.ensures.took (session_by desk ready.1.1.0 ready.1.1.1) (c.into_pass-pass.ensures.view ∙ ready.1.1.2)).free
+    subst IsFree (sym c.into_book.ensures) (c.take_book-book.ensures.took (session_by desk ready.1.1.0 ready.1.1.1)
+    (c.into_pass-pass.ensures.view ∙ ready.1.1.2)).free
 
 pub take_book-book-requires-clause-away : goal.take_book-book-requires-clause-away
 take_book-book-requires-clause-away g c =

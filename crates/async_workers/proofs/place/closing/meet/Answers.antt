@@ -20,4 +20,5 @@ learn_as-requires-clause-rule c =
     subst (λ (v : View). Learns Rule c.absorb.new.pass.id v (λ items. MetIsCurrent v)) (sym c.absorb.ensures.rule) (hears_meeting _ _ _ h.0 h.1 o.0 h.2 o.1)
 
 pub returns-clause-current : goal.returns-clause-current
-returns-clause-current c t taken u closing away = c.learn_as.ensures.rule.1 t taken u (c.absorb.ensures.rule ∙ ap (met _) away ∙ met-closing _ t taken u closing)
+returns-clause-current c t taken u closing away = c.learn_as.ensures.rule.1 t taken u (c.absorb.ensures.rule ∙
+    ap (met _) away ∙ met-closing _ t taken u closing)

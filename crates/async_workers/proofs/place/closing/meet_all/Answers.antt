@@ -9,7 +9,8 @@ meet-requires-clause-closing c = let h = c.requires.closing in (h.0, h.1, c.loop
 
 pub meet-requires-clause-away : goal.meet-requires-clause-away
 meet-requires-clause-away c =
-    let ready = All-pop (IsReady c.args.queue.now.table.shared.table_id) c.loop-desk.desks.items c.pop.new.self.items (Some c.in-Some.desk) c.in-Some.ensures.items c.loop-desk.invariant.ready in
+    let ready = All-pop (IsReady c.args.queue.now.table.shared.table_id) c.loop-desk.desks.items
+    c.pop.new.self.items (Some c.in-Some.desk) c.in-Some.ensures.items c.loop-desk.invariant.ready in
     (session_by c.in-Some.desk ready.1.1.0 ready.1.1.1, c.into_pass.ensures.view ∙ ready.1.1.2)
 
 pub loop-desk-preserved : goal.loop-desk-preserved
@@ -28,4 +29,5 @@ loop-desk-preserved c =
     }
 
 pub returns : goal.returns
-returns c t taken cl = c.loop-desk.invariant.told t taken cl (λ k d lt. let none = c.in_default.ensures.cases.0 in absurd (omega (arith, none, c.loop-desk.desks.ok)))
+returns c t taken cl = c.loop-desk.invariant.told t taken cl (λ k d lt. let none = c.in_default.ensures.cases.0 in
+    absurd (omega (arith, none, c.loop-desk.desks.ok)))

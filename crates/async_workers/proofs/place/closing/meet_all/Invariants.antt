@@ -12,7 +12,8 @@ invariant-loop-desk l = record {
   same : IsSamePass l.initial.pass l.pass;
   closing : (t : LastSession) (taken : BookData) → IsClosing (view l.initial.pass) t taken → IsClosing (view l.pass) t taken;
   ready : All (IsReady l.queue.table.shared.table_id) l.desks.items;
-  told : (t : LastSession) (taken : BookData) → IsClosing (view l.initial.pass) t taken → All (IsTrueOf taken) l.desks.items → All (IsTrueOf taken) l.initial.desks.items;
+  told : (t : LastSession) (taken : BookData) → IsClosing (view l.initial.pass) t taken →
+      All (IsTrueOf taken) l.desks.items → All (IsTrueOf taken) l.initial.desks.items;
 }
 
 abbrev pub decreases-loop-desk : goal.decreases-loop-desk

@@ -24,7 +24,9 @@ stop_if-requires g c =
     record { hand = (b, c.let_go.ensures.hand b (taken g (goal.at.stop_if-requires g c).After-take-held)) }
 
 -- the book in hand before the give
-last : (g : given.Over) (c : After-stop_if g) → IsInHand c.take-held.new.self c.take-held.result.book c.take-held.result.book → IsInHand c.stop_if.new.desk c.take-held.result.book c.stop_if.new.held.book
+last : (g : given.Over) (c : After-stop_if g) →
+    IsInHand c.take-held.new.self c.take-held.result.book c.take-held.result.book →
+    IsInHand c.stop_if.new.desk c.take-held.result.book c.stop_if.new.held.book
 last g c hand = let b = c.take-held.result.book in c.stop_if.ensures.hand b (c.let_go.ensures.hand b hand)
 
 pub give-requires-clause-held : goal.give-requires-clause-held
@@ -39,7 +41,9 @@ give-requires-clause-number g c =
     (last g at.After-stop_if (taken g at.After-take-held)).in_range
 
 -- the whole session
-served : (g : given.Over) (c : After-give g) → IsInHand c.stop_if.new.desk c.take-held.result.book c.stop_if.new.held.book → Serves c.args.desk.now c.give.new.desk (Leaving c.args.stopping c.args.desk.now.known)
+served : (g : given.Over) (c : After-give g) →
+    IsInHand c.stop_if.new.desk c.take-held.result.book c.stop_if.new.held.book →
+    Serves c.args.desk.now c.give.new.desk (Leaving c.args.stopping c.args.desk.now.known)
 served g c hand =
     let d = c.args.desk.now in
     let e = c.take-held.new.self in
@@ -49,8 +53,11 @@ served g c hand =
     let same = c.take-held.ensures.same in
     let known = c.stop_if.ensures.desk in
     let is_f : f ≡ record e { known = f.known } = known ∙ ap (λ (k : Known). record e { known = k }) (sym (ap (λ (d : DeskData). d.known) known)) in
-    let ends = leaves_so c.args.stopping d e f c.take-held.result c.let_go.new.held held same (ap (λ (h : HeldData). h.caught_up) c.take-held.ensures.held) c.let_go.ensures.held c.stop_if.ensures.held known in
-    serves (Leaving c.args.stopping d.known) d e f c.give.new.desk c.take-held.result.book held.book held.caught_up a.0 a.1 a.2 c.take-held.ensures.took same is_f hand ends c.give.ensures.gave c.give.ensures.same
+    let ends = leaves_so c.args.stopping d e f c.take-held.result c.let_go.new.held held same
+    (ap (λ (h : HeldData). h.caught_up) c.take-held.ensures.held) c.let_go.ensures.held c.stop_if.ensures.held
+    known in
+    serves (Leaving c.args.stopping d.known) d e f c.give.new.desk c.take-held.result.book held.book held.caught_up
+    a.0 a.1 a.2 c.take-held.ensures.took same is_f hand ends c.give.ensures.gave c.give.ensures.same
 
 pub returns-clause-can_turn : goal.returns-clause-can_turn
 returns-clause-can_turn g c =

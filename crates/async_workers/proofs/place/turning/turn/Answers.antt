@@ -12,38 +12,54 @@ use Rattle.async_workers.proofs.place.turning.turn.Goals as goal
 use Rattle.async_workers.proofs.place.turning.turn.Goals.{In_err-outcome, In_ok-outcome}
 
 -- the session if no growth was refused
-well : (g : given.Over) (c : In_ok-outcome g) → (let d = c.args.desk.now in Serves d c.one_session-outcome.new.desk (EndsWell c.args.refresh d.since d.known d.offer c.one_session-outcome.result.0.note c.in_ok-outcome.field-0))
+well : (g : given.Over) (c : In_ok-outcome g) → (let d = c.args.desk.now in Serves d c.one_session-outcome.new.desk
+    (EndsWell c.args.refresh d.since d.known d.offer c.one_session-outcome.result.0.note c.in_ok-outcome.field-0))
 well g c =
     let d = c.args.desk.now in
-    subst (λ (o : Result Claim AllocError). Serves d c.one_session-outcome.new.desk (Ends c.args.refresh d.since d.known d.offer c.one_session-outcome.result.0.note o)) c.in_ok-outcome.was c.one_session-outcome.ensures.serves
+    subst (λ (o : Result Claim AllocError). Serves d c.one_session-outcome.new.desk
+    (Ends c.args.refresh d.since d.known d.offer c.one_session-outcome.result.0.note o))
+    c.in_ok-outcome.was c.one_session-outcome.ensures.serves
 
 -- the session if a growth was refused
-undone : (g : given.Over) (c : In_err-outcome g) → (let d = c.args.desk.now in Serves d c.one_session-outcome.new.desk (EndsUndone c.args.refresh d.since d.known d.offer c.one_session-outcome.result.0.note))
+undone : (g : given.Over) (c : In_err-outcome g) →
+    (let d = c.args.desk.now in Serves d c.one_session-outcome.new.desk
+    (EndsUndone c.args.refresh d.since d.known d.offer c.one_session-outcome.result.0.note))
 undone g c =
     let d = c.args.desk.now in
-    subst (λ (o : Result Claim AllocError). Serves d c.one_session-outcome.new.desk (Ends c.args.refresh d.since d.known d.offer c.one_session-outcome.result.0.note o)) c.in_err-outcome.was c.one_session-outcome.ensures.serves
+    subst (λ (o : Result Claim AllocError). Serves d c.one_session-outcome.new.desk
+    (Ends c.args.refresh d.since d.known d.offer c.one_session-outcome.result.0.note o))
+    c.in_err-outcome.was c.one_session-outcome.ensures.serves
 
 pub returns-clause-can_turn : goal.returns-clause-can_turn
 returns-clause-can_turn g c =
-    can_turn_again c.args.place.now c.args.refresh c.args.desk.now c.one_session-outcome.new.desk c.prepare_offer.new.desk _ _ c.requires (well g (goal.at.returns-clause-can_turn g c).In_ok-outcome) c.prepare_offer.ensures.desk
+    can_turn_again c.args.place.now c.args.refresh c.args.desk.now c.one_session-outcome.new.desk
+    c.prepare_offer.new.desk _ _ c.requires (well g (goal.at.returns-clause-can_turn g c).In_ok-outcome)
+    c.prepare_offer.ensures.desk
 
 pub returns-clause-turned : goal.returns-clause-turned
 returns-clause-turned g c =
-    turned c.args.refresh c.args.place.now c.args.desk.now c.one_session-outcome.new.desk c.prepare_offer.new.desk _ _ c.prepare_offer.result c.requires (well g (goal.at.returns-clause-turned g c).In_ok-outcome) c.prepare_offer.ensures.desk c.prepare_offer.ensures.turn
+    turned c.args.refresh c.args.place.now c.args.desk.now c.one_session-outcome.new.desk c.prepare_offer.new.desk _
+    _ c.prepare_offer.result c.requires (well g (goal.at.returns-clause-turned g c).In_ok-outcome)
+    c.prepare_offer.ensures.desk c.prepare_offer.ensures.turn
 
 pub returns-clause-works : goal.returns-clause-works
 returns-clause-works g c =
     let s = well g (goal.at.returns-clause-works g c).In_ok-outcome in
-    works_with_offer c.args.desk.now c.one_session-outcome.new.desk c.prepare_offer.new.desk _ (serves_on _ c.args.desk.now c.one_session-outcome.new.desk s) c.prepare_offer.ensures.desk
+    works_with_offer c.args.desk.now c.one_session-outcome.new.desk c.prepare_offer.new.desk _
+    (serves_on _ c.args.desk.now c.one_session-outcome.new.desk s) c.prepare_offer.ensures.desk
 
 pub returns-clause-stops : goal.returns-clause-stops
 returns-clause-stops g c asked =
-    stops_run c.args.refresh c.args.place.now c.args.desk.now c.one_session-outcome.new.desk _ _ c.prepare_offer.result c.requires (well g (goal.at.returns-clause-stops g c).In_ok-outcome) c.prepare_offer.ensures.turn asked
+    stops_run c.args.refresh c.args.place.now c.args.desk.now c.one_session-outcome.new.desk _ _
+    c.prepare_offer.result c.requires (well g (goal.at.returns-clause-stops g c).In_ok-outcome)
+    c.prepare_offer.ensures.turn asked
 
 pub returns-in_err-outcome-clause-can_turn : goal.returns-in_err-outcome-clause-can_turn
 returns-in_err-outcome-clause-can_turn g c =
     let s = undone g (goal.at.returns-in_err-outcome-clause-can_turn g c).In_err-outcome in
-    can_turn_without c.args.place.now _ c.args.desk.now c.one_session-outcome.new.desk s (faulted c.args.refresh c.args.desk.now c.one_session-outcome.new.desk c.one_session-outcome.result.0.note s).no_claim c.requires.ready.0
+    can_turn_without c.args.place.now _ c.args.desk.now c.one_session-outcome.new.desk s
+    (faulted c.args.refresh c.args.desk.now c.one_session-outcome.new.desk c.one_session-outcome.result.0.note
+    s).no_claim c.requires.ready.0
 
 pub returns-in_err-outcome-clause-fault : goal.returns-in_err-outcome-clause-fault
 returns-in_err-outcome-clause-fault g c =
@@ -52,4 +68,5 @@ returns-in_err-outcome-clause-fault g c =
     rw memory.1 (memory.2, faulted c.args.refresh c.args.desk.now c.one_session-outcome.new.desk c.one_session-outcome.result.0.note s)
 
 pub returns-in_err-outcome-clause-works : goal.returns-in_err-outcome-clause-works
-returns-in_err-outcome-clause-works g c = serves_on _ c.args.desk.now c.one_session-outcome.new.desk (undone g (goal.at.returns-in_err-outcome-clause-works g c).In_err-outcome)
+returns-in_err-outcome-clause-works g c = serves_on _ c.args.desk.now c.one_session-outcome.new.desk
+    (undone g (goal.at.returns-in_err-outcome-clause-works g c).In_err-outcome)

@@ -31,7 +31,8 @@ raise-requires-clause-price c =
 pub requeue-requires : goal.requeue-requires
 requeue-requires c =
     let free : IsFree c.args.self.now = subst IsFree c.self.view_is c.self.invariant.3 in
-    let room = subst (λ (b : BookData). length b.queue < length b.owners) (sym c.self.view_is) (room_in_queue c.args.self.now c.args.worker c.args.bid.person free c.requires.held) in
+    let room = subst (λ (b : BookData). length b.queue < length b.owners) (sym c.self.view_is)
+    (room_in_queue c.args.self.now c.args.worker c.args.bid.person free c.requires.held) in
     let cap = c.self.invariant.0 in
     omega arith
 
@@ -39,7 +40,9 @@ pub overflow_add-index_mut : goal.overflow_add-index_mut
 overflow_add-index_mut c =
     let s = c.self.inside in
     let hw : 0 < c.args.worker = c.requires.worker.first in
-    let lc : c.args.worker ≤ length s.claims.items = (subst (λ (x : BookData). IsNumber (length x.claims) c.args.worker) (sym c.self.view_is) c.requires.worker).last in
+    let lc : c.args.worker ≤ length s.claims.items =
+    (subst (λ (x : BookData). IsNumber (length x.claims) c.args.worker) (sym c.self.view_is)
+    c.requires.worker).last in
     let ln : c.args.worker ≤ length s.counts.items = subst (λ m. c.args.worker ≤ m) (sym c.self.invariant.3.sizes.counted) lc in
     let lt : c.args.worker - 1 < length s.counts.items = omega arith in
     let at = get_or_read s.counts.items (c.args.worker - 1) c.index_mut-3.result.now lt c.index_mut-3.ensures.value 0 in
@@ -61,9 +64,19 @@ returns-clause-ok c =
     let more = numbered_read s.counts.items w c.index_mut-3.result.now 0 hw ln c.index_mut-3.ensures.value in
     let f : SFits w128 bid.level = search rules in
     let made : c.raise.new.self ≡ after_raise s.log bid.object bid.level = simp to_z-of_z at c.in_ok-raise.ensures.ok in
-    let out = numbered_read s.owners.items bid.object c.index.result.now None ho lo (subst (λ m. c.index.result.now ≡ get_or s.owners.items m c.index.result.now) at c.index.ensures) in (
+    let out = numbered_read s.owners.items bid.object c.index.result.now None ho lo
+    (subst (λ m. c.index.result.now ≡ get_or s.owners.items m c.index.result.now) at c.index.ensures) in (
       out ∙ ap (λ (x : BookData). owner_of x.owners bid.object) is,
-      rw (at, more, sym (renumber-set s.owners.items bid.object (Some bid.person) ho), sym (renumber-set s.claims.items w None hw), sym (renumber-set s.counts.items w (numbered s.counts.items w 0 + 1) hw), c.requeue.ensures.queue, out, made) (ap (λ (x : BookData). accepted x w bid) is),
+      rw (
+        at,
+        more,
+        sym (renumber-set s.owners.items bid.object (Some bid.person) ho),
+        sym (renumber-set s.claims.items w None hw),
+        sym (renumber-set s.counts.items w (numbered s.counts.items w 0 + 1) hw),
+        c.requeue.ensures.queue,
+        out,
+        made,
+      ) (ap (λ (x : BookData). accepted x w bid) is),
     )
 
 pub invariant_of-self-2 : goal.invariant_of-self-2
@@ -74,13 +87,16 @@ invariant_of-self-2 c =
     let b = c.args.self.now in
     let ho : 0 < bid.object = c.requires.object.first in
     let at : c.place-place.result ≡ bid.object - 1 = c.place-place.ensures in
-    let lo : bid.object ≤ length s.owners.items = (subst (λ (x : BookData). IsNumber (length x.owners) bid.object) (sym c.self.view_is) c.requires.object).last in
-    let out = numbered_read s.owners.items bid.object c.index.result.now None ho lo (subst (λ m. c.index.result.now ≡ get_or s.owners.items m c.index.result.now) at c.index.ensures) in
+    let lo : bid.object ≤ length s.owners.items = (subst (λ (x : BookData). IsNumber (length x.owners) bid.object)
+    (sym c.self.view_is) c.requires.object).last in
+    let out = numbered_read s.owners.items bid.object c.index.result.now None ho lo
+    (subst (λ m. c.index.result.now ≡ get_or s.owners.items m c.index.result.now) at c.index.ensures) in
     let q = c.requires.sound in
     let free = subst IsFree c.self.view_is c.self.invariant.3 in
     let now = accepted_free b w bid free (sound_above b.base b.ask q.0 (prices_of b) bid q.1 q.2) c.requires.high c.requires.held in (
       rw (length-set, c.requeue.ensures.capacity) c.self.invariant.0,
-      owned_more s.owners.items bid.object bid.person c.place-place.result s.owned c.newly_owned.result c.index.result.now at ho lo c.self.invariant.1 out c.newly_owned.ensures,
+      owned_more s.owners.items bid.object bid.person c.place-place.result s.owned c.newly_owned.result
+          c.index.result.now at ho lo c.self.invariant.1 out c.newly_owned.ensures,
       rw length-set c.self.invariant.2,
       subst IsFree (sym (returns-clause-ok c).1) now,
     )

@@ -10,7 +10,8 @@ new-requires c =
     let free = c.invariant.ensures in
     let complete = done_is b (sym c.is_done.ensures.done ∙ c.if-not-is_done.false) in
     let long = c.in_ok-objects.ensures.long ∙ ap length c.owners.ensures.owners ∙ free.owners_match.long in
-    let inverse = subst (λ (owners : List (Option ℕ)). (i j : ℕ) → owner_of owners j ≡ Some i → numbered c.in_ok-objects.objects.items i 0 ≡ j) c.owners.ensures.owners c.in_ok-objects.ensures.owned in
+    let inverse = subst (λ (owners : List (Option ℕ)). (i j : ℕ) → owner_of owners j ≡ Some i →
+    numbered c.in_ok-objects.objects.items i 0 ≡ j) c.owners.ensures.owners c.in_ok-objects.ensures.owned in
     (certified b c.in_ok-objects.objects.items free complete long (all_own b c.in_ok-objects.objects.items free complete inverse)).assigned.apart
 
 pub returns : goal.returns
@@ -19,5 +20,12 @@ returns c =
     let free = c.invariant.ensures in
     let done = sym c.is_done.ensures.done ∙ c.if-not-is_done.false in
     let long = c.in_ok-objects.ensures.long ∙ ap length c.owners.ensures.owners ∙ free.owners_match.long in
-    let inverse = subst (λ (owners : List (Option ℕ)). (i j : ℕ) → owner_of owners j ≡ Some i → numbered c.in_ok-objects.objects.items i 0 ≡ j) c.owners.ensures.owners c.in_ok-objects.ensures.owned in
-    record { answer = (done, answered b c.in_ok-objects.objects.items c.new.result c.in_ok-prices.prices free (done_is b done) c.new.ensures (c.in_ok-prices.ensures ∙ c.prices.ensures.prices) long inverse) }
+    let inverse = subst (λ (owners : List (Option ℕ)). (i j : ℕ) → owner_of owners j ≡ Some i →
+    numbered c.in_ok-objects.objects.items i 0 ≡ j) c.owners.ensures.owners c.in_ok-objects.ensures.owned in
+    record {
+      answer = (
+        done,
+        answered b c.in_ok-objects.objects.items c.new.result c.in_ok-prices.prices free
+            (done_is b done) c.new.ensures (c.in_ok-prices.ensures ∙ c.prices.ensures.prices) long inverse,
+      );
+    }

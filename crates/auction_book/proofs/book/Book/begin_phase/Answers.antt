@@ -1,4 +1,5 @@
-use Rattle.std.proofs.Common.{◌≡◌, pos, Option, None, true, count_by, drop, length, replicate, unwrap_or, ℕ, refl, sym, ap, ◌∙◌, subst, arith, rules, SFits, is_some}
+use Rattle.std.proofs.Common.{◌≡◌, pos, Option, None, true, count_by, drop, length, replicate, unwrap_or, ℕ, refl}
+use Rattle.std.proofs.Common.{sym, ap, ◌∙◌, subst, arith, rules, SFits, is_some}
 use Rattle.std.specs.Int.{w64, w128}
 use Rattle.std.specs.Arc.{arc_value}
 use Rattle.std.proofs.lemmas.Int.{to_z-of_z}
@@ -49,15 +50,20 @@ returns-clause-book c =
     let base = c.deref.ensures in
     let over = subst (λ b. is_over b ≡ true) (sym c.self.view_is) c.requires.over in
     let value : c.next_eps.result ≡ next_eps s.ask.eps = simp to_z-of_z at c.next_eps.ensures.value in
-    let eps : c.unwrap_or-eps.result ≡ fifth s.ask.eps = c.unwrap_or-eps.ensures ∙ ap (λ o. unwrap_or o (pos 1)) (value ∙ next_is s.ask.eps (over_is (book_of s) over).more) in
+    let eps : c.unwrap_or-eps.result ≡ fifth s.ask.eps = c.unwrap_or-eps.ensures ∙ ap (λ o. unwrap_or o (pos 1))
+    (value ∙ next_is s.ask.eps (over_is (book_of s) over).more) in
     let start : c.args.start ≡ today s.log = c.requires.start ∙ ap prices_of (sym c.self.view_is) in
     let top : c.greatest-p0.result ≡ greatest_of (today s.log) = c.greatest-p0.ensures ∙ ap greatest_of (c.as_slice.ensures.prices ∙ start) in
     let floor : c.floor-floor.result ≡ floor_of (arc_value s.scaled) (greatest_of (today s.log)) (fifth s.ask.eps) =
-    simp to_z-of_z at c.floor-floor.ensures ∙ ap (λ b. floor_of b c.greatest-p0.result c.unwrap_or-eps.result) base ∙ ap (λ p. floor_of (arc_value s.scaled) p c.unwrap_or-eps.result) top ∙ ap (floor_of (arc_value s.scaled) (greatest_of (today s.log))) eps in
+    simp to_z-of_z at c.floor-floor.ensures ∙ ap (λ b. floor_of b c.greatest-p0.result c.unwrap_or-eps.result)
+    base ∙ ap (λ p. floor_of (arc_value s.scaled) p c.unwrap_or-eps.result) top ∙
+    ap (floor_of (arc_value s.scaled) (greatest_of (today s.log))) eps in
     let n : c.n-n.result ≡ length (arc_value s.scaled).problem = c.n-n.ensures.count ∙ ap (λ (b : ScaledProblem). length b.problem) c.deref-2.ensures in
     let long : length s.owners.items ≡ length (arc_value s.scaled).problem = c.self.invariant.3.owners_match.long in
-    let free : c.free_all.new.owners ≡ replicate (length (arc_value s.scaled).problem) None = c.free_all.ensures ∙ ap (λ m. replicate m None) (ap length c.as_mut_slice.ensures.value ∙ long) in
-    let whole = take_at c.free_all.new.owners (drop (length c.free_all.new.owners) s.owners.items) s.owners.len (ap length free ∙ length-replicate (length (arc_value s.scaled).problem) None ∙ sym long ∙ sym s.owners.ok.0) in
+    let free : c.free_all.new.owners ≡ replicate (length (arc_value s.scaled).problem) None = c.free_all.ensures ∙
+    ap (λ m. replicate m None) (ap length c.as_mut_slice.ensures.value ∙ long) in
+    let whole = take_at c.free_all.new.owners (drop (length c.free_all.new.owners) s.owners.items) s.owners.len
+    (ap length free ∙ length-replicate (length (arc_value s.scaled).problem) None ∙ sym long ∙ sym s.owners.ok.0) in
     let owners = whole ∙ free in
     let queue = c.queue_all.ensures.queue ∙ ap persons n in
     let version = c.version-self-inside.ensures in

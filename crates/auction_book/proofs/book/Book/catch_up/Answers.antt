@@ -21,7 +21,8 @@ invariant_of-self c =
     let taken : set s.taken.items (w - 1) c.catch_up.new.version ≡ renumbered s.taken.items w (last_version s.log) =
     ap (set s.taken.items (w - 1)) v ∙ sym (renumber-set s.taken.items w (last_version s.log) c.requires.worker.first) in
     let least : c.least_of-least.result ≡ least_taken (renumbered s.taken.items w (last_version s.log)) (last_version s.log) =
-    c.least_of-least.ensures ∙ ap (λ l. least_taken l c.catch_up.new.version) (c.as_slice.ensures.value ∙ taken) ∙ ap (least_taken (renumbered s.taken.items w (last_version s.log))) v in
+    c.least_of-least.ensures ∙ ap (λ l. least_taken l c.catch_up.new.version) (c.as_slice.ensures.value ∙ taken) ∙
+    ap (least_taken (renumbered s.taken.items w (last_version s.log))) v in
     let log = c.trim_to.ensures ∙ ap (trimmed_to s.log) least in
     (c.self.invariant.0, c.self.invariant.1, c.self.invariant.2, rw (taken, log) (caught_up_free _ w c.self.invariant.3))
 

@@ -21,7 +21,8 @@ returns-in-Some-clause-held c =
     let b = c.args.self.now in
     let w = c.args.worker in
     let some = c.in-Some.ensures.some in
-    let held = numbered-same b.claims w (Some (get_or b.queue 0 0)) None c.requires.worker.first c.requires.worker.last ∙ ap (λ q. Some (get_or q 0 0)) some.1 in (
+    let held = numbered-same b.claims w (Some (get_or b.queue 0 0)) None c.requires.worker.first
+    c.requires.worker.last ∙ ap (λ q. Some (get_or q 0 0)) some.1 in (
       c.ask-ask.ensures ∙ sym (ap (λ (b : BookData). b.ask) some.2),
       ap (λ (b : BookData). numbered b.claims w None) some.2 ∙ held,
     )

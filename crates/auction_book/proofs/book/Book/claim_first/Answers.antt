@@ -20,7 +20,12 @@ invariant_of-self-2 c =
       rw c.pop_front.ensures.capacity c.self.invariant.0,
       c.self.invariant.1,
       rw length-set c.self.invariant.2,
-      rw (c.pop_front.ensures.rest, person, sym (renumber-set s.claims.items w (Some (get_or s.queue.items 0 0)) first)) (claimed_free _ w c.self.invariant.3 first last none (omega arith)),
+      rw (
+        c.pop_front.ensures.rest,
+        person,
+        sym (renumber-set s.claims.items w (Some (get_or s.queue.items 0 0))
+            first),
+      ) (claimed_free _ w c.self.invariant.3 first last none (omega arith)),
     )
 
 pub returns-clause-free : goal.returns-clause-free

@@ -17,7 +17,9 @@ floor-floor-requires-clause-price c =
     simp to_z-of_z (greatest_read c.args.prices _ _ c.greatest-p0.ensures c.as_slice.ensures.prices c.as_slice.ensures.table)
 
 free : (c : goal.In_ok-log) → IsFree (opened (arc_value c.args.scaled) c.args.prices c.args.workers)
-free c = opened_free (arc_value c.args.scaled) c.args.prices c.args.workers (subst (λ (b : ScaledProblem). IsProblem b.problem) c.deref.ensures c.n-n.ensures.rule) c.as_slice.ensures.table c.requires.long c.requires.low
+free c = opened_free (arc_value c.args.scaled) c.args.prices c.args.workers
+    (subst (λ (b : ScaledProblem). IsProblem b.problem) c.deref.ensures c.n-n.ensures.rule) c.as_slice.ensures.table
+    c.requires.long c.requires.low
 
 pub returns-clause-book : goal.returns-clause-book
 returns-clause-book c =
@@ -29,7 +31,9 @@ returns-clause-book c =
     let eps : c.first_eps-eps.result ≡ first_eps base = c.first_eps-eps.ensures.value ∙ ap first_eps c.deref-2.ensures in
     let top : c.greatest-p0.result ≡ greatest_of c.args.prices = c.greatest-p0.ensures ∙ ap greatest_of c.as_slice.ensures.prices in
     let floor : c.floor-floor.result ≡ floor_of base (greatest_of c.args.prices) (first_eps base) =
-    simp to_z-of_z at c.floor-floor.ensures ∙ ap (λ b. floor_of b c.greatest-p0.result c.first_eps-eps.result) c.deref-3.ensures ∙ ap (λ p. floor_of base p c.first_eps-eps.result) top ∙ ap (floor_of base (greatest_of c.args.prices)) eps in
+    simp to_z-of_z at c.floor-floor.ensures ∙ ap (λ b. floor_of b c.greatest-p0.result c.first_eps-eps.result)
+    c.deref-3.ensures ∙ ap (λ p. floor_of base p c.first_eps-eps.result) top ∙
+    ap (floor_of base (greatest_of c.args.prices)) eps in
     let no_one : c.in_ok-owners.owners.items ≡ replicate c.n-n.result None = search rules in
     let owners : c.in_ok-owners.owners.items ≡ replicate (length base.problem) None = no_one ∙ ap (λ m. replicate m None) n in
     let claims : c.in_ok-claims.claims.items ≡ replicate c.args.workers None = search rules in

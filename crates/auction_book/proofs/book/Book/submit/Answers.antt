@@ -16,8 +16,19 @@ returns-then-is_low-clause-submitted c =
     let f : SFits w64 c.ask-ask.result.eps = search rules in
     let g : SFits w128 c.args.bid.level = search rules in
     let p = c.price-price.ensures.range in
-    let same : c.args.bid.phase ≡ c.args.self.now.ask.phase = search rules in
-    (c.if-not-holds.ensures.holds.0 refl, same, omega (arith, ints, c.if-is_low.ensures, c.price-price.ensures.price, eps), omega (arith, ints, c.price-price.ensures.price), c.release-then-is_low.ensures.book)
+    let same : c.args.bid.phase ≡ c.args.self.now.ask.phase = search rules in (
+      c.if-not-holds.ensures.holds.0 refl,
+      same,
+      omega (
+        arith,
+        ints,
+        c.if-is_low.ensures,
+        c.price-price.ensures.price,
+        eps,
+      ),
+      omega (arith, ints, c.price-price.ensures.price),
+      c.release-then-is_low.ensures.book,
+    )
 
 -- a bid that isn't too low is high
 is_high : (c : After-accept) → IsHigh c.args.self.now c.args.bid

@@ -11,6 +11,8 @@ loop-price-preserved c =
     let few = c.gap-room.ensures.few in
     let most = c.loop-price.invariant.most in
     record {
-      value = simp to_z-of_z (room_more c.args.top c.args.prices.now c.loop-price.price-index c.loop-price.room c.gap-room.result _ c.loop-price-test.true (simp to_z-of_z at c.gap-room.ensures.value) (simp to_z-of_z at c.loop-price.invariant.value));
+      value = simp to_z-of_z (room_more c.args.top c.args.prices.now c.loop-price.price-index c.loop-price.room
+          c.gap-room.result _ c.loop-price-test.true (simp to_z-of_z at c.gap-room.ensures.value)
+          (simp to_z-of_z at c.loop-price.invariant.value));
       most = omega (arith, ints);
     }

@@ -20,7 +20,8 @@ invariant_of-self-then-is_white c =
     let near = start.near in
     let lt = c.if-count-bytes.true in
     let count = c.self.invariant.count in
-    let more = one_more (layout_in c.self.inside.pairs) c.go_on_by_digits-digits.result.0 (found_in c.self.inside.pairs) (found_in c.take.new.self) c.in_ok-take.ensures.found in
+    let more = one_more (layout_in c.self.inside.pairs) c.go_on_by_digits-digits.result.0
+    (found_in c.self.inside.pairs) (found_in c.take.new.self) c.in_ok-take.ensures.found in
     record {
       near = omega (arith, near, lt);
       value = c.self.invariant.value;

@@ -9,7 +9,15 @@ abbrev pub invariant-loop-count : goal.invariant-loop-count
 invariant-loop-count l = record {
   few : l.count ≤ length l.bytes;
   after : (layout : Layout) (at : ℕ) (found : List ℤ) → at + length l.bytes ≤ TEXT_LIMIT →
-      after (Ok (within_token layout (at + l.count) (record { place = l.fn.self.place; is_negative = l.fn.self.is_negative; has_digits = l.has_digits; is_bad = l.fn.self.is_bad; value = l.value }) found)) (drop l.count l.bytes)
+      after (Ok (within_token layout (at + l.count) (record {
+        place = l.fn.self.place;
+        is_negative =
+            l.fn.self.is_negative;
+        has_digits = l.has_digits;
+        is_bad = l.fn.self.is_bad;
+        value = l.value;
+      }) found))
+      (drop l.count l.bytes)
       ≡ after (Ok (within_token layout at l.fn.self found)) l.bytes;
   bound : l.value ≤ VALUE_LIMIT;
 }

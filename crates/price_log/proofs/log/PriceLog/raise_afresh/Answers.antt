@@ -7,7 +7,8 @@ use Rattle.price_log.specs.History.{History, today, last_version}
 use Rattle.price_log.specs.Changes.{trimmed, with_raise}
 use Rattle.price_log.specs.declared.raise.Raise.{Raise}
 use Rattle.price_log.specs.declared.log.TheConstants.{MOST_KEPT}
-use Rattle.price_log.proofs.Histories.{afresh-trimmed, afresh_is, version_fits}
+use Rattle.price_log.proofs.Versions.{version_fits}
+use Rattle.price_log.proofs.Histories.{afresh-trimmed, afresh_is}
 use Rattle.price_log.proofs.log.PriceLog.raise_afresh.Goals as goal
 
 pub push_back_reserved-requires : goal.push_back_reserved-requires
@@ -31,7 +32,8 @@ overflow_add-self c =
     record { fits = omega arith }
 
 -- the queue after the raise
-pushed : (c : goal.After-set) → c.push_back_reserved.new.self.items ≡ drop MOST_KEPT c.self.inside.raises.items ++ record { object = c.args.object; level = c.args.level } ∷ []
+pushed : (c : goal.After-set) → c.push_back_reserved.new.self.items ≡ drop MOST_KEPT c.self.inside.raises.items ++
+    record { object = c.args.object; level = c.args.level } ∷ []
 pushed c =
     let f : SFits w128 c.args.level = c.ranges.level in
     let r : Raise = record { object = c.args.object; level = c.args.level } in
@@ -58,4 +60,5 @@ returns c =
     let was : History = record { first_kept = s.first_kept; base = s.base; raises = s.raises.items } in
     let full : length was.raises ≡ MOST_KEPT = subst (λ (l : History). length l.raises ≡ MOST_KEPT) (sym c.self.view_is) c.requires.full in
     rw (c.move_raises.ensures.table, pushed c)
-    (afresh-trimmed was c.args.object c.args.level full ∙ ap (λ (l : History). with_raise (trimmed l (last_version l)) c.args.object c.args.level) c.self.view_is)
+    (afresh-trimmed was c.args.object c.args.level full ∙
+    ap (λ (l : History). with_raise (trimmed l (last_version l)) c.args.object c.args.level) c.self.view_is)

@@ -7,9 +7,13 @@ use Rattle.rounds.proofs.kinds.Kinds.find.Goals as goal
 pub rehashed_persons-requires : goal.rehashed_persons-requires
 rehashed_persons-requires c =
     let n = length c.args.scaled.now.problem in
-    subst (All (λ e. IsNumber n e.1)) (sym c.as_slice.ensures.value) (All-permutation (λ e. IsNumber n e.1) c.in_ok-hashed.hashed.items c.sort_unstable.new.self.items c.sort_unstable.ensures.permutation c.in_ok-hashed.ensures)
+    subst (All (λ e. IsNumber n e.1)) (sym c.as_slice.ensures.value) (All-permutation (λ e. IsNumber n e.1)
+    c.in_ok-hashed.hashed.items c.sort_unstable.new.self.items c.sort_unstable.ensures.permutation
+    c.in_ok-hashed.ensures)
 
 pub among-requires : goal.among-requires
 among-requires c =
     let n = length c.args.scaled.now.problem in
-    subst (All (λ e. IsNumber n e.1)) (sym c.as_slice-2.ensures.value) (All-permutation (λ e. IsNumber n e.1) c.in_ok-again.again.items c.sort_unstable-2.new.self.items c.sort_unstable-2.ensures.permutation c.in_ok-again.ensures)
+    subst (All (λ e. IsNumber n e.1)) (sym c.as_slice-2.ensures.value) (All-permutation (λ e. IsNumber n e.1)
+    c.in_ok-again.again.items c.sort_unstable-2.new.self.items c.sort_unstable-2.ensures.permutation
+    c.in_ok-again.ensures)

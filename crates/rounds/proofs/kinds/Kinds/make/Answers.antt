@@ -15,7 +15,8 @@ returns-clause-made g c =
     let places = c.as_slice-4.result.now in
     let offers = offers_of s c.args.prices.now c.args.ask in
     let gathered = subst (λ xs. IsGathered xs persons firsts c.gather.new.places.items) c.as_slice.ensures.value c.in_ok-gather.ensures in
-    shared_offers s c.args.prices.now c.args.ask alike persons firsts places c.as_slice-3.result.now c.hand_out.new.offers.items (c.requires.kinds.alike some) c.requires.can.numbers
+    shared_offers s c.args.prices.now c.args.ask alike persons firsts places c.as_slice-3.result.now
+    c.hand_out.new.offers.items (c.requires.kinds.alike some) c.requires.can.numbers
     (subst (IsGathered alike persons firsts) (sym c.as_slice-4.ensures.value) gathered)
     (c.as_slice-3.ensures.value ∙ c.in_ok-make.ensures ∙ ap offers c.as_slice-2.ensures.value)
     c.in_ok-hand_out.ensures.long

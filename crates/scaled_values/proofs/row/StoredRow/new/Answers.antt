@@ -5,7 +5,8 @@ use Rattle.scaled_values.proofs.FullRows.{full_entries, length-rising}
 use Rattle.scaled_values.proofs.row.StoredRow.new.Goals as goal
 
 pub returns-in_ok-benefits-clause-entries : goal.returns-in_ok-benefits-clause-entries
-returns-in_ok-benefits-clause-entries c = ap (row_from 1) c.in_ok-benefits.ensures.benefits ∙ full_entries c.args.sense c.args.n c.args.row.now c.requires.row (omega (arith, c.if-row-n.true))
+returns-in_ok-benefits-clause-entries c = ap (row_from 1) c.in_ok-benefits.ensures.benefits ∙
+    full_entries c.args.sense c.args.n c.args.row.now c.requires.row (omega (arith, c.if-row-n.true))
 
 pub returns-in_ok-pairs-clause-form : goal.returns-in_ok-pairs-clause-form
 returns-in_ok-pairs-clause-form c =

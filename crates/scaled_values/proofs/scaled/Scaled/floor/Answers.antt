@@ -34,4 +34,5 @@ returns c =
     let outer_fits : SFits w128 (c.from.result -ℤ c.args.p0 -ℤ c.steps.result) = omega (arith, ints) in
     simp to_z-of_z
     (ap (λ x. x -ℤ c.args.p0 -ℤ c.steps.result) (from ∙ c.least_benefit.ensures.value)
-    ∙ ap (λ x. least_benefit c.args.self.now -ℤ c.args.p0 -ℤ x) (steps ∙ ap (λ m. pos (m - 1) *ℤ c.step.result) c.n.ensures.count ∙ ap (λ x. pos (length c.args.self.now.problem - 1) *ℤ x) step))
+    ∙ ap (λ x. least_benefit c.args.self.now -ℤ c.args.p0 -ℤ x) (steps ∙ ap (λ m. pos (m - 1) *ℤ c.step.result)
+    c.n.ensures.count ∙ ap (λ x. pos (length c.args.self.now.problem - 1) *ℤ x) step))

@@ -19,7 +19,8 @@ pub returns-clause-entries : goal.returns-clause-entries
 returns-clause-entries c =
     let kept = c.self.inside.rows.items in
     let at = subst (λ k. c.index.result.now ≡ get_or kept k c.index.result.now) c.place.ensures c.index.ensures in
-    row_of-mapped stored_entries kept (benefits_of c.args.self.now) c.args.person c.index.result.now (entries_of c.as_row.result) (shown c) c.requires.first (last c) at c.as_row.ensures.entries
+    row_of-mapped stored_entries kept (benefits_of c.args.self.now) c.args.person c.index.result.now
+    (entries_of c.as_row.result) (shown c) c.requires.first (last c) at c.as_row.ensures.entries
 
 pub returns-clause-form : goal.returns-clause-form
 returns-clause-form c =
@@ -32,7 +33,8 @@ returns-clause-form c =
     (subst (HasStoredForm (length c.self.inside.problem)) (sym c.index.ensures) kept))
 
 pub returns-clause-rule : goal.returns-clause-rule
-returns-clause-rule c = benefit_row_is c.args.self.now c.args.person (let P = λ (r : List Listing). IsProblem r in subst P (ap (λ s. s.problem) c.self.view_is) c.self.invariant.problem) c.requires
+returns-clause-rule c = benefit_row_is c.args.self.now c.args.person (let P = λ (r : List Listing). IsProblem r in
+    subst P (ap (λ s. s.problem) c.self.view_is) c.self.invariant.problem) c.requires
 
 pub returns-clause-bounds : goal.returns-clause-bounds
 returns-clause-bounds c = benefits_between c.args.self.now c.args.person

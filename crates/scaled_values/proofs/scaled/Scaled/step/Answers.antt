@@ -9,7 +9,8 @@ use Rattle.scaled_values.proofs.scaled.Scaled.step.Goals as goal
 
 step_is : (c : goal.After-spread) → IsStep (c.spread.result +ℤ c.args.eps)
 step_is c =
-    let range : IsSpread (spread c.args.self.now) = subst IsSpread c.spread.ensures.value (record { least = c.spread.ensures.least; greatest = c.spread.ensures.greatest }) in
+    let range : IsSpread (spread c.args.self.now) = subst IsSpread c.spread.ensures.value
+    (record { least = c.spread.ensures.least; greatest = c.spread.ensures.greatest }) in
     subst (λ d. IsStep (d +ℤ c.args.eps)) (sym c.spread.ensures.value) (IsStep-spread c.args.self.now c.args.eps range c.requires)
 
 pub overflow_add-result : goal.overflow_add-result

@@ -1,0 +1,139 @@
+// Problems of as many objects as persons, two or three: all plans are tried. A path from one person
+// to another costs what it adds that each takes the next one's object. The price of a person's
+// object is the mean, over all persons, of the least that a path to them costs; at these prices all
+// other pairs are worse, if any other plan is.
+ghost use Rattle.std.specs.Prelude.{◌≡◌, length};
+
+use super::hall::as_number;
+use super::range::{Range, greater, lesser};
+use super::solver::Problem;
+
+const PERSONS: usize = 3;
+
+const PLANS: [[usize; PERSONS]; 6] = [
+    [0, 1, 2],
+    [0, 2, 1],
+    [1, 0, 2],
+    [1, 2, 0],
+    [2, 0, 1],
+    [2, 1, 0],
+];
+
+// 2^-46: a plan must be better by this part of the greatest cost than rounding can make it.
+const PART: f64 = 0.000000000000014210854715202004;
+
+// A plan, the price of each person's object, and by how much other pairs are worse.
+#[derive(Clone, Copy)]
+struct Found {
+    objects: [usize; PERSONS],
+    prices: [f64; PERSONS],
+    worse: f64,
+}
+
+impl<'a> Problem<'a> {
+    // The cost of a pair, to be minimised.
+    fn turned(self, person: usize, object: usize) -> f64 {
+        let place = person.wrapping_mul(self.persons).wrapping_add(object);
+        self.costs.get(place).copied().unwrap_or(0.0) * self.sign()
+    }
+
+    fn best_of_two(self) -> Found {
+        let (a, b) = (self.turned(0, 0), self.turned(0, 1));
+        let (c, d) = (self.turned(1, 0), self.turned(1, 1));
+        let is_straight = a + d <= b + c;
+        let first = if is_straight { b - a } else { a - b };
+        let second = if is_straight { c - d } else { d - c };
+        Found {
+            objects: if is_straight { [0, 1, 2] } else { [1, 0, 2] },
+            prices: [0.5 * first, 0.5 * second, 0.0],
+            worse: 0.5 * (first + second),
+        }
+    }
+
+    // A plan of three with the least sum.
+    fn least_plan(self) -> [usize; PERSONS] {
+        let mut best = PLANS[0];
+        let mut least = f64::INFINITY;
+        for plan in PLANS {
+            let sum = self.turned(0, plan[0]) + self.turned(1, plan[1]) + self.turned(2, plan[2]);
+            best = if sum < least { plan } else { best };
+            least = lesser(sum, least);
+        }
+        best
+    }
+
+    // By how much a person's other objects cost more: those that the next two persons have.
+    fn more_of(self, person: usize, own: usize, next: usize, last: usize) -> (f64, f64) {
+        let cost = self.turned(person, own);
+        (
+            self.turned(person, next) - cost,
+            self.turned(person, last) - cost,
+        )
+    }
+
+    fn best_of_three(self) -> Found {
+        let objects = self.least_plan();
+        let (x, y, z) = (objects[0], objects[1], objects[2]);
+        let (xy, xz) = self.more_of(0, x, y, z);
+        let (yz, yx) = self.more_of(1, y, z, x);
+        let (zx, zy) = self.more_of(2, z, x, y);
+        let third = 1.0 / 3.0;
+        let first = third * (lesser(xy, xz + zy) + lesser(xz, xy + yz));
+        let second = third * (lesser(yz, yx + xz) + lesser(yx, yz + zx));
+        let last = third * (lesser(zx, zy + yx) + lesser(zy, zx + xy));
+        let of_first = lesser(xy - first + second, xz - first + last);
+        let of_second = lesser(yz - second + last, yx - second + first);
+        let of_last = lesser(zx - last + first, zy - last + second);
+        Found {
+            objects,
+            prices: [first, second, last],
+            worse: lesser(of_first, lesser(of_second, of_last)),
+        }
+    }
+
+    // The greatest absolute value of a cost.
+    fn size(self) -> f64 {
+        let mut size = 0.0;
+        for cost in self.costs {
+            size = greater(cost.abs(), size);
+        }
+        size
+    }
+
+    // Writes a best plan and prices, if one is better than any other by far more than rounding.
+    // Returns the margin.
+    pub fn solve_small(self, objects: &mut [u32], prices: &mut [f64]) -> Option<f64>
+        ensures objects { length objects.new ≡ length objects.old }
+        ensures prices { length prices.new ≡ length prices.old }
+    {
+        if self.persons != self.objects || (self.persons != 2 && self.persons != 3) {
+            return None;
+        }
+        let size = self.size();
+        let found = if self.persons == 2 {
+            self.best_of_two()
+        } else {
+            self.best_of_three()
+        };
+        if !(size < f64::INFINITY && found.worse > size * PART && found.worse < f64::INFINITY) {
+            return None;
+        }
+        write_found(found, objects, prices);
+        Some(Range::margin_at(size))
+    }
+}
+
+fn write_found(found: Found, objects: &mut [u32], prices: &mut [f64])
+    ensures objects { length objects.new ≡ length objects.old }
+    ensures prices { length prices.new ≡ length prices.old }
+{
+    for (k, object) in objects.iter_mut().enumerate() {
+        if k < PERSONS {
+            let place = found.objects[k];
+            *object = as_number(place);
+            if place < prices.len() {
+                prices[place] = found.prices[k];
+            }
+        }
+    }
+}

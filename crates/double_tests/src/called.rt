@@ -1,0 +1,89 @@
+// Calls on lists as a program in C lends them.
+use lent_doubles::{DoublesInfo, Given, check_given, solve_from, solve_given};
+use std::alloc::Global;
+
+/// A record in which nothing is written.
+pub fn unwritten() -> DoublesInfo {
+    DoublesInfo {
+        place: 77,
+        persons: 77,
+        objects: 77,
+        person: 77,
+        object: 77,
+        by_margin: 77,
+    }
+}
+
+/// A search from nothing; the sense is 0 for the least sum, 1 for the greatest.
+pub fn solve(
+    alloc: Global,
+    sense: u32,
+    n: usize,
+    m: usize,
+    costs: &[f64],
+    objects: &mut [u32],
+    persons: &mut [u32],
+    prices: &mut [f64],
+    info: &mut DoublesInfo,
+) -> i32 {
+    let by_person = [objects.len(), persons.len()];
+    let by_object = [prices.len()];
+    let given = Given {
+        sense,
+        n,
+        m,
+        by_person: &by_person,
+        by_object: &by_object,
+        costs,
+    };
+    solve_given(alloc, &given, objects, persons, prices, info)
+}
+
+/// A search from the plan and the prices in the lists.
+pub fn solve_again(
+    alloc: Global,
+    sense: u32,
+    n: usize,
+    m: usize,
+    costs: &[f64],
+    objects: &mut [u32],
+    persons: &mut [u32],
+    prices: &mut [f64],
+    info: &mut DoublesInfo,
+) -> i32 {
+    let by_person = [objects.len(), persons.len()];
+    let by_object = [prices.len()];
+    let given = Given {
+        sense,
+        n,
+        m,
+        by_person: &by_person,
+        by_object: &by_object,
+        costs,
+    };
+    solve_from(alloc, &given, objects, persons, prices, info)
+}
+
+/// The code of a plan and prices.
+pub fn judge(
+    alloc: Global,
+    sense: u32,
+    n: usize,
+    m: usize,
+    costs: &[f64],
+    objects: &[u32],
+    prices: &[f64],
+    info: &mut DoublesInfo,
+) -> i32 {
+    let by_person = [objects.len()];
+    let by_object = [prices.len()];
+    let given = Given {
+        sense,
+        n,
+        m,
+        by_person: &by_person,
+        by_object: &by_object,
+        costs,
+    };
+    check_given(alloc, &given, objects, prices, info)
+}

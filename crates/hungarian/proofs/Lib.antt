@@ -1,0 +1,16 @@
+pub mod Scanning
+pub mod Growing
+pub mod Ending
+pub mod Flipping
+pub mod Beginning
+pub mod Costs
+pub mod HallLists
+pub mod Optima
+pub mod Relaxed
+pub mod Orders
+pub mod Served
+pub mod Rooms
+pub mod Scanned
+pub mod Nearest
+pub mod Searches
+pub mod Columns

@@ -1,0 +1,14 @@
+use Rattle.hungarian.proofs.Served.{planned_first, served_first}
+use Rattle.hungarian.proofs.solver.first_plan.Goals as goal
+
+pub returns-clause-plan : goal.returns-clause-plan
+returns-clause-plan c =
+    planned_first c.args.lists.now c.in_ok-plan.plan (rw c.objects.ensures.count at c.in_ok-plan.ensures.prices)
+    (rw c.objects.ensures.count at c.in_ok-plan.ensures.owners)
+    (rw c.persons.ensures.count at c.in_ok-plan.ensures.objects)
+
+pub returns-clause-served : goal.returns-clause-served
+returns-clause-served c =
+    served_first c.args.lists.now c.in_ok-plan.plan (rw c.objects.ensures.count at c.in_ok-plan.ensures.prices)
+    (rw c.objects.ensures.count at c.in_ok-plan.ensures.owners)
+    (rw c.persons.ensures.count at c.in_ok-plan.ensures.objects)
