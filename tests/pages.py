@@ -38,7 +38,8 @@ MOST_OF_PAGE = {"README.md": 1550, "SECURITY.md": 250, "bench/README.md": 1080,
                 "docs/RULES.md": 950, "docs/SCRIPTS.md": 850, "docs/TESTING.md": 650}
 UNCOUNTED = (GENERATED, "CHANGELOG.md")
 # The sources whose comments avoid the same words, the beginning of these comments, and code in them.
-COMMENTS = {"crates/*/src/**/*.rt": re.compile(r"\s*//[/!]"), "crates/*/specs/**/*.antt": re.compile(r"\s*--")}
+COMMENTS = {"crates/*/src/**/*.rt": re.compile(r"(?:.*\s)?\s*//"), "crates/*/specs/**/*.antt": re.compile(r"\s*--"),
+            "crates/*/proofs/**/*.antt": re.compile(r"\s*--")}
 # The other sources, and what their comments are, by how their names end; the texts of Python are found by its own
 # reader.
 SCRIPTED = (".ci/run", "prove", "bench/**/*", "c/*", "docs/*.py", "page/*", "programs/**/*", "python/**/*.py",
@@ -216,7 +217,7 @@ def look_at_sentences(page, words_to_avoid, faults):
 
 
 def look_at_comments(words_to_avoid, faults):
-    """Looks for words to avoid in the doc comments of crates and in the comments of their specs."""
+    """Looks for words to avoid in the comments of crates, their specs and their proofs."""
     for pattern, mark in COMMENTS.items():
         for path in sorted(glob.glob(os.path.join(TOP, pattern), recursive=True)):
             name = os.path.relpath(path, TOP)

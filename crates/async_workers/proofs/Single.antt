@@ -90,7 +90,7 @@ alone_prepared b new s table version answer offer free number none is_answer is_
     let made : offer ≡ prepared b.base (prices_of b) version answer = is_offer ∙ (λ i. prepared ((is_base ∙ base) i) ((is_table ∙ prices) i) version answer) in
     subst (λ (z : BookData × List ℤ × Option Offer). IsPrepared z.0 1 z.1 version z.2) (λ i. (sym is_new i, sym prices i, sym made i)) c.prepared
 
--- neither a claim nor the next phase stops the book or lifts a stop
+-- no claim and no next phase stops the book or lifts a stop
 pub after_claim-stopped : (b : BookData) (w : ℕ) (answer : Claim) → (after_claim b w answer).stopped ≡ b.stopped
 after_claim-stopped b w (claim.Person person ask) = refl
 after_claim-stopped b w claim.Refuted = refl

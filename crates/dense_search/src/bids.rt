@@ -1,7 +1,7 @@
 // Bids without slackness: a person takes its best object and raises its price until the second best
-// is as good; whoever owned it bids next. This is the augmenting row reduction of Jonker and
-// Volgenant (A shortest augmenting path algorithm for dense and sparse linear assignment problems,
-// 1987).
+// is as good; the person that owned it bids next. This is the augmenting row reduction of Jonker
+// and Volgenant (A shortest augmenting path algorithm for dense and sparse linear assignment
+// problems, 1987).
 use super::market::Market;
 use super::matrix::Matrix;
 use super::number::Number;

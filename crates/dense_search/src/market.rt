@@ -28,7 +28,7 @@ impl<'a, K: Number> Market<'a, K> {
         Ok(market)
     }
 
-    // Enters the owner of each object anew, by the objects of the persons. A person keeps an object
+    // Enters the owner of each object again, by the objects of the persons. A person keeps an object
     // if nobody before it has it.
     pub fn enter_objects(&mut self) {
         self.enter_nobody();
@@ -72,7 +72,7 @@ impl<'a, K: Number> Market<'a, K> {
         }
     }
 
-    // Gives an object to a person; whoever has it keeps it in its own entry.
+    // Gives an object to a person; who had it keeps it in its own entry.
     pub fn give(&mut self, object: u32, person: u32) {
         put(self.owners.as_mut_slice(), object, person);
         put(self.objects, person, object);

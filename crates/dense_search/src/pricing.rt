@@ -20,8 +20,8 @@ const MOST_AROUND: usize = 16;
 // How often a limit is halved.
 const HALVINGS: usize = 62;
 
-// The better pairs that a pass found, person by person as in a core; the number of persons with
-// such pairs, and the sum of what each would gain.
+// The better pairs that a pass found, person by person as in a core; the number of persons that
+// have some, and the sum of what each would gain.
 #[derive(Drop)]
 pub struct Better {
     pub core: Core,

@@ -232,9 +232,9 @@ impl<K: Number> Search<K> {
         Ok(self.finish(market))
     }
 
-    // A search from a dummy, to whom all objects cost nothing: an unowned object whose price is
-    // above the least one gets an owner, or the least price rises to its price. Returns whether
-    // there was such an object.
+    // A search from a dummy person, for which all objects cost nothing: an unowned object whose
+    // price is above the least one gets an owner, or the least price rises to its price. Returns
+    // whether there was one.
     pub fn lower_one<R: Reading<K>>(
         &mut self,
         matrix: &Matrix<'_, K, R>,

@@ -1,4 +1,4 @@
-// The paths of a search: how far each reached object is, and from whom it was reached.
+// The paths of a search: how far each reached object is, and by which person it was reached.
 use super::market::Market;
 use super::number::Number;
 use super::reading::Reading;
@@ -6,7 +6,7 @@ use sparse_search::{NOBODY, place_at};
 use std::alloc::{AllocError, Global};
 use std::collections::BinaryHeap;
 
-// The distance of an object, and the person from whom it was reached.
+// The distance of an object, and the person that it was reached from.
 #[derive(Clone, Copy)]
 pub struct Label<K> {
     pub distance: K,

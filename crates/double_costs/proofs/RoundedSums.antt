@@ -1,4 +1,4 @@
--- What rounded sums of two doubles tell of the sums in units.
+-- What rounded sums of two doubles show of the sums in units.
 use Prim.Native.Nat.{ℕ, ◌+◌, ◌-◌, ◌*◌, ◌^◌, ◌≤◌, ◌<◌}
 use mathlib.Core.Path.{◌≡◌, refl, sym, ap, ◌∙◌}
 use native.Mathlib.Omega.{arith}

@@ -1,5 +1,5 @@
-// Bids: a person takes its best object and lowers its dual until the second best is as good; whoever
-// owned it bids next (the augmenting row reduction of Jonker and Volgenant, 1987).
+// Bids: a person takes its best object and lowers its dual until the second best is as good; the
+// person that owned it bids next (the augmenting row reduction of Jonker and Volgenant, 1987).
 ghost use Rattle.std.specs.Prelude.{◌≡◌, length};
 
 use super::best::{first_unowned, two_best};

@@ -37,7 +37,7 @@ fn above(cost: f64, scale: Scale) -> i64 {
     }
 }
 
-// The nearest whole number of units, or a little beside it.
+// The nearest whole number of units, or one close to it.
 pub fn whole_of(cost: f64, scale: Scale) -> i64 {
     let coarse = cost * scale.factor;
     if coarse < LIMIT {

@@ -120,7 +120,7 @@ choice_unbeaten l xs prices i k h number b =
       never Min a d lt le = omega (arith, ints)
       never Max a d lt le = omega (arith, ints)
 
--- the lowest person that has an object under its value, and its lowest such object, or none
+-- the lowest person that has an object under its value, and its lowest object of this kind, or none
 abbrev pub IsFirstUnder : Sense → List Listing → ℕ → ℕ → List ℤ → List ℤ → Option (ℕ × ℕ) → Type 0
 IsFirstUnder sense rows n m prices values f = MatchOption f ((i k : ℕ) → ¬ IsUnder sense rows prices values i k)
     (λ p. IsFirst (HasUnder sense rows prices values) n p.0 × IsFirst (IsUnder sense rows prices values p.0) m p.1)

@@ -1,4 +1,4 @@
-// Calls of the solver, told apart.
+// Calls of the solver.
 use cost_lists::{CostLists, Object, Price};
 use exact_checker::{confirm_best, confirm_hall};
 use list_solver::{Found, Record, Standing, solve_lists};

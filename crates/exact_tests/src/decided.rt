@@ -1,4 +1,4 @@
-// The Hungarian method on drawn problems of every shape, beside the slow search, and on larger ones.
+// The Hungarian method on drawn problems of every shape, compared with the slow search, and on larger ones.
 // The checkers decide on what it answers.
 use crate::drawn::drawn_problem;
 use crate::given::costs_of;

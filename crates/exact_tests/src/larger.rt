@@ -167,7 +167,7 @@ fn more_persons_than_objects_have_no_assignment(rt: HostRuntime) -> Result<(), F
     Ok(())
 }
 
-// A search that was stopped goes on, and a record of the other form's stages begins anew.
+// A search that was stopped goes on, and a record of the other form's stages begins again.
 #[test]
 fn a_stage_of_the_other_form_begins_anew(rt: HostRuntime) -> Result<(), Fail> {
     let mut seed = 69;

@@ -1,4 +1,4 @@
-// Drawn problems of every shape, solved from every start and in pieces, beside the slow search.
+// Drawn problems of every shape, solved from every start and in pieces, and compared with the slow search.
 use crate::called::{Finding, in_pieces, nothing};
 use crate::drawn::{draw, drawn_cost, drawn_numbers, drawn_problem};
 use crate::given::lent;

@@ -17,7 +17,7 @@ pub below_long : (given path : List LinearRow) → length (below given path) ≡
 below_long given [] = omega arith
 below_long given (row ∷ path) = let h = below_long given path in omega (arith, length-append (below given path) (row ∷ []))
 
--- a list with an element behind it has one of each
+-- a list with an element after it has one of each
 pub snoc_same : {T : Type 0} (a b : List T) (x y : T) → a ++ x ∷ [] ≡ b ++ y ∷ [] → (a ≡ b) × (x ≡ y)
 snoc_same [] [] x y e = (cc, cc)
 snoc_same {T} [] (v ∷ b) x y e = absurd (omega (arith, ap length e, length-append b (y ∷ [])))

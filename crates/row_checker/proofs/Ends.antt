@@ -38,7 +38,7 @@ inside None leaf.TooGreat p q long lt le = tt
 inside None leaf.Lacks p q long lt le = tt
 inside (Some r) end p q long lt le = tt
 
--- a leaf that stands ends behind its place
+-- a leaf that stands ends after its place
 pub leaf_inside : (n : ℕ) (numbers : List ℤ) (rows : List LinearRow) (p k : ℕ) → p + 2 + 2 * k ≤ length numbers →
     IsInside p (length numbers) (leaf_ends n numbers rows p k)
 leaf_inside n numbers rows p k room =

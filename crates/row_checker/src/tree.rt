@@ -83,7 +83,7 @@ enum Step {
     Ends(End),
 }
 
-// Goes down into the low half of the split at a place, whose row comes behind the rows, or gives its
+// Goes down into the low half of the split at a place, whose row comes after the rows, or gives its
 // fault.
 fn go_down(
     alloc: Global,

@@ -119,7 +119,7 @@ impl Walk {
         Ok(())
     }
 
-    // Everybody whom a person reaches.
+    // Everybody that a person reaches.
     fn walk_from(&mut self, problem: SparseProblem<'_>, first: u32) -> Result<(), AllocError> {
         self.enter(first)?;
         for _step in 0..self.numbers.len().saturating_mul(2).saturating_add(1) {

@@ -14,7 +14,7 @@ use std::alloc::{AllocError, Global};
 #[derive(Clone, Copy)]
 pub struct Label {
     pub distance: i64,
-    // The person from whom it was reached.
+    // The person that it was reached from.
     pub from: u32,
     // The search in which it was reached: its number twice, and one more once the object is passed.
     pub stamp: u32,
