@@ -2,10 +2,11 @@
 use super::bids::bid_all;
 use super::market::Market;
 use super::matrix::Matrix;
+use super::narrow::low_half;
 use super::paths::serve_by_rows;
 use super::prices::begin;
 use super::reading::AsCosts;
-use super::record::Ended;
+use super::record::{Ended, Record, Stage};
 use sparse_search::Looks;
 use std::alloc::{AllocError, Global};
 
@@ -18,7 +19,7 @@ const BIDS_A_PHASE: usize = 32;
 // The most phases of an auction: each phase has a fifth of the slackness before it.
 const PHASES: usize = 16;
 
-const DIVISOR: i32 = 5;
+const DIVISOR: i64 = 5;
 
 // The passes over all pairs that searches may be expected to take; else an auction comes before them.
 const PASSES: u64 = 100;
@@ -34,33 +35,79 @@ fn spread_of(costs: &[i32]) -> i32 {
     greatest.wrapping_sub(least)
 }
 
-// Bids of falling slackness, from the first prices. No object is owned after them.
-fn auction(matrix: &Matrix<'_, i32, AsCosts>, market: &mut Market<'_, i32>, looks: &mut Looks) {
+// As many bids as the looks allow, and no more than these.
+fn bids_within(matrix: &Matrix<'_, i32, AsCosts>, most: usize, looks: &Looks) -> usize {
+    let room = looks.limit.saturating_sub(looks.done) as usize;
+    most.min(room / matrix.objects.max(1))
+}
+
+// First prices, and bids without slackness.
+fn begin_paths(
+    matrix: &Matrix<'_, i32, AsCosts>,
+    market: &mut Market<'_, i32>,
+    record: &mut Record,
+    looks: &mut Looks,
+) {
+    market.release_all();
     looks.add(begin(matrix, market.prices));
-    let mut slackness = spread_of(matrix.costs) / DIVISOR;
-    let most = matrix.persons.saturating_mul(BIDS_A_PHASE);
+    bid(matrix, market, looks);
+    record.stage = Stage::CopyPaths;
+}
+
+fn bid(matrix: &Matrix<'_, i32, AsCosts>, market: &mut Market<'_, i32>, looks: &mut Looks) {
+    let most = bids_within(matrix, matrix.persons.saturating_mul(BIDS), looks);
+    let made = bid_all(matrix, market, 0, most);
+    looks.add(made.saturating_mul(matrix.objects));
+}
+
+fn begin_auction(
+    matrix: &Matrix<'_, i32, AsCosts>,
+    market: &mut Market<'_, i32>,
+    record: &mut Record,
+    looks: &mut Looks,
+) {
+    looks.add(begin(matrix, market.prices));
+    record.slackness = i64::from(spread_of(matrix.costs)) / DIVISOR;
+    record.bids = 0;
+    record.stage = Stage::CopyAuction;
+}
+
+// Bids of one slackness, as far as the looks allow. Returns whether the phase is over.
+fn is_phase_over(
+    matrix: &Matrix<'_, i32, AsCosts>,
+    market: &mut Market<'_, i32>,
+    record: &mut Record,
+    looks: &mut Looks,
+) -> bool {
+    market.release_all();
+    let all = matrix.persons.saturating_mul(BIDS_A_PHASE) as u64;
+    let left = all.saturating_sub(record.bids) as usize;
+    let most = bids_within(matrix, left, looks);
+    let made = bid_all(matrix, market, low_half(record.slackness), most);
+    record.bids = record.bids.saturating_add(made as u64);
+    looks.add(made.saturating_mul(matrix.objects));
+    made < most || most == left
+}
+
+// Bids of falling slackness, as far as the looks allow. Returns whether they ended; no object is
+// owned then.
+fn auction(
+    matrix: &Matrix<'_, i32, AsCosts>,
+    market: &mut Market<'_, i32>,
+    record: &mut Record,
+    looks: &mut Looks,
+) -> bool {
     for _ in 0..PHASES {
-        if slackness > 0 {
-            market.release_all();
-            let made = bid_all(matrix, market, slackness, most);
-            looks.add(made.saturating_mul(matrix.objects));
-            slackness = slackness / DIVISOR;
+        if record.slackness > 0 {
+            if !is_phase_over(matrix, market, record, looks) {
+                return false;
+            }
+            record.slackness = record.slackness / DIVISOR;
+            record.bids = 0;
         }
     }
     market.release_all();
-}
-
-// Bids, and then searches for the persons left, as long as the looks allow.
-fn bid_then_search(
-    alloc: Global,
-    matrix: &Matrix<'_, i32, AsCosts>,
-    market: &mut Market<'_, i32>,
-    most: u64,
-    looks: &mut Looks,
-) -> Result<Ended, AllocError> {
-    let made = bid_all(matrix, market, 0, matrix.persons.saturating_mul(BIDS));
-    looks.add(made.saturating_mul(matrix.objects));
-    serve_by_rows(alloc, matrix, market, most, looks)
+    true
 }
 
 // The looks that searches may be expected to take. An auction would leave high prices at unowned
@@ -72,30 +119,45 @@ fn most_looks(matrix: &Matrix<'_, i32, AsCosts>) -> u64 {
     (matrix.pairs() as u64).saturating_mul(PASSES)
 }
 
-// Bids and searches, and once more from the prices of an auction where these take too long.
-fn bid_and_search(
+// Searches, and once more from the prices of an auction where these take too long, from the stage of
+// the record on.
+fn search_from(
     alloc: Global,
     matrix: &Matrix<'_, i32, AsCosts>,
     market: &mut Market<'_, i32>,
+    record: &mut Record,
     looks: &mut Looks,
 ) -> Result<Ended, AllocError> {
-    looks.add(begin(matrix, market.prices));
-    let ended = bid_then_search(alloc, matrix, market, most_looks(matrix), looks)?;
-    if let Ended::Long = ended {
-        auction(matrix, market, looks);
-        return bid_then_search(alloc, matrix, market, u64::MAX, looks);
+    if let Stage::CopyPaths = record.stage {
+        let ended = serve_by_rows(alloc, matrix, market, most_looks(matrix), looks)?;
+        let Ended::Long = ended else {
+            return Ok(ended);
+        };
+        begin_auction(matrix, market, record, looks);
     }
-    Ok(ended)
+    if let Stage::CopyAuction = record.stage {
+        if !auction(matrix, market, record, looks) {
+            return Ok(Ended::Stopped);
+        }
+        bid(matrix, market, looks);
+        record.stage = Stage::CopyFinish;
+    }
+    serve_by_rows(alloc, matrix, market, u64::MAX, looks)
 }
 
-// Bids and searches for these prices and objects.
+// Bids and searches for these prices and objects. They go on where the record says, if its stage is
+// one of theirs.
 pub fn search_copy(
     alloc: Global,
     matrix: &Matrix<'_, i32, AsCosts>,
     prices: &mut [i32],
     objects: &mut [u32],
+    record: &mut Record,
     looks: &mut Looks,
 ) -> Result<Ended, AllocError> {
     let mut market = Market::new(alloc, prices, objects)?;
-    bid_and_search(alloc, matrix, &mut market, looks)
+    if !record.stage.is_copied() {
+        begin_paths(matrix, &mut market, record, looks);
+    }
+    search_from(alloc, matrix, &mut market, record, looks)
 }

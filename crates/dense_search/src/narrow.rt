@@ -6,7 +6,7 @@ use sparse_search::place_at;
 use std::alloc::{AllocError, Global};
 
 // The low 32 bits of a number.
-fn low_half(number: i64) -> i32 {
+pub fn low_half(number: i64) -> i32 {
     let bits = number.cast_unsigned() & 0xffff_ffff;
     (bits as u32).cast_signed()
 }
@@ -36,6 +36,15 @@ pub fn narrow_costs<R: Reading<i64>>(
         }
     }
     Ok(Some(copy))
+}
+
+// Prices in 32 bits, which hold those that a search over a copy left.
+pub fn narrow_prices(alloc: Global, prices: &[i64]) -> Result<Vec<i32>, AllocError> {
+    let mut narrow = Vec::with_capacity(alloc, prices.len())?;
+    for price in prices {
+        narrow.push(low_half(*price))?;
+    }
+    Ok(narrow)
 }
 
 // Prices in 64 bits.

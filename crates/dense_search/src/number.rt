@@ -2,7 +2,7 @@
 // half the time then. Sums wrap.
 
 // Costs of 32 bits lie this close to the first one, and prices are below twice as much.
-pub const NARROW: i64 = 1 << 26;
+pub const NARROW: i64 = 1 << 27;
 
 pub trait Number: Copy + Drop {
     // More than any distance.
@@ -82,15 +82,15 @@ impl Number for i64 {
 
 impl Number for i32 {
     fn far() -> i32 {
-        1 << 28
-    }
-
-    fn hidden() -> i32 {
         1 << 29
     }
 
+    fn hidden() -> i32 {
+        1 << 30
+    }
+
     fn limit() -> i32 {
-        1 << 27
+        1 << 28
     }
 
     fn zero() -> i32 {

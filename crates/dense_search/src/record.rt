@@ -17,6 +17,22 @@ pub enum Stage {
     Auction,
     /// Searches to the end.
     Finish,
+    /// Searches over a copy of the costs in 32 bits.
+    CopyPaths,
+    /// The auction over a copy.
+    CopyAuction,
+    /// Searches over a copy to the end.
+    CopyFinish,
+}
+
+impl Stage {
+    // Whether it works over a copy of the costs.
+    pub fn is_copied(self) -> bool {
+        matches!(
+            self,
+            Stage::CopyPaths | Stage::CopyAuction | Stage::CopyFinish
+        )
+    }
 }
 
 // In the auction costs count 2 to this power times.

@@ -6,8 +6,8 @@ use super::cores::{resume_cores, solve_by_cores};
 use super::market::Market;
 use super::matrix::{DenseProblem, Matrix};
 use super::middle::search_copy;
-use super::narrow::{narrow_costs, widen};
-use super::paths::{Allowance, lower_unowned, serve_all};
+use super::narrow::{narrow_costs, narrow_prices, widen};
+use super::paths::{Allowance, lower_unowned, serve_all, serve_by_rows};
 use super::prices::{begin, begin_at_zero, cut, magnify, reduce};
 use super::reading::{AsCosts, AsGains, Reading};
 use super::record::{Ended, Outcome, Record, SHIFT, Stage};
@@ -34,13 +34,17 @@ const MOST_COPIED: usize = 1 << 24;
 // Problems with fewer pairs are mostly served by searches.
 const MIDDLE: usize = 1 << 19;
 
+// A call copies if its budget allows so many passes over all pairs, since a copy takes as long as one
+// or two.
+const COPY_PASSES: u64 = 8;
+
 // A core's work apart from its passes, in looks at pairs a person; and the passes.
 const CORE_LOOKS: u64 = 4000;
 
 const CORE_PASSES: u64 = 2;
 
 // The looks of searches after a core, as passes over all pairs.
-const RETRY_PASSES: u64 = 32;
+const RETRY_PASSES: u64 = 64;
 
 // The first slackness of the auction is this part of what a person would gain on average.
 const FIRST_DIVISOR: i64 = 5;
@@ -132,7 +136,7 @@ struct Work<'a> {
     is_resumed: bool,
     // Where the first searches ended, while a core is solved; then where the core ended.
     kept: Option<Kept>,
-    // Whether the costs may be searched over a copy in 32 bits. A budget is kept without one.
+    // Whether the costs may be searched over a copy in 32 bits.
     may_copy: bool,
 }
 
@@ -155,12 +159,12 @@ impl<'a> Work<'a> {
         alloc: Global,
         matrix: &Matrix<'_, i64, R>,
     ) -> Result<Step, AllocError> {
-        self.market.release_all();
         if is_middle(matrix) {
-            if let Some(step) = self.search_copied(alloc, matrix, Stage::Cold)? {
+            if let Some(step) = self.search_copied(alloc, matrix)? {
                 return Ok(step);
             }
         }
+        self.market.release_all();
         let looks = begin(matrix, self.market.prices);
         self.looks.add(looks);
         if matrix.persons < matrix.objects / 8 {
@@ -176,45 +180,56 @@ impl<'a> Work<'a> {
         Step::To(Stage::Paths)
     }
 
-    // Bids and searches over a copy of the costs, if there may be one and they fit. If sums leave 32
-    // bits the stage `long` is next.
+    // Bids and searches over a copy of the costs, if there may be one and all sums fit it.
     fn search_copied<R: Reading<i64>>(
         &mut self,
         alloc: Global,
         matrix: &Matrix<'_, i64, R>,
-        long: Stage,
     ) -> Result<Option<Step>, AllocError> {
         if !self.may_copy {
             return Ok(None);
         }
         self.may_copy = false;
-        match narrow_costs(alloc, matrix)? {
-            Some(costs) => {
-                self.market.release_all();
-                let ended = self.search_narrow(alloc, &matrix.over(costs.as_slice()))?;
-                Ok(Some(self.after_searches(alloc, matrix, ended, long)?))
+        let Some(costs) = narrow_costs(alloc, matrix)? else {
+            return Ok(None);
+        };
+        let before = self.record;
+        match self.search_narrow(alloc, &matrix.over(costs.as_slice()))? {
+            Ended::Served => Ok(Some(self.lower(alloc, matrix)?)),
+            Ended::Stopped => Ok(Some(Step::End(Outcome::Stopped))),
+            Ended::Long | Ended::Blocked => {
+                self.record = before;
+                Ok(None)
             }
-            None => Ok(None),
         }
     }
 
-    // Bids and searches over a copy of the costs. `Long` if sums leave 32 bits.
     fn search_narrow(
         &mut self,
         alloc: Global,
         matrix: &Matrix<'_, i32, AsCosts>,
     ) -> Result<Ended, AllocError> {
-        let mut prices = vec![in alloc; 0i32; matrix.objects]?;
-        let mut looks = self.looks;
+        let mut prices = narrow_prices(alloc, self.market.prices)?;
+        let (record, looks) = (&mut self.record, &mut self.looks);
         let objects = &mut *self.market.objects;
-        let ended = search_copy(alloc, matrix, prices.as_mut_slice(), objects, &mut looks)?;
-        self.looks = looks;
+        let slice = prices.as_mut_slice();
+        let ended = search_copy(alloc, matrix, slice, objects, record, looks)?;
         widen(prices.as_slice(), self.market.prices);
         self.market.enter_objects();
-        match ended {
-            Ended::Served => Ok(ended),
-            _ => Ok(Ended::Long),
+        Ok(ended)
+    }
+
+    // Goes on over a copy where an earlier call stopped, or without one if the budget is too short.
+    fn resume_copied<R: Reading<i64>>(
+        &mut self,
+        alloc: Global,
+        matrix: &Matrix<'_, i64, R>,
+    ) -> Result<Step, AllocError> {
+        if let Some(step) = self.search_copied(alloc, matrix)? {
+            return Ok(step);
         }
+        self.record.passes = 0;
+        Ok(Step::To(Stage::Finish))
     }
 
     // First prices of which many persons' best objects are others' too save nothing, and so do those
@@ -233,26 +248,47 @@ impl<'a> Work<'a> {
         self.begin_paths()
     }
 
-    // Searches for all persons, as far as this many looks allow in all calls of the stage.
-    fn serve<R: Reading<i64>>(
-        &mut self,
-        alloc: Global,
-        matrix: &Matrix<'_, i64, R>,
-        most: u64,
-        is_growing: bool,
-    ) -> Result<Ended, AllocError> {
-        let pairs = matrix.pairs() as u64;
-        let before = self.looks.done;
-        let allowed = Allowance {
-            most: most.saturating_sub(self.record.passes.saturating_mul(pairs)),
-            is_growing,
-        };
-        let ended = serve_all(alloc, matrix, &mut self.market, allowed, &mut self.looks)?;
-        let passes = self.looks.done.saturating_sub(before) / pairs.max(1);
+    // What is left of so many looks of searches, which count in all calls of the stage.
+    fn left_of(&self, most: u64, pairs: usize) -> u64 {
+        most.saturating_sub(self.record.passes.saturating_mul(pairs as u64))
+    }
+
+    // Counts the passes over all pairs that searches took, if these are to go on in the next call.
+    fn count_passes(&mut self, ended: Ended, before: u64, pairs: usize) {
+        let passes = self.looks.done.saturating_sub(before) / (pairs as u64).max(1);
         self.record.passes = match ended {
             Ended::Stopped => self.record.passes.saturating_add(passes.saturating_add(1)),
             _ => 0,
         };
+    }
+
+    // Searches for all persons from the first bids, as far as a core isn't as fast.
+    fn serve_first<R: Reading<i64>>(
+        &mut self,
+        alloc: Global,
+        matrix: &Matrix<'_, i64, R>,
+    ) -> Result<Ended, AllocError> {
+        let before = self.looks.done;
+        let allowed = Allowance {
+            most: self.left_of(most_looks(matrix), matrix.pairs()),
+            is_growing: true,
+        };
+        let ended = serve_all(alloc, matrix, &mut self.market, allowed, &mut self.looks)?;
+        self.count_passes(ended, before, matrix.pairs());
+        Ok(ended)
+    }
+
+    // Searches for all persons after a core, which reach most objects.
+    fn serve_again<R: Reading<i64>>(
+        &mut self,
+        alloc: Global,
+        matrix: &Matrix<'_, i64, R>,
+    ) -> Result<Ended, AllocError> {
+        let before = self.looks.done;
+        let most = (matrix.pairs() as u64).saturating_mul(RETRY_PASSES);
+        let most = self.left_of(most, matrix.pairs());
+        let ended = serve_by_rows(alloc, matrix, &mut self.market, most, &mut self.looks)?;
+        self.count_passes(ended, before, matrix.pairs());
         Ok(ended)
     }
 
@@ -291,7 +327,7 @@ impl<'a> Work<'a> {
         if self.bid_first(matrix) {
             return Ok(Step::End(Outcome::Stopped));
         }
-        let ended = self.serve(alloc, matrix, most_looks(matrix), true)?;
+        let ended = self.serve_first(alloc, matrix)?;
         if let Ended::Long = ended {
             self.kept = Some(Kept::of(alloc, &self.market)?);
         }
@@ -362,8 +398,8 @@ impl<'a> Work<'a> {
         alloc: Global,
         matrix: &Matrix<'_, i64, R>,
     ) -> Result<Step, AllocError> {
-        if self.may_copy_later(matrix) {
-            if let Some(step) = self.search_copied(alloc, matrix, Stage::Retry)? {
+        if self.record.passes == 0 && self.may_copy_later(matrix) {
+            if let Some(step) = self.search_copied(alloc, matrix)? {
                 return Ok(step);
             }
         }
@@ -371,8 +407,7 @@ impl<'a> Work<'a> {
             let looks = settle_all(matrix, &mut self.market);
             self.looks.add(looks);
         }
-        let most = (matrix.pairs() as u64).saturating_mul(RETRY_PASSES);
-        let ended = self.serve(alloc, matrix, most, false)?;
+        let ended = self.serve_again(alloc, matrix)?;
         if let Ended::Long = ended {
             let _ = self.swap_kept();
         }
@@ -444,6 +479,9 @@ impl<'a> Work<'a> {
             Stage::Retry => self.retry(alloc, matrix),
             Stage::Auction => self.bid_in_phases(alloc, matrix),
             Stage::Finish => self.finish(alloc, matrix),
+            Stage::CopyPaths | Stage::CopyAuction | Stage::CopyFinish => {
+                self.resume_copied(alloc, matrix)
+            }
         }
     }
 
@@ -524,7 +562,7 @@ fn run_as<R: Reading<i64>>(
         record: record.sound(),
         is_resumed: record.is_begun(),
         kept: None,
-        may_copy: limit == u64::MAX,
+        may_copy: budget == 0 || budget / COPY_PASSES >= matrix.pairs() as u64,
         looks: Looks {
             done: record.looks,
             limit,

@@ -31,6 +31,12 @@ const BIDS: u32 = 13;
 
 const WARM_TIGHT: u32 = 14;
 
+const COPY_PATHS: u32 = 15;
+
+const COPY_AUCTION: u32 = 16;
+
+const COPY_FINISH: u32 = 17;
+
 // The bit of the flags.
 const HAS_ASSIGNMENT: u32 = 1;
 
@@ -67,6 +73,9 @@ fn dense_stage(number: u32) -> Option<DenseStage> {
         RETRY => Some(DenseStage::Retry),
         AUCTION => Some(DenseStage::Auction),
         FINISH => Some(DenseStage::Finish),
+        COPY_PATHS => Some(DenseStage::CopyPaths),
+        COPY_AUCTION => Some(DenseStage::CopyAuction),
+        COPY_FINISH => Some(DenseStage::CopyFinish),
         _ => None,
     }
 }
@@ -80,6 +89,9 @@ fn number_of_dense(stage: DenseStage) -> u32 {
         DenseStage::Retry => RETRY,
         DenseStage::Auction => AUCTION,
         DenseStage::Finish => FINISH,
+        DenseStage::CopyPaths => COPY_PATHS,
+        DenseStage::CopyAuction => COPY_AUCTION,
+        DenseStage::CopyFinish => COPY_FINISH,
     }
 }
 
