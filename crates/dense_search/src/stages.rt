@@ -278,7 +278,7 @@ impl<'a> Work<'a> {
         Ok(ended)
     }
 
-    // Searches for all persons after a core, which reach most objects.
+    // Searches for all persons after a core. They reach most objects, so they scan whole rows.
     fn serve_again<R: Reading<i64>>(
         &mut self,
         alloc: Global,
@@ -408,8 +408,16 @@ impl<'a> Work<'a> {
             self.looks.add(looks);
         }
         let ended = self.serve_again(alloc, matrix)?;
-        if let Ended::Long = ended {
-            let _ = self.swap_kept();
+        match ended {
+            Ended::Long => {
+                let _ = self.swap_kept();
+            }
+            // They went on from objects that don't fit their prices.
+            Ended::Blocked => {
+                self.market.enter_objects();
+                return Ok(Step::To(Stage::Finish));
+            }
+            Ended::Served | Ended::Stopped => {}
         }
         self.after_searches(alloc, matrix, ended, Stage::Auction)
     }
@@ -500,6 +508,7 @@ impl<'a> Work<'a> {
             return true;
         }
         self.is_resumed = false;
+        self.market.enter_objects();
         let looks = settle_all(matrix, &mut self.market);
         self.looks.add(looks);
         self.market.unserved() == 0 && !self.market.has_dear_unowned()
