@@ -210,10 +210,12 @@ impl<'a> Work<'a> {
         matrix: &Matrix<'_, i32, AsCosts>,
     ) -> Result<Ended, AllocError> {
         let mut prices = narrow_prices(alloc, self.market.prices)?;
-        let (record, looks) = (&mut self.record, &mut self.looks);
+        let (mut record, mut looks) = (self.record, self.looks);
         let objects = &mut *self.market.objects;
         let slice = prices.as_mut_slice();
-        let ended = search_copy(alloc, matrix, slice, objects, record, looks)?;
+        let ended = search_copy(alloc, matrix, slice, objects, &mut record, &mut looks)?;
+        self.record = record;
+        self.looks = looks;
         widen(prices.as_slice(), self.market.prices);
         self.market.enter_objects();
         Ok(ended)

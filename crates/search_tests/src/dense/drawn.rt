@@ -95,13 +95,16 @@ fn draw_start(
 }
 
 fn draw_stage(seed: &mut u64) -> Stage {
-    match draw_wide(seed, 7) {
+    match draw_wide(seed, 10) {
         0 => Stage::Cold,
         1 => Stage::Warm,
         2 => Stage::Paths,
         3 => Stage::Core,
         4 => Stage::Retry,
         5 => Stage::Auction,
+        6 => Stage::CopyPaths,
+        7 => Stage::CopyAuction,
+        8 => Stage::CopyFinish,
         _ => Stage::Finish,
     }
 }
@@ -200,6 +203,24 @@ fn larger_problems_end_at_exact_prices(rt: HostRuntime) -> Result<(), Fail> {
         }
         let (prices, objects) = (prices.as_mut_slice(), objects.as_mut_slice());
         let found = lists.call(alloc, prices, objects, &mut record, 0)?;
+        assert!(rt; matches!(found, Finding::Best(_)), "problem {turn}");
+    }
+    Ok(())
+}
+
+// Pieces of so many passes copy the costs where they fit 32 bits.
+#[test]
+fn copies_are_stopped_and_taken_up_again(rt: HostRuntime) -> Result<(), Fail> {
+    let mut seed = 6u64;
+    for turn in 0..20 {
+        let lists = draw_lists(rt.alloc(), &mut seed, 100)?;
+        let record = if turn % 2 == 0 {
+            Record::cold()
+        } else {
+            draw_record(&mut seed)
+        };
+        let budget = (lists.costs.len() as u64).saturating_mul(8);
+        let found = in_pieces(rt.alloc(), &mut seed, &lists, record, budget)?;
         assert!(rt; matches!(found, Finding::Best(_)), "problem {turn}");
     }
     Ok(())
