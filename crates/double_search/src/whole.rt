@@ -3,6 +3,7 @@ ghost use Rattle.std.specs.Prelude.{◌≡◌, length};
 
 use super::scale::Scale;
 use std::num::nearest_i64_to_f64;
+use std::simd::prelude::*;
 
 // No path is this long.
 pub const FAR: i64 = 1 << 60;
@@ -29,29 +30,84 @@ pub fn last_bits(sum: f64) -> i64 {
 
 // A cost of at least the limit.
 fn above(cost: f64, scale: Scale) -> i64 {
-    if cost.abs() == f64::INFINITY {
+    if cost == f64::INFINITY || cost == f64::NEG_INFINITY {
         FORBIDDEN
     } else {
         scale.limit()
     }
 }
 
-// The nearest whole number of units, or one close to it; without branches, for many at once.
+// The nearest whole number of units, or one close to it.
 pub fn whole_of(cost: f64, scale: Scale) -> i64 {
     let coarse = cost * scale.factor;
-    let sum = coarse + MAGIC;
-    let rest = (coarse - (sum - MAGIC)) * scale.parts;
-    let high = last_bits(sum).wrapping_shl(scale.bits);
-    let whole = high.wrapping_add(last_bits(rest + MAGIC));
     if coarse < LIMIT {
-        whole
+        let sum = coarse + MAGIC;
+        let rest = (coarse - (sum - MAGIC)) * scale.parts;
+        let high = last_bits(sum).wrapping_shl(scale.bits);
+        high.wrapping_add(last_bits(rest + MAGIC))
     } else {
         above(cost, scale)
     }
 }
 
+// So many costs are made whole at once.
+const LANES: usize = 4;
+
+// The whole numbers in the last bits of sums with the number above.
+fn last_bits_of(sums: f64x4) -> i64x4 {
+    let numbers = sums.simd_eq(sums).select(sums, f64x4::splat(MAGIC));
+    let bits = numbers.to_bits().to_array();
+    i64x4::from_array([
+        bits[0].cast_signed(),
+        bits[1].cast_signed(),
+        bits[2].cast_signed(),
+        bits[3].cast_signed(),
+    ]) - i64x4::splat(MAGIC_BITS)
+}
+
+// Coarse units in fine ones.
+fn in_fine(coarse: i64x4, scale: Scale) -> i64x4 {
+    if scale.has_more_bits() {
+        coarse << 7
+    } else {
+        coarse << 4
+    }
+}
+
+// Costs of at least the limit, of which none is infinite where there are more bits.
+fn above_of(costs: f64x4, scale: Scale) -> i64x4 {
+    let limit = i64x4::splat(scale.limit());
+    if scale.has_more_bits() {
+        return limit;
+    }
+    let is_infinite = costs.simd_eq(f64x4::splat(f64::INFINITY))
+        | costs.simd_eq(f64x4::splat(f64::NEG_INFINITY));
+    is_infinite.select(i64x4::splat(FORBIDDEN), limit)
+}
+
+// What `whole_of` gives for each.
+fn whole_of_all(costs: f64x4, scale: Scale) -> i64x4 {
+    let magic = f64x4::splat(MAGIC);
+    let coarse = costs * f64x4::splat(scale.factor);
+    let sum = coarse + magic;
+    let rest = (coarse - (sum - magic)) * f64x4::splat(scale.parts);
+    let whole = in_fine(last_bits_of(sum), scale) + last_bits_of(rest + magic);
+    let is_below = coarse.simd_lt(f64x4::splat(LIMIT));
+    is_below.select(whole, above_of(costs, scale))
+}
+
 // The costs of all pairs.
 pub fn to_whole(costs: &[f64], whole: &mut [i64], scale: Scale) {
+    let (lanes, rest) = costs.as_chunks::<LANES>();
+    let (whole_lanes, whole_rest) = whole.as_chunks_mut::<LANES>();
+    for (costs, whole) in lanes.iter().zip(whole_lanes.iter_mut()) {
+        *whole = whole_of_all(f64x4::from_array(*costs), scale).to_array();
+    }
+    rest_to_whole(rest, whole_rest, scale);
+}
+
+// The costs of the last few pairs.
+fn rest_to_whole(costs: &[f64], whole: &mut [i64], scale: Scale) {
     for (cost, whole) in costs.iter().zip(whole.iter_mut()) {
         *whole = whole_of(*cost, scale);
     }
