@@ -41,20 +41,20 @@ impl<K: Number> Two<K> {
         }
     }
 
+    // With another object. Without branches, since nobody can foretell them.
     fn with(self, object: u32, value: K) -> Two<K> {
-        if value.is_below(self.best) {
-            Two {
-                best: value,
-                object,
-                second: self.best,
-                other: self.object,
-            }
+        let is_best = value.is_below(self.best);
+        let is_second = value.is_below(self.second);
+        let (second, other) = if is_second {
+            (value, object)
         } else {
-            Two {
-                second: value,
-                other: object,
-                ..self
-            }
+            (self.second, self.other)
+        };
+        Two {
+            best: if is_best { value } else { self.best },
+            object: if is_best { object } else { self.object },
+            second: if is_best { self.best } else { second },
+            other: if is_best { self.object } else { other },
         }
     }
 
@@ -79,9 +79,7 @@ fn two_with_block<K: Number, R: Reading<K>>(
     let mut two = two;
     for (k, (cost, key)) in costs.iter().zip(keys).enumerate() {
         let value = reading.value(*cost).plus(*key);
-        if value.is_below(two.second) {
-            two = two.with(place_at(at.wrapping_add(k)), value);
-        }
+        two = two.with(place_at(at.wrapping_add(k)), value);
     }
     two
 }
@@ -101,21 +99,12 @@ fn may_be_below<K: Number, R: Reading<K>>(reading: &R, costs: &[K], keys: &[K], 
     K::is_narrow() || is_any_below(reading, costs, keys, limit)
 }
 
-// The two with a block of this number and this least value.
-fn two_with_value<K: Number>(two: Two<K>, block: usize, value: K) -> Two<K> {
-    if value.is_below(two.second) {
-        two.with(place_at(block), value)
-    } else {
-        two
-    }
-}
-
 // The two blocks with the least values, by their numbers from 0.
 fn two_blocks<K: Number, R: Reading<K>>(reading: &R, row: &[K], keys: &[K]) -> Two<K> {
     let mut two = Two::none();
     for (k, (costs, keys)) in row.chunks(BLOCK).zip(keys.chunks(BLOCK)).enumerate() {
         if may_be_below(reading, costs, keys, two.second) {
-            two = two_with_value(two, k, least_value(reading, costs, keys));
+            two = two.with(place_at(k), least_value(reading, costs, keys));
         }
     }
     two
@@ -126,8 +115,12 @@ fn block_of<K>(numbers: &[K], from: usize) -> &[K] {
     numbers.get(from..to).unwrap_or(&[])
 }
 
-// The two best objects of a row. They lie in the two blocks with the least values.
+// The two best objects of a row. They lie in the two blocks with the least values, if there are more
+// than one.
 pub fn two_best<K: Number, R: Reading<K>>(reading: &R, row: &[K], keys: &[K]) -> Two<K> {
+    if row.len() <= BLOCK {
+        return two_with_block(Two::none(), reading, row, keys, 0);
+    }
     let blocks = two_blocks(reading, row, keys);
     let at = (blocks.object as usize).saturating_mul(BLOCK);
     let two = two_with_block(

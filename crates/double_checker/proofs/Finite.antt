@@ -30,6 +30,18 @@ number_not_above (inf false) h = absurd (true≢false h)
 number_not_above (inf true) h = refl
 number_not_above (fin s m e) h = refl
 
+pub number_below : (x : Float) → IsTrue (is_number x) → lt x (of_bits binary64 9218868437227405312) ≡ true
+unfolding lt of_bits
+number_below nan h = absurd (true≢false (sym h))
+number_below (inf s) h = absurd (true≢false (sym h))
+number_below (fin s m e) h = refl
+
+pub above_number : (x : Float) → IsTrue (is_number x) → lt (of_bits binary64 18442240474082181120) x ≡ true
+unfolding lt of_bits
+above_number nan h = absurd (true≢false (sym h))
+above_number (inf s) h = absurd (true≢false (sym h))
+above_number (fin s m e) h = refl
+
 pub no_nan : (x : Float) → IsTrue (is_number x) → T (not (is_nan x))
 unfolding is_nan
 no_nan nan h = absurd (true≢false (sym h))

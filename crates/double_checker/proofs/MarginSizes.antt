@@ -1,5 +1,6 @@
 -- Sizes of doubles, and the margins of costs.
-use Rattle.std.proofs.Common.{◌≡◌, ℕ, ℤ, pos, negsuc, neg_ℤ, ◌≤ℤ◌, ◌≤◌, ◌+◌, ◌*◌, ◌^◌, false}
+use Rattle.std.proofs.Common.{◌≡◌, ℕ, ℤ, pos, negsuc, neg_ℤ, ◌≤ℤ◌, ◌≤◌, ◌<◌, ◌+◌, ◌*◌, ◌^◌, false, List}
+use Rattle.std.proofs.Common.{inl, inr, IsTrue}
 use Rattle.std.proofs.Common.{arith, refl, sym, ap, ◌∙◌, subst}
 use Rattle.std.specs.Prelude.{unsigned_abs}
 use Rattle.std.proofs.lemmas.Int.{ints}
@@ -9,6 +10,8 @@ use mathlib.Core.Bool.{true≢false}
 use lib.Ieee.{Float, nan, inf, fin}
 use Rattle.double_costs.specs.Units.{is_number, units_of}
 use Rattle.double_checker.specs.declared.digits.Digits.{Digits}
+use Rattle.assign_core.proofs.NumberedLemmas.{low_or_same}
+use Rattle.double_checker.specs.inside.Pairs.{at}
 use Rattle.double_checker.specs.inside.Sizes.{AreDigits, size_by, size_of}
 use Rattle.double_checker.proofs.PlanRows.{size_abs}
 
@@ -22,6 +25,20 @@ between (negsuc n) (negsuc k) h g = absurd (omega (arith, ints))
 pub size_between : (x y : Float) → units_of x ≤ℤ units_of y → neg_ℤ (units_of y) ≤ℤ units_of x → size_of x ≤ size_of y
 size_between x y h g = let a = size_abs x in let b = size_abs y in let m = between (units_of x) (units_of y) h g in
     omega arith
+
+-- the same of what is finite
+pub size_within : (x y : Float) → (IsTrue (is_number x) → units_of x ≤ℤ units_of y) →
+    (IsTrue (is_number x) → neg_ℤ (units_of y) ≤ℤ units_of x) → size_of x ≤ size_of y
+size_within nan y h g = omega arith
+size_within (inf s) y h g = omega arith
+size_within (fin s m e) y h g = size_between (fin s m e) y (h refl) (g refl)
+
+pub within_more : (limit : Float) (costs : List Float) (k : ℕ) → ((j : ℕ) → j < k → size_of (at costs j) ≤ size_of limit)
+    → size_of (at costs k) ≤ size_of limit → (j : ℕ) → j < k + 1 → size_of (at costs j) ≤ size_of limit
+within_more limit costs k some one j lt = elim (low_or_same j k lt) [
+  | inl l ↦ some j l
+  | inr e ↦ subst (λ (i : ℕ). size_of (at costs i) ≤ size_of limit) (sym e) one
+]
 
 -- fewer digits, shifted by at most 52 places more
 digits_in_parts : (a s b t : ℕ) → a ≤ b → s ≤ t + 52 → a * 2 ^ s ≤ 2 ^ 52 * (b * 2 ^ t)

@@ -2,6 +2,7 @@
 use Rattle.std.proofs.Common.{◌≡◌, ◌≢◌, ℕ, ℤ, ◌+ℤ◌, ◌≤ℤ◌, ◌+◌, List, length, Bool, true}
 use Rattle.std.proofs.Common.{Option, None, Some, inl, inr, IsTrue, arith, sym, ap, ◌∙◌, subst}
 use Rattle.std.specs.Prelude.{MatchOption}
+use Rattle.std.proofs.lemmas.Bool.Decides.{eqb_tells}
 use Rattle.std.proofs.lemmas.Int.{ints}
 use lib.Ieee.{Float}
 use Rattle.assign_core.specs.declared.sense.Sense.{Sense}
@@ -44,6 +45,17 @@ pub above_more : (sense : Sense) (b : ℤ) (row prices : List Float) (own k : �
 above_more sense b row prices own k h one j lt n = elim (low_or_same j k lt) [
   | inl l ↦ h j l n
   | inr e ↦ subst (λ (i : ℕ). IsAbove sense b (at row i) (at prices i)) (sym e) (one (λ g. n (e ∙ g)))
+]
+
+-- a row whose other costs are above a bound
+pub least_by_above : (sense : Sense) (v : ℤ) (row prices : List Float) (own : ℕ) → IsTrue (is_number (at row own)) →
+    paid sense (at row own) (at prices own) ≤ℤ v → (k : ℕ) → AreAbove sense v row prices own k →
+    AreAtLeast sense (paid sense (at row own) (at prices own)) row prices k
+least_by_above sense v row prices own n h k above j lt = elim (eqb_tells j own) [
+  | inl e ↦ subst (λ (i : ℕ). IsAtLeast sense (paid sense (at row own) (at prices own)) (at row i) (at prices i))
+      (sym e.1) (at_least_own sense (at row own) (at prices own) n)
+  | inr e ↦ at_least_above sense (paid sense (at row own) (at prices own)) v (at row j) (at prices j) h
+      (above j lt e.1)
 ]
 
 pub enough_base : (sense : Sense) (cost price base margin t : Float) → t ≡ turned sense cost →

@@ -1,11 +1,11 @@
 // Whether a margin is one of all costs.
-ghost use Rattle.std.specs.Prelude.{◌≡◌, ◌≤◌, ◌*◌, ◌^◌, pos, ◌<ℤ◌, All, IsTrue, true};
+ghost use Rattle.std.specs.Prelude.{◌≡◌, ◌≤◌, ◌*◌, ◌^◌, pos, ◌<ℤ◌, ◌≤ℤ◌, All, IsTrue, true, false};
 ghost use Rattle.double_costs.specs.Margins.{IsMarginOf};
 ghost use Rattle.double_costs.specs.Units.{is_number, units_of};
 ghost use Rattle.double_checker.specs.inside.Sizes.{size_of};
 
 use super::digits::digits_of;
-use super::numbers::is_number;
+use super::numbers::{both, is_number};
 use super::prices::is_less;
 
 // 2^52.
@@ -26,31 +26,45 @@ fn is_in_parts(limit: f64, margin: f64) -> bool
     one.shift <= other.shift + 52
 }
 
+// Whether a cost is finite and above a limit.
+fn is_over(limit: f64, cost: f64) -> bool
+    requires { IsTrue (is_number limit) }
+    ensures { result ≡ false → IsTrue (is_number cost) → units_of cost ≤ℤ units_of limit }
+{
+    limit < cost && cost < f64::INFINITY
+}
+
+// Whether a cost is finite and below a limit.
+fn is_under(limit: f64, cost: f64) -> bool
+    requires { IsTrue (is_number limit) }
+    ensures { result ≡ false → IsTrue (is_number cost) → units_of limit ≤ℤ units_of cost }
+{
+    cost < limit && cost > f64::NEG_INFINITY
+}
+
 // Whether a cost is at most the limit in size, or infinite.
 fn is_within(limit: f64, cost: f64) -> bool
     requires { IsTrue (is_number limit) }
-    ensures { IsTrue result → size_of cost ≤ size_of limit }
+    ensures { result ≡ true → size_of cost ≤ size_of limit }
 {
-    if !is_number(cost) {
-        return true;
+    if is_over(limit, cost) {
+        false
+    } else {
+        !is_under(-limit, cost)
     }
-    if is_less(limit, cost) {
-        return false;
-    }
-    !is_less(cost, -limit)
 }
 
-// Whether each cost is at most the limit in size, or infinite.
+// Whether each cost is at most the limit in size, or infinite. It looks at all of them, without
+// branches.
 fn are_within(limit: f64, costs: &[f64]) -> bool
     requires { IsTrue (is_number limit) }
     ensures { IsTrue result → All (λ c. size_of c ≤ size_of limit) costs.now }
 {
+    let mut holds = true;
     for k in 0..costs.len() {
-        if !is_within(limit, costs[k]) {
-            return false;
-        }
+        holds = both(holds, is_within(limit, costs[k]));
     }
-    true
+    holds
 }
 
 // Whether no cost is over 2^52 times the size of a finite margin.

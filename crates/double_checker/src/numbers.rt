@@ -1,5 +1,5 @@
 // Finite doubles, and costs turned so that less is better.
-ghost use Rattle.std.specs.Prelude.{◌≡◌, ◌≤◌, ◌+◌, ◌*◌, length};
+ghost use Rattle.std.specs.Prelude.{◌≡◌, ◌≤◌, ◌+◌, ◌*◌, true, length};
 ghost use Rattle.double_costs.specs.Units.{is_number};
 ghost use Rattle.double_checker.specs.inside.Pairs.{row_part, turned};
 
@@ -20,6 +20,13 @@ pub fn turned(sense: Sense, cost: f64) -> f64
         Sense::Min => cost,
         Sense::Max => -cost,
     }
+}
+
+// Whether both hold.
+pub fn both(a: bool, b: bool) -> bool
+    ensures { result ≡ true → (a ≡ true) × (b ≡ true) }
+{
+    if a { b } else { false }
 }
 
 // The costs of the person at a place, from 0, among those of all persons to `m` objects.

@@ -1,15 +1,47 @@
 // Whether each person's own object is a choice of its row.
-ghost use Rattle.std.specs.Prelude.{◌≡◌, ◌≤◌, ◌<◌, ◌+◌, ◌*◌, ◌+ℤ◌, ◌≤ℤ◌, true, All, IsTrue, IfSome};
+ghost use Rattle.std.specs.Prelude.{◌≡◌, ◌≤◌, ◌<◌, ◌+◌, ◌*◌, ◌+ℤ◌, ◌≤ℤ◌, ◌⊎◌, true, All, IsTrue, IfSome};
 ghost use Rattle.std.specs.Prelude.{MatchOption, length};
 ghost use Rattle.double_costs.specs.Units.{is_number, units_of};
 ghost use Rattle.double_checker.specs.inside.Pairs.{AreAbove, AreAtLeast, HasOpen, at, paid};
 ghost use Rattle.double_checker.specs.inside.Plans.{AreOwn, AreRowsSeen, HasOpenRow, IsBase};
 ghost use Rattle.double_checker.specs.inside.Plans.{IsRowSeen};
 
-use super::numbers::{is_number, row_part, turned};
+use super::numbers::{both, is_number, row_part, turned};
 use super::pairs::{is_above, is_at_least};
 use assign_core::Sense;
 use cost_lists::Object;
+
+// Whether one holds.
+fn either(a: bool, b: bool) -> bool
+    ensures { result ≡ true → (a ≡ true) ⊎ (b ≡ true) }
+{
+    if a { true } else { b }
+}
+
+// Whether each other cost of a row is above a base and a margin. It looks at all of them, without
+// branches.
+fn are_others_above(
+    sense: Sense,
+    row: &[f64],
+    prices: &[f64],
+    own: usize,
+    base: f64,
+    margin: f64,
+) -> bool
+    requires long { length row.now ≡ length prices.now }
+    requires prices { All (λ p. IsTrue (is_number p)) prices.now }
+    requires base { IsTrue (is_number base) }
+    requires margin { IsTrue (is_number margin) }
+    ensures { result ≡ true → AreAbove sense (units_of base +ℤ units_of margin)
+        row.now prices.now own (length row.now) }
+{
+    let mut holds = true;
+    for k in 0..row.len() {
+        let is_worse = is_above(sense, base, margin, row[k], prices[k]);
+        holds = both(holds, either(k == own, is_worse));
+    }
+    holds
+}
 
 // Whether each cost of a row is at least the own one with its price; if so, whether each other one
 // is above a base and a margin.
@@ -35,6 +67,9 @@ fn is_row_above(
         × (by_margin ≡ true → AreAbove sense (units_of base +ℤ units_of margin)
         row.now prices.now own (length row.now))) }
 {
+    if are_others_above(sense, row, prices, own, base, margin) {
+        return Some(true);
+    }
     let (own_cost, own_price) = (row[own], prices[own]);
     let mut by_margin = true;
     for k in 0..row.len() {
@@ -85,13 +120,6 @@ fn is_row_seen(sense: Sense, row: &[f64], prices: &[f64], own: usize, margin: f6
         Some(_) => Some(false),
         None => None,
     }
-}
-
-// Whether both hold.
-fn both(a: bool, b: bool) -> bool
-    ensures { result ≡ true → (a ≡ true) × (b ≡ true) }
-{
-    if a { b } else { false }
 }
 
 // Whether each person's own object is a choice of its row at these prices; if so, whether it is one

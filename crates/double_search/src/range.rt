@@ -72,9 +72,21 @@ fn range_of_row(row: &[f64], sign: f64) -> RowRange {
     }
 }
 
+// The greatest finite cost of each lane.
+fn greatest_of_lanes(lanes: &[[f64; LANES]], sign: f64) -> f64x4 {
+    let mut greatest = f64x4::splat(f64::NEG_INFINITY);
+    for costs in lanes {
+        let turned = f64x4::from_array(*costs) * f64x4::splat(sign);
+        let is_finite = turned.simd_lt(f64x4::splat(f64::INFINITY));
+        greatest = (turned.simd_gt(greatest) & is_finite).select(turned, greatest);
+    }
+    greatest
+}
+
 fn greatest_finite(row: &[f64], sign: f64) -> f64 {
-    let mut greatest = f64::NEG_INFINITY;
-    for cost in row {
+    let (lanes, rest) = row.as_chunks::<LANES>();
+    let mut greatest = greatest_of(greatest_of_lanes(lanes, sign));
+    for cost in rest {
         let turned = *cost * sign;
         if turned > greatest && turned < f64::INFINITY {
             greatest = turned;

@@ -1,7 +1,7 @@
 // Problems of as many objects as persons, two or three: all plans are tried. A path from one person
 // to another costs what it adds that each takes the next one's object. The price of a person's
 // object is the mean, over all persons, of the least that a path to them costs; at these prices all
-// other pairs are worse, if any other plan is.
+// other pairs are worse, if any other plan is. A pair that isn't allowed stands as a dear one.
 ghost use Rattle.std.specs.Prelude.{◌≡◌, length};
 
 use super::hall::as_number;
@@ -19,8 +19,12 @@ const PLANS: [[usize; PERSONS]; 6] = [
     [2, 1, 0],
 ];
 
-// 2^-46: a plan must be better by this part of the greatest cost than rounding can make it.
-const PART: f64 = 0.000000000000014210854715202004;
+// 2^-47: a plan must be better by this part of a dear cost than rounding can make it.
+const PART: f64 = 0.000000000000007105427357601002;
+
+// A dear pair costs so many times the greatest cost. With more, prices would be too great for a margin
+// to count.
+const DEAR: f64 = 2.0;
 
 // A plan, the price of each person's object, and by how much other pairs are worse.
 #[derive(Clone, Copy)]
@@ -30,11 +34,35 @@ struct Found {
     worse: f64,
 }
 
-impl<'a> Problem<'a> {
+// A small problem, and what a dear pair costs.
+#[derive(Clone, Copy)]
+struct Small<'a> {
+    problem: Problem<'a>,
+    dear: f64,
+}
+
+// The greatest absolute value of a finite cost.
+fn size_of(costs: &[f64]) -> f64 {
+    let mut size = 0.0;
+    for cost in costs {
+        let one = cost.abs();
+        size = if one > size && one < f64::INFINITY {
+            one
+        } else {
+            size
+        };
+    }
+    size
+}
+
+impl<'a> Small<'a> {
     // The cost of a pair, to be minimised.
     fn turned(self, person: usize, object: usize) -> f64 {
-        let place = person.wrapping_mul(self.persons).wrapping_add(object);
-        self.costs.get(place).copied().unwrap_or(0.0) * self.sign()
+        let place = person
+            .wrapping_mul(self.problem.persons)
+            .wrapping_add(object);
+        let cost = self.problem.costs.get(place).copied().unwrap_or(0.0);
+        lesser(cost * self.problem.sign(), self.dear)
     }
 
     fn best_of_two(self) -> Found {
@@ -91,15 +119,17 @@ impl<'a> Problem<'a> {
         }
     }
 
-    // The greatest absolute value of a cost.
-    fn size(self) -> f64 {
-        let mut size = 0.0;
-        for cost in self.costs {
-            size = greater(cost.abs(), size);
+    // Whether the plan is better than any other by far more than rounding, and without a dear pair.
+    fn is_clear(self, found: Found) -> bool {
+        let mut greatest = 0.0;
+        for person in 0..self.problem.persons.min(PERSONS) {
+            greatest = greater(self.turned(person, found.objects[person]), greatest);
         }
-        size
+        greatest < self.dear && found.worse > self.dear * PART && found.worse < f64::INFINITY
     }
+}
 
+impl<'a> Problem<'a> {
     // Writes a best plan and prices, if one is better than any other by far more than rounding.
     // Returns the margin.
     pub fn solve_small(self, objects: &mut [u32], prices: &mut [f64]) -> Option<f64>
@@ -109,13 +139,17 @@ impl<'a> Problem<'a> {
         if self.persons != self.objects || (self.persons != 2 && self.persons != 3) {
             return None;
         }
-        let size = self.size();
-        let found = if self.persons == 2 {
-            self.best_of_two()
-        } else {
-            self.best_of_three()
+        let size = size_of(self.costs);
+        let small = Small {
+            problem: self,
+            dear: size * DEAR,
         };
-        if !(size < f64::INFINITY && found.worse > size * PART && found.worse < f64::INFINITY) {
+        let found = if self.persons == 2 {
+            small.best_of_two()
+        } else {
+            small.best_of_three()
+        };
+        if !small.is_clear(found) {
             return None;
         }
         write_found(found, objects, prices);

@@ -55,13 +55,14 @@ const LANES: usize = 4;
 
 // The whole numbers in the last bits of sums with the number above.
 fn last_bits_of(sums: f64x4) -> i64x4 {
-    let each = sums.to_array();
+    let numbers = sums.simd_eq(sums).select(sums, f64x4::splat(MAGIC));
+    let bits = numbers.to_bits().to_array();
     i64x4::from_array([
-        last_bits(each[0]),
-        last_bits(each[1]),
-        last_bits(each[2]),
-        last_bits(each[3]),
-    ])
+        bits[0].cast_signed(),
+        bits[1].cast_signed(),
+        bits[2].cast_signed(),
+        bits[3].cast_signed(),
+    ]) - i64x4::splat(MAGIC_BITS)
 }
 
 // Coarse units in fine ones.
@@ -92,9 +93,6 @@ fn whole_of_all(costs: f64x4, scale: Scale) -> i64x4 {
     let rest = (coarse - (sum - magic)) * f64x4::splat(scale.parts);
     let whole = in_fine(last_bits_of(sum), scale) + last_bits_of(rest + magic);
     let is_below = coarse.simd_lt(f64x4::splat(LIMIT));
-    if is_below.all() {
-        return whole;
-    }
     is_below.select(whole, above_of(costs, scale))
 }
 

@@ -1,8 +1,8 @@
-use Rattle.std.proofs.Common.{◌+ℤ◌, sym, ◌∙◌}
+use Rattle.std.proofs.Common.{◌+ℤ◌, length, sym, ◌∙◌}
 use mathlib.Core.Bool.{true≢false}
 use Rattle.double_costs.specs.Units.{units_of}
 use Rattle.double_checker.specs.inside.Pairs.{at, paid}
-use Rattle.double_checker.proofs.RowSteps.{above_more, at_least_above, at_least_own, least_more}
+use Rattle.double_checker.proofs.RowSteps.{above_more, at_least_above, at_least_own, least_by_above, least_more}
 use Rattle.double_checker.proofs.rows.is_row_above.Goals as goal
 use Rattle.double_checker.proofs.rows.is_row_above.Goals.{then-not-is_above+then-k-own+else-not-is_at_least}
 use Rattle.double_checker.proofs.rows.is_row_above.Goals.{else-not-is_above}
@@ -44,3 +44,11 @@ loop-k-preserved c =
         }
       ]
     ]
+
+pub returns-then-are_others_above : goal.returns-then-are_others_above
+returns-then-are_others_above c =
+    let above = c.are_others_above.ensures c.if-are_others_above.true in (
+      least_by_above c.args.sense (units_of c.args.base +ℤ units_of c.args.margin) c.args.row.now c.args.prices.now
+          c.args.own c.requires.finite c.requires.enough (length c.args.row.now) above,
+      λ e. above,
+    )
