@@ -41,6 +41,16 @@ impl<'a> Problem<'a> {
     }
 }
 
+// What a search of dense problems leaves.
+#[derive(Clone, Copy)]
+pub enum Dense {
+    Nothing,
+    // A plan and duals that are nearly best.
+    Near,
+    // A plan and duals with a margin.
+    Apart,
+}
+
 // The duals at prices in units of so many bits.
 fn negate(duals: &mut [i64], shift: u32) {
     for dual in duals.iter_mut() {
@@ -89,20 +99,20 @@ impl<'a> Lists<'a> {
         Ok(self.has_all())
     }
 
-    // A plan by the search of dense problems, and duals with a margin. Returns whether there are
-    // any. The room for the costs is taken for the while.
+    // A plan by the search of dense problems, and duals with a margin if there are any. The room for
+    // the costs is taken for the while.
     pub fn search_dense(
         &mut self,
         alloc: Global,
         problem: Problem<'_>,
         room: &mut [i64],
         scale: Scale,
-    ) -> Result<bool, AllocError> {
+    ) -> Result<Dense, AllocError> {
         let narrow = Narrow::of(problem.costs.len());
         let shift = narrow.shift(scale);
         narrow.to_whole(problem.costs, room, scale);
         if !self.begin_narrow(alloc, problem, room, narrow, shift)? {
-            return Ok(false);
+            return Ok(Dense::Nothing);
         }
         let (row, _) = room.split_at_mut(problem.objects.min(room.len()));
         let mut rows = Rows::Made(Doubles {
@@ -110,6 +120,10 @@ impl<'a> Lists<'a> {
             row,
             scale,
         });
-        Ok(self.spread(&mut rows, scale, 1i64.wrapping_shl(shift)))
+        if self.spread(&mut rows, scale, 1i64.wrapping_shl(shift)) {
+            Ok(Dense::Apart)
+        } else {
+            Ok(Dense::Near)
+        }
     }
 }

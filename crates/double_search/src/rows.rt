@@ -1,7 +1,7 @@
 // The costs of a person as whole numbers: those in a list, or new ones of its doubles.
 use super::lists::Matrix;
 use super::scale::Scale;
-use super::whole::to_whole;
+use super::whole::{to_whole, whole_of};
 
 #[derive(Drop)]
 pub enum Rows<'a> {
@@ -25,6 +25,11 @@ impl<'a> Doubles<'a> {
         to_whole(costs, self.row, self.scale);
         self.row
     }
+
+    fn cost(&self, person: usize, object: usize) -> i64 {
+        let pair = person.wrapping_mul(self.row.len()).wrapping_add(object);
+        whole_of(self.costs.get(pair).copied().unwrap_or(0.0), self.scale)
+    }
 }
 
 impl<'a> Rows<'a> {
@@ -32,6 +37,13 @@ impl<'a> Rows<'a> {
         match self {
             Rows::Listed(matrix) => matrix.row(person),
             Rows::Made(doubles) => doubles.row_of(person),
+        }
+    }
+
+    pub fn cost(&self, person: usize, object: usize) -> i64 {
+        match self {
+            Rows::Listed(matrix) => matrix.cost(person, object),
+            Rows::Made(doubles) => doubles.cost(person, object),
         }
     }
 }
