@@ -5,6 +5,7 @@
 mod best;
 mod bids;
 mod block;
+mod dense;
 mod hall;
 mod lists;
 mod margin;
@@ -13,6 +14,7 @@ mod near;
 mod paths;
 mod range;
 mod reach;
+mod rows;
 mod scale;
 mod small;
 mod solver;
@@ -20,6 +22,5 @@ mod start;
 mod whole;
 
 pub use hall::HallSet;
-pub use narrow::to_narrow;
 pub use range::margin_of;
-pub use solver::{Ended, Problem, search, search_from, search_near};
+pub use solver::{Ended, Problem, search, search_from};

@@ -2,8 +2,9 @@
 // by longest paths among the near pairs.
 ghost use Rattle.std.specs.Prelude.{◌≡◌, length};
 
-use super::lists::{Lists, Matrix, at, copy, fill, number_of, place_of, put};
+use super::lists::{Lists, at, copy, fill, number_of, place_of, put};
 use super::near::Nearness;
+use super::rows::Rows;
 use super::scale::Scale;
 
 // How far steps may go, and how far pairs count as near, in units.
@@ -150,7 +151,7 @@ impl<'a> Lists<'a> {
     fn step_on(&mut self, first: Ring, bounds: Bounds) -> bool {
         let mut ring = first;
         let persons = self.objects.len();
-        for _ in 0..persons.saturating_mul(20).saturating_add(100) {
+        for _ in 0..persons.saturating_mul(100).saturating_add(100) {
             if ring.count == 0 {
                 return true;
             }
@@ -188,9 +189,9 @@ impl<'a> Lists<'a> {
 
     // Duals at which each near pair is worse by its margin, in place of these, which may be off by
     // so many units. Returns whether there are any.
-    fn spread_by(&mut self, matrix: Matrix<'_>, bounds: Bounds, nearness: Nearness) -> bool {
+    fn spread_by(&mut self, rows: &mut Rows<'_>, bounds: Bounds, nearness: Nearness) -> bool {
         self.begin_keys(bounds.grid);
-        if !self.gather_near(matrix, nearness) || !self.take_steps(bounds) {
+        if !self.gather_near(rows, nearness) || !self.take_steps(bounds) {
             return false;
         }
         self.enter_steps();
@@ -201,7 +202,7 @@ impl<'a> Lists<'a> {
     // The same for a margin.
     fn spread_of(
         &mut self,
-        matrix: Matrix<'_>,
+        rows: &mut Rows<'_>,
         scale: Scale,
         margin: i64,
         of_equal: i64,
@@ -211,7 +212,7 @@ impl<'a> Lists<'a> {
         let unit = scale.grid().max(off).max(margin >> 2);
         let bounds = Bounds {
             grid: scale.grid(),
-            margin,
+            margin: margin.max(off),
             most: unit.wrapping_mul(persons.wrapping_mul(8).wrapping_add(16)),
         };
         let nearness = Nearness {
@@ -225,15 +226,15 @@ impl<'a> Lists<'a> {
                 self.objects.len().saturating_mul(3).saturating_add(16)
             },
         };
-        self.spread_by(matrix, bounds, nearness)
+        self.spread_by(rows, bounds, nearness)
     }
 
     // Duals at which each other pair is worse by the margin that is wanted, or else each one whose
     // cost isn't the same by the least margin.
-    pub fn spread(&mut self, matrix: Matrix<'_>, scale: Scale, off: i64) -> bool {
+    pub fn spread(&mut self, rows: &mut Rows<'_>, scale: Scale, off: i64) -> bool {
         let least = scale.least_margin();
         let wanted = scale.margin.max(least);
-        self.spread_of(matrix, scale, wanted, wanted, off)
-            || self.spread_of(matrix, scale, least, 0, off)
+        self.spread_of(rows, scale, wanted, wanted, off)
+            || self.spread_of(rows, scale, least, 0, off)
     }
 }

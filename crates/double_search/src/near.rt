@@ -1,8 +1,9 @@
 // The near pairs at a plan: those of a person and an object that is worse than its own by less than
 // so much.
 use super::best::{bits_below, block_of, lowest, others};
-use super::lists::{Lists, Matrix, NOBODY, at, number_of, place_of, put};
+use super::lists::{Lists, NOBODY, at, number_of, place_of, put};
 use super::reach::BLOCK;
+use super::rows::Rows;
 use super::whole::FAR;
 
 // Which pairs are near, and by how much they are to be worse.
@@ -44,9 +45,9 @@ impl Nearness {
 }
 
 impl<'a> Lists<'a> {
-    fn own_of(&self, matrix: Matrix<'_>, person: usize) -> Own {
+    fn own_of(&self, costs: &[i64], person: usize) -> Own {
         let object = place_of(at(self.objects, person));
-        let cost = matrix.cost(person, object);
+        let cost = at(costs, object);
         Own {
             object,
             cost,
@@ -107,13 +108,12 @@ impl<'a> Lists<'a> {
 
     fn gather_of(
         &mut self,
-        matrix: Matrix<'_>,
+        costs: &[i64],
         person: usize,
         nearness: Nearness,
         count: usize,
     ) -> usize {
-        let own = self.own_of(matrix, person);
-        let costs = matrix.row(person);
+        let own = self.own_of(costs, person);
         let mut kept = Kept { count, cap: FAR };
         for from in (0..costs.len()).step_by(BLOCK) {
             kept = self.keep_block(costs, from, own, nearness, kept);
@@ -123,13 +123,13 @@ impl<'a> Lists<'a> {
     }
 
     // Lists the near pairs at the duals in the keys. Returns whether there is room for them.
-    pub fn gather_near(&mut self, matrix: Matrix<'_>, nearness: Nearness) -> bool {
+    pub fn gather_near(&mut self, rows: &mut Rows<'_>, nearness: Nearness) -> bool {
         let persons = self.objects.len();
         let room = self.near.len().min(nearness.room);
         let mut count = 0usize;
         for person in 0..persons {
             put(self.starts, person, number_of(count));
-            count = self.gather_of(matrix, person, nearness, count);
+            count = self.gather_of(rows.row(person), person, nearness, count);
             if count > room {
                 return false;
             }

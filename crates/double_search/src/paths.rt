@@ -1,7 +1,8 @@
 // The search for a shortest path from a person without an object to an unowned object (Dijkstra's;
 // Edmonds and Karp 1972, Tomizawa 1971).
-use super::lists::{Lists, Matrix, NOBODY, at, copy, number_of, place_of, put};
+use super::lists::{Lists, NOBODY, at, copy, number_of, place_of, put};
 use super::reach::{nearest, reach_first, reach_next};
+use super::rows::Rows;
 use super::whole::FAR;
 
 // The key that hides a passed object.
@@ -20,10 +21,10 @@ pub enum Path {
 
 impl<'a> Lists<'a> {
     // Scans a person in this turn; the least distance of all objects.
-    fn scan(&mut self, matrix: Matrix<'_>, turn: usize, person: usize, base: i64) -> i64 {
+    fn scan(&mut self, rows: &mut Rows<'_>, turn: usize, person: usize, base: i64) -> i64 {
         put(self.scanned, turn, number_of(person));
         put(self.bases, turn, base);
-        let row = matrix.row(person);
+        let row = rows.row(person);
         let keys = &mut *self.keys;
         let distances = &mut *self.distances;
         let blocks = &mut *self.blocks;
@@ -56,11 +57,11 @@ impl<'a> Lists<'a> {
     }
 
     // The turn, before this one, in which the object's distance was found; or else this one.
-    fn turn_of(&self, matrix: Matrix<'_>, before: usize, object: usize, distance: i64) -> usize {
+    fn turn_of(&self, rows: &Rows<'_>, before: usize, object: usize, distance: i64) -> usize {
         let dual = at(self.duals, object);
         for turn in 0..before {
             let person = place_of(at(self.scanned, turn));
-            let cost = matrix.cost(person, object);
+            let cost = rows.cost(person, object);
             if cost.wrapping_sub(dual).wrapping_sub(at(self.bases, turn)) == distance {
                 return turn;
             }
@@ -69,12 +70,12 @@ impl<'a> Lists<'a> {
     }
 
     // Gives each person on the way back from an object the object that was reached from it.
-    fn walk_back(&mut self, matrix: Matrix<'_>, turns: usize, end: usize, level: i64) -> bool {
+    fn walk_back(&mut self, rows: &Rows<'_>, turns: usize, end: usize, level: i64) -> bool {
         let mut object = end;
         let mut distance = level;
         let mut before = turns;
         for _ in 0..turns {
-            let turn = self.turn_of(matrix, before, object, distance);
+            let turn = self.turn_of(rows, before, object, distance);
             if turn >= before {
                 return false;
             }
@@ -101,12 +102,12 @@ impl<'a> Lists<'a> {
     }
 
     // Gives a person an object, if a path leads to an unowned one.
-    pub fn augment(&mut self, matrix: Matrix<'_>, first: usize) -> Path {
+    pub fn augment(&mut self, rows: &mut Rows<'_>, first: usize) -> Path {
         self.begin_keys_exactly();
         let mut person = first;
         let mut base = 0i64;
         for turn in 0..self.objects.len() {
-            let level = self.scan(matrix, turn, person, base);
+            let level = self.scan(rows, turn, person, base);
             if level >= FAR {
                 return Path::None(turn.wrapping_add(1));
             }
@@ -117,23 +118,23 @@ impl<'a> Lists<'a> {
                 return Path::Lost;
             }
             if owner == NOBODY {
-                let is_back = self.walk_back(matrix, turn.wrapping_add(1), object, level);
+                let is_back = self.walk_back(rows, turn.wrapping_add(1), object, level);
                 self.lower_passed(turn, level);
                 return if is_back { Path::Found } else { Path::Lost };
             }
             self.pass(turn, object, level);
             person = place_of(owner);
-            let own = matrix.cost(person, object);
+            let own = rows.cost(person, object);
             base = own.wrapping_sub(at(self.duals, object)).wrapping_sub(level);
         }
         Path::Lost
     }
 
     // Gives each person an object.
-    pub fn augment_all(&mut self, matrix: Matrix<'_>) -> Path {
+    pub fn augment_all(&mut self, rows: &mut Rows<'_>) -> Path {
         for person in 0..self.objects.len() {
             if at(self.objects, person) == NOBODY {
-                let path = self.augment(matrix, person);
+                let path = self.augment(rows, person);
                 if path != Path::Found {
                     return path;
                 }

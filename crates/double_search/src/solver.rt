@@ -2,12 +2,14 @@
 ghost use Rattle.std.specs.Prelude.{◌≡◌, length};
 
 use super::block::{cut, lists_in, room_of};
+use super::dense::Dense;
 use super::hall::{HallSet, all_persons, as_number, hall_set_of};
 use super::lists::{Lists, Matrix, at, place_of};
 use super::paths::Path;
 use super::range::{Range, sign_of};
+use super::rows::{Doubles, Rows};
 use super::scale::Scale;
-use super::whole::{FAR, to_duals, to_prices, to_whole};
+use super::whole::{to_duals, to_prices, to_whole, whole_of};
 use assign_core::Sense;
 use std::alloc::{AllocError, Global};
 
@@ -90,10 +92,13 @@ impl<'a> Problem<'a> {
 }
 
 // Whether a person has an object whose cost was cut.
-fn has_cut(matrix: Matrix<'_>, lists: &Lists<'_>, scale: Scale) -> bool {
+fn has_cut(problem: Problem<'_>, lists: &Lists<'_>, scale: Scale) -> bool {
     let limit = scale.limit();
     for person in 0..lists.persons() {
-        if matrix.cost(person, place_of(at(lists.objects, person))) >= limit {
+        let object = place_of(at(lists.objects, person));
+        let pair = person.wrapping_mul(problem.objects).wrapping_add(object);
+        let cost = problem.costs.get(pair).copied().unwrap_or(0.0);
+        if whole_of(cost, scale) >= limit {
             return true;
         }
     }
@@ -122,14 +127,14 @@ enum Begin {
     Nothing,
     // With a plan and prices.
     Plan,
-    // With a plan that is best, at the prices, within this difference.
-    Near(f64),
+    // With a plan and duals that are nearly best.
+    Near,
 }
 
 // Other duals with a margin, where a plan was found.
 fn with_margin(matrix: Matrix<'_>, lists: &mut Lists<'_>, scale: Scale, path: Path) -> Path {
     if path == Path::Found {
-        let _ = lists.spread(matrix, scale, 0);
+        let _ = lists.spread(&mut Rows::Listed(matrix), scale, 0);
     }
     path
 }
@@ -144,37 +149,96 @@ fn search_from_plan(matrix: Matrix<'_>, lists: &mut Lists<'_>, scale: Scale) -> 
     with_margin(matrix, lists, scale, path)
 }
 
-// Duals with a margin, or those that there are if they are exact, or those of a search from there.
-fn search_from_near(matrix: Matrix<'_>, lists: &mut Lists<'_>, scale: Scale, off: f64) -> Path {
-    if !lists.has_all() {
-        return search_from_plan(matrix, lists, scale);
-    }
-    if lists.spread(matrix, scale, scale.small(off)) {
-        return Path::Found;
-    }
+// The duals that there are if they are exact, or those of a search from there.
+fn search_from_near(matrix: Matrix<'_>, lists: &mut Lists<'_>, scale: Scale) -> Path {
     if lists.settle(matrix) == 0 && lists.are_unowned_on_top() {
         return Path::Found;
     }
     search_from_plan(matrix, lists, scale)
 }
 
-fn search_begun(
-    matrix: Matrix<'_>,
-    lists: &mut Lists<'_>,
-    scale: Scale,
-    begin: Begin,
-    objects: &[u32],
-    prices: &[f64],
-) -> Path {
+// The plan and the duals of an earlier search.
+fn enter(lists: &mut Lists<'_>, scale: Scale, objects: &[u32], prices: &[f64]) {
     lists.release_all();
     lists.enter(objects);
     if prices.len() == lists.duals.len() {
         to_duals(prices, lists.duals, scale);
     }
+}
+
+// A search over whole numbers of this unit, for which there is room.
+fn search_whole(
+    problem: Problem<'_>,
+    lists: &mut Lists<'_>,
+    room: &mut [i64],
+    scale: Scale,
+    begin: Begin,
+    objects: &[u32],
+    prices: &[f64],
+) -> Path {
+    to_whole(problem.costs, room, scale);
+    let matrix = Matrix {
+        m: problem.objects,
+        costs: room,
+    };
     match begin {
         Begin::Nothing => search_from_nothing(matrix, lists, scale),
-        Begin::Plan => search_from_plan(matrix, lists, scale),
-        Begin::Near(off) => search_from_near(matrix, lists, scale, off),
+        Begin::Plan => {
+            enter(lists, scale, objects, prices);
+            search_from_plan(matrix, lists, scale)
+        }
+        Begin::Near => search_from_near(matrix, lists, scale),
+    }
+}
+
+// What a search ended with.
+fn ended_by(
+    alloc: Global,
+    problem: Problem<'_>,
+    scale: Scale,
+    lists: &Lists<'_>,
+    path: Path,
+    objects: &mut [u32],
+    prices: &mut [f64],
+) -> Result<Tried, AllocError>
+    ensures objects { length objects.new ≡ length objects.old }
+    ensures prices { length prices.new ≡ length prices.old }
+{
+    match path {
+        Path::Lost => Ok(Tried::Lost),
+        Path::None(turns) => Ok(Tried::Hall(hall_set_of(alloc, lists, turns)?)),
+        Path::Found => {
+            if scale.is_cut && has_cut(problem, lists, scale) {
+                return Ok(Tried::Cut);
+            }
+            write(lists, scale, objects, prices);
+            Ok(Tried::Plan)
+        }
+    }
+}
+
+// A search in this unit from a plan in which few persons have no object, over the doubles. None
+// where there is more to do.
+fn search_few_in(
+    alloc: Global,
+    problem: Problem<'_>,
+    scale: Scale,
+    objects: &mut [u32],
+    prices: &mut [f64],
+) -> Result<Option<Tried>, AllocError>
+    ensures objects { length objects.new ≡ length objects.old }
+    ensures prices { length prices.new ≡ length prices.old }
+{
+    let (n, m) = (problem.persons, problem.objects);
+    let mut memory = vec![in alloc; 0i64; m.saturating_add(room_of(n, m))]?;
+    let (row, block) = cut(memory.as_mut_slice(), m);
+    let mut lists = lists_in(n, m, block);
+    let costs = problem.costs;
+    let mut rows = Rows::Made(Doubles { costs, row, scale });
+    enter(&mut lists, scale, objects, prices);
+    match lists.search_few(&mut rows, scale) {
+        Some(path) => Ok(Some(ended_by(alloc, problem, scale, &lists, path, objects, prices)?)),
+        None => Ok(None),
     }
 }
 
@@ -190,28 +254,38 @@ fn search_in(
     ensures objects { length objects.new ≡ length objects.old }
     ensures prices { length prices.new ≡ length prices.old }
 {
+    if let Begin::Plan = begin {
+        if let Some(tried) = search_few_in(alloc, problem, scale, objects, prices)? {
+            return Ok(tried);
+        }
+    }
     let (n, m) = (problem.persons, problem.objects);
     let pairs = problem.costs.len();
     let mut memory = vec![in alloc; 0i64; pairs.saturating_add(room_of(n, m))]?;
-    let (costs, block) = cut(memory.as_mut_slice(), pairs);
-    to_whole(problem.costs, costs, scale);
-    let matrix = Matrix { m, costs };
+    let (room, block) = cut(memory.as_mut_slice(), pairs);
     let mut lists = lists_in(n, m, block);
-    let path = match begin {
-        Begin::Nothing => search_from_nothing(matrix, &mut lists, scale),
-        _ => search_begun(matrix, &mut lists, scale, begin, objects, prices),
+    let is_dense = matches!(begin, Begin::Nothing) && problem.is_dense();
+    let dense = if is_dense {
+        lists.search_dense(alloc, problem, room, scale)?
+    } else {
+        Dense::Nothing
     };
-    match path {
-        Path::Lost => Ok(Tried::Lost),
-        Path::None(turns) => Ok(Tried::Hall(hall_set_of(alloc, &lists, turns)?)),
-        Path::Found => {
-            if scale.is_cut && has_cut(matrix, &lists, scale) {
-                return Ok(Tried::Cut);
-            }
-            write(&lists, scale, objects, prices);
-            Ok(Tried::Plan)
+    let path = match dense {
+        Dense::Apart => Path::Found,
+        Dense::Near => {
+            search_whole(
+                problem,
+                &mut lists,
+                room,
+                scale,
+                Begin::Near,
+                objects,
+                prices,
+            )
         }
-    }
+        Dense::Nothing => search_whole(problem, &mut lists, room, scale, begin, objects, prices),
+    };
+    ended_by(alloc, problem, scale, &lists, path, objects, prices)
 }
 
 // The margin of a plan of a small problem, where a search begins with nothing.
@@ -297,22 +371,4 @@ pub fn search_from(
     ensures prices { length prices.new ≡ length prices.old }
 {
     search_all(alloc, problem, Begin::Plan, objects, prices)
-}
-
-/// The same from a plan that is best within `off`: at these prices no pair of a person is better than
-/// its own by more.
-///
-/// # Errors
-/// `AllocError` if memory is refused.
-pub fn search_near(
-    alloc: Global,
-    problem: Problem<'_>,
-    off: f64,
-    objects: &mut [u32],
-    prices: &mut [f64],
-) -> Result<Ended, AllocError>
-    ensures objects { length objects.new ≡ length objects.old }
-    ensures prices { length prices.new ≡ length prices.old }
-{
-    search_all(alloc, problem, Begin::Near(off), objects, prices)
 }

@@ -3,6 +3,8 @@ use super::best::least_of_row;
 use super::bids::{begin_with_least, bid_all};
 use super::lists::{Lists, Matrix, NOBODY, at, fill, place_of, put};
 use super::paths::Path;
+use super::rows::Rows;
+use super::scale::Scale;
 use super::whole::FAR;
 
 impl<'a> Lists<'a> {
@@ -27,7 +29,7 @@ impl<'a> Lists<'a> {
             begin_with_least(matrix.costs, self.duals);
         }
         bid_all(matrix, self);
-        self.augment_all(matrix)
+        self.augment_all(&mut Rows::Listed(matrix))
     }
 
     // Whether a person's own object is a best one.
@@ -67,11 +69,32 @@ impl<'a> Lists<'a> {
     // A search from the duals and the plan that there are.
     pub fn search_warm(&mut self, matrix: Matrix<'_>) -> Path {
         let _ = self.settle(matrix);
-        let path = self.augment_all(matrix);
+        let path = self.augment_all(&mut Rows::Listed(matrix));
         if path == Path::Found && !self.are_unowned_on_top() {
             return self.search_cold(matrix);
         }
         path
+    }
+
+    // Whether at most a sixteenth of the persons, or one, has no object.
+    fn has_nearly_all(&self) -> bool {
+        let left = self.objects.iter().filter(|object| **object == NOBODY);
+        left.count() <= (self.objects.len() / 16).max(1)
+    }
+
+    // Paths from few persons without an object, where the others keep a best one. Says how that
+    // ended, unless there is more to do.
+    pub fn search_few(&mut self, rows: &mut Rows<'_>, scale: Scale) -> Option<Path> {
+        if !self.has_nearly_all() {
+            return None;
+        }
+        match self.augment_all(rows) {
+            Path::Found if self.are_unowned_on_top() && self.spread(rows, scale, 0) => {
+                Some(Path::Found)
+            }
+            Path::None(turns) => Some(Path::None(turns)),
+            _ => None,
+        }
     }
 
     // Gives persons the objects with these numbers, each object once.

@@ -54,7 +54,7 @@ pub fn whole_of(cost: f64, scale: Scale) -> i64 {
 const LANES: usize = 4;
 
 // The whole numbers in the last bits of sums with the number above.
-fn last_bits_of(sums: f64x4) -> i64x4 {
+pub fn last_bits_of(sums: f64x4) -> i64x4 {
     let numbers = sums.simd_eq(sums).select(sums, f64x4::splat(MAGIC));
     let bits = numbers.to_bits().to_array();
     i64x4::from_array([

@@ -1,5 +1,5 @@
-// Drawn problems of eight persons and objects, half of whose pairs are forbidden: a start that
-// doesn't fit gives the code that a search from nothing gives.
+// Drawn problems. Of eight persons and objects half of the pairs are forbidden: a start that doesn't
+// fit gives the code that a search from nothing gives. Of 300 all pairs are allowed.
 use crate::called::{solve, solve_again, unwritten};
 use std::alloc::Global;
 use std::num::nearest_i64_to_f64;
@@ -82,5 +82,66 @@ fn starts_that_do_not_fit(rt: HostRuntime) -> Result<(), Fail> {
         plans = plans.wrapping_add(u32::from(code == 0));
     }
     assert!(rt; plans > 0 && plans < 100);
+    Ok(())
+}
+
+const MANY: usize = 300;
+
+fn draw_parts(seed: &mut u64, costs: &mut [f64]) {
+    for k in 0..costs.len() {
+        costs[k] = next_part(seed);
+    }
+}
+
+// What a plan costs; the sum isn't rounded.
+fn sum_of(costs: &[f64], objects: &[u32]) -> f64 {
+    let mut sum = 0.0;
+    for (row, object) in costs.chunks(MANY).zip(objects) {
+        let place = (*object as usize).wrapping_sub(1);
+        sum += row.get(place).copied().unwrap_or(1000.0);
+    }
+    sum
+}
+
+// SciPy's plan for these costs has this sum. Without two persons' objects the search goes on from the
+// others'.
+#[test]
+fn plans_of_many_persons(rt: HostRuntime) -> Result<(), Fail> {
+    let alloc = rt.alloc();
+    let mut seed = 7u64;
+    let mut costs = vec![in alloc; 0.0; MANY * MANY]?;
+    draw_parts(&mut seed, costs.as_mut_slice());
+    let (mut objects, mut persons, mut prices) = ([0u32; MANY], [0u32; MANY], [0.0; MANY]);
+    let mut info = unwritten();
+    let costs = costs.as_slice();
+    let code = solve(
+        alloc,
+        0,
+        MANY,
+        MANY,
+        costs,
+        &mut objects,
+        &mut persons,
+        &mut prices,
+        &mut info,
+    );
+    assert!(rt; code == 0 && info.by_margin == 1);
+    assert!(rt; sum_of(costs, &objects) == 3406269952.0 / 2147483648.0);
+    let before = objects;
+    objects[0] = 0;
+    objects[150] = 0;
+    let code = solve_again(
+        alloc,
+        0,
+        MANY,
+        MANY,
+        costs,
+        &mut objects,
+        &mut persons,
+        &mut prices,
+        &mut info,
+    );
+    assert!(rt; code == 0 && info.by_margin == 1);
+    assert!(rt; objects == before);
     Ok(())
 }

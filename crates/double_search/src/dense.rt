@@ -1,0 +1,129 @@
+// A start from what the search of dense problems finds in whole numbers of fewer bits.
+use super::lists::{Lists, at};
+use super::narrow::{MOST_COPIED, Narrow};
+use super::rows::{Doubles, Rows};
+use super::scale::Scale;
+use super::solver::Problem;
+use assign_core::Sense;
+use dense_search::{DenseProblem, Outcome, Record, search};
+use std::alloc::{AllocError, Global};
+
+// From so many persons on that search is faster.
+const LEAST: usize = 300;
+
+// So many costs are looked at for equal ones.
+const LOOKED_AT: usize = 4096;
+
+impl<'a> Problem<'a> {
+    // Whether there are as many objects as persons, or hardly more.
+    fn is_square(self) -> bool {
+        let more = self.objects.saturating_sub(self.persons);
+        if self.costs.len() > MOST_COPIED {
+            more <= self.persons / 64
+        } else {
+            more == 0
+        }
+    }
+
+    // Whether more than an eighth of the first costs are the same as the next one.
+    fn has_many_equal(self) -> bool {
+        let (costs, _) = self.costs.split_at(LOOKED_AT.min(self.costs.len()));
+        let mut count = 0usize;
+        for (one, next) in costs.iter().zip(costs.iter().skip(1)) {
+            count = count.wrapping_add(usize::from(*one == *next));
+        }
+        count > costs.len() / 8
+    }
+
+    // Whether the search of dense problems is faster.
+    pub fn is_dense(self) -> bool {
+        self.persons >= LEAST && self.is_square() && !self.has_many_equal()
+    }
+}
+
+// What a search of dense problems leaves.
+#[derive(Clone, Copy)]
+pub enum Dense {
+    Nothing,
+    // A plan and duals that are nearly best.
+    Near,
+    // A plan and duals with a margin.
+    Apart,
+}
+
+// The duals at prices in units of so many bits.
+fn negate(duals: &mut [i64], shift: u32) {
+    for dual in duals.iter_mut() {
+        *dual = dual.wrapping_neg().wrapping_shl(shift);
+    }
+}
+
+impl<'a> Lists<'a> {
+    // Gives persons the objects at these places, but no pair that isn't allowed.
+    fn enter_places(&mut self, places: &[u32], m: usize, costs: &[i64], narrow: Narrow) {
+        for (person, place) in places.iter().enumerate() {
+            let object = *place as usize;
+            let cost = at(costs, person.wrapping_mul(m).wrapping_add(object));
+            if object < m && narrow.allows(cost) {
+                self.give(person, object);
+            }
+        }
+    }
+
+    // A plan and duals that are best within a unit of fewer bits. Returns whether each person has
+    // an object.
+    fn begin_narrow(
+        &mut self,
+        alloc: Global,
+        problem: Problem<'_>,
+        costs: &[i64],
+        narrow: Narrow,
+        shift: u32,
+    ) -> Result<bool, AllocError> {
+        let dense = DenseProblem {
+            sense: Sense::Min,
+            persons: problem.persons,
+            objects: problem.objects,
+            costs,
+        };
+        let mut places = vec![in alloc; 0u32; problem.persons]?;
+        let mut record = Record::cold();
+        let objects = places.as_mut_slice();
+        let outcome = search(alloc, dense, self.duals, objects, &mut record, 0)?;
+        if !matches!(outcome, Outcome::Best) {
+            return Ok(false);
+        }
+        negate(self.duals, shift);
+        self.release_all();
+        self.enter_places(places.as_slice(), problem.objects, costs, narrow);
+        Ok(self.has_all())
+    }
+
+    // A plan by the search of dense problems, and duals with a margin if there are any. The room for
+    // the costs is taken for the while.
+    pub fn search_dense(
+        &mut self,
+        alloc: Global,
+        problem: Problem<'_>,
+        room: &mut [i64],
+        scale: Scale,
+    ) -> Result<Dense, AllocError> {
+        let narrow = Narrow::of(problem.costs.len());
+        let shift = narrow.shift(scale);
+        narrow.to_whole(problem.costs, room, scale);
+        if !self.begin_narrow(alloc, problem, room, narrow, shift)? {
+            return Ok(Dense::Nothing);
+        }
+        let (row, _) = room.split_at_mut(problem.objects.min(room.len()));
+        let mut rows = Rows::Made(Doubles {
+            costs: problem.costs,
+            row,
+            scale,
+        });
+        if self.spread(&mut rows, scale, 1i64.wrapping_shl(shift)) {
+            Ok(Dense::Apart)
+        } else {
+            Ok(Dense::Near)
+        }
+    }
+}

@@ -1,0 +1,49 @@
+// The costs of a person as whole numbers: those in a list, or new ones of its doubles.
+use super::lists::Matrix;
+use super::scale::Scale;
+use super::whole::{to_whole, whole_of};
+
+#[derive(Drop)]
+pub enum Rows<'a> {
+    Listed(Matrix<'a>),
+    Made(Doubles<'a>),
+}
+
+// Costs in doubles, and room for those of a person.
+#[derive(Drop)]
+pub struct Doubles<'a> {
+    pub costs: &'a [f64],
+    pub row: &'a mut [i64],
+    pub scale: Scale,
+}
+
+impl<'a> Doubles<'a> {
+    fn row_of(&mut self, person: usize) -> &[i64] {
+        let m = self.row.len();
+        let from = person.wrapping_mul(m);
+        let costs = self.costs.get(from..from.wrapping_add(m)).unwrap_or(&[]);
+        to_whole(costs, self.row, self.scale);
+        self.row
+    }
+
+    fn cost(&self, person: usize, object: usize) -> i64 {
+        let pair = person.wrapping_mul(self.row.len()).wrapping_add(object);
+        whole_of(self.costs.get(pair).copied().unwrap_or(0.0), self.scale)
+    }
+}
+
+impl<'a> Rows<'a> {
+    pub fn row(&mut self, person: usize) -> &[i64] {
+        match self {
+            Rows::Listed(matrix) => matrix.row(person),
+            Rows::Made(doubles) => doubles.row_of(person),
+        }
+    }
+
+    pub fn cost(&self, person: usize, object: usize) -> i64 {
+        match self {
+            Rows::Listed(matrix) => matrix.cost(person, object),
+            Rows::Made(doubles) => doubles.cost(person, object),
+        }
+    }
+}
