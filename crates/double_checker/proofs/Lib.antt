@@ -14,3 +14,4 @@ pub mod FarRows
 pub mod PlanVerdicts
 pub mod MarginSizes
 pub mod HallProofs
+pub mod Lanes

@@ -1,17 +1,14 @@
 -- Sizes of doubles, and the margins of costs.
-use Rattle.std.proofs.Common.{◌≡◌, ℕ, ℤ, pos, negsuc, neg_ℤ, ◌≤ℤ◌, ◌≤◌, ◌<◌, ◌+◌, ◌*◌, ◌^◌, false, List}
-use Rattle.std.proofs.Common.{inl, inr, IsTrue}
+use Rattle.std.proofs.Common.{◌≡◌, ℕ, ℤ, pos, negsuc, neg_ℤ, ◌≤ℤ◌, ◌≤◌, ◌+◌, ◌*◌, ◌^◌}
+use Rattle.std.proofs.Common.{IsTrue}
 use Rattle.std.proofs.Common.{arith, refl, sym, ap, ◌∙◌, subst}
 use Rattle.std.specs.Prelude.{unsigned_abs}
 use Rattle.std.proofs.lemmas.Int.{ints}
 use Rattle.std.proofs.Math.Nat.{mul-le-mul_right, mul-le-mul_left, mul_assoc, mul_comm}
 use lib.Pow.{pow-add, pow_mono}
-use mathlib.Core.Bool.{true≢false}
 use lib.Ieee.{Float, nan, inf, fin}
 use Rattle.double_costs.specs.Units.{is_number, units_of}
 use Rattle.double_checker.specs.declared.digits.Digits.{Digits}
-use Rattle.assign_core.proofs.NumberedLemmas.{low_or_same}
-use Rattle.double_checker.specs.inside.Pairs.{at}
 use Rattle.double_checker.specs.inside.Sizes.{AreDigits, size_by, size_of}
 use Rattle.double_checker.proofs.PlanRows.{size_abs}
 
@@ -32,13 +29,6 @@ pub size_within : (x y : Float) → (IsTrue (is_number x) → units_of x ≤ℤ 
 size_within nan y h g = omega arith
 size_within (inf s) y h g = omega arith
 size_within (fin s m e) y h g = size_between (fin s m e) y (h refl) (g refl)
-
-pub within_more : (limit : Float) (costs : List Float) (k : ℕ) → ((j : ℕ) → j < k → size_of (at costs j) ≤ size_of limit)
-    → size_of (at costs k) ≤ size_of limit → (j : ℕ) → j < k + 1 → size_of (at costs j) ≤ size_of limit
-within_more limit costs k some one j lt = elim (low_or_same j k lt) [
-  | inl l ↦ some j l
-  | inr e ↦ subst (λ (i : ℕ). size_of (at costs i) ≤ size_of limit) (sym e) one
-]
 
 -- fewer digits, shifted by at most 52 places more
 digits_in_parts : (a s b t : ℕ) → a ≤ b → s ≤ t + 52 → a * 2 ^ s ≤ 2 ^ 52 * (b * 2 ^ t)

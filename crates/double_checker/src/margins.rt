@@ -1,12 +1,17 @@
 // Whether a margin is one of all costs.
-ghost use Rattle.std.specs.Prelude.{◌≡◌, ◌≤◌, ◌*◌, ◌^◌, pos, ◌<ℤ◌, ◌≤ℤ◌, All, IsTrue, true, false};
+ghost use Rattle.std.specs.Prelude.{◌≡◌, ◌≤◌, ◌<◌, ◌+◌, ◌*◌, ◌^◌, ℕ, pos, ◌<ℤ◌, All, IsTrue};
+ghost use Rattle.std.specs.Prelude.{true, false, length};
+ghost use lib.Ieee.{lt};
 ghost use Rattle.double_costs.specs.Margins.{IsMarginOf};
 ghost use Rattle.double_costs.specs.Units.{is_number, units_of};
+ghost use Rattle.double_checker.specs.declared.margins.TheConstants.{LANES};
+ghost use Rattle.double_checker.specs.inside.Pairs.{at};
 ghost use Rattle.double_checker.specs.inside.Sizes.{size_of};
 
 use super::digits::digits_of;
-use super::numbers::{both, is_number};
+use super::numbers::is_number;
 use super::prices::is_less;
+use std::simd::prelude::*;
 
 // 2^52.
 const PARTS: f64 = 4503599627370496.0;
@@ -26,45 +31,77 @@ fn is_in_parts(limit: f64, margin: f64) -> bool
     one.shift <= other.shift + 52
 }
 
-// Whether a cost is finite and above a limit.
-fn is_over(limit: f64, cost: f64) -> bool
-    requires { IsTrue (is_number limit) }
-    ensures { result ≡ false → IsTrue (is_number cost) → units_of cost ≤ℤ units_of limit }
-{
-    limit < cost && cost < f64::INFINITY
-}
-
-// Whether a cost is finite and below a limit.
-fn is_under(limit: f64, cost: f64) -> bool
-    requires { IsTrue (is_number limit) }
-    ensures { result ≡ false → IsTrue (is_number cost) → units_of limit ≤ℤ units_of cost }
-{
-    cost < limit && cost > f64::NEG_INFINITY
-}
-
 // Whether a cost is at most the limit in size, or infinite.
 fn is_within(limit: f64, cost: f64) -> bool
     requires { IsTrue (is_number limit) }
-    ensures { result ≡ true → size_of cost ≤ size_of limit }
+    ensures { IsTrue result → size_of cost ≤ size_of limit }
 {
-    if is_over(limit, cost) {
-        false
-    } else {
-        !is_under(-limit, cost)
+    if !is_number(cost) {
+        return true;
     }
+    if is_less(limit, cost) {
+        return false;
+    }
+    !is_less(cost, -limit)
 }
 
-// Whether each cost is at most the limit in size, or infinite. It looks at all of them, without
-// branches.
+// The number of costs that are compared at once.
+const LANES: usize = 8;
+
+// Whether none of the `LANES` costs from a place on lies between two doubles.
+fn none_between(low: f64, high: f64, costs: &[f64], from: usize) -> bool
+    requires { from + LANES ≤ length costs.now }
+    ensures { IsTrue result → (k : ℕ) → from ≤ k → k < from + LANES
+        → IsTrue (lt low (at costs.now k)) → lt (at costs.now k) high ≡ false }
+{
+    let costs = f64x8::from_slice(&costs[from..]);
+    let is_between = f64x8::splat(low).simd_lt(costs) & costs.simd_lt(f64x8::splat(high));
+    is_between.to_bitmask() == 0
+}
+
+// Whether each of the `LANES` costs from a place on is at most the limit in size, or infinite.
+fn are_lanes_within(limit: f64, costs: &[f64], from: usize) -> bool
+    requires limit { IsTrue (is_number limit) }
+    requires room { from + LANES ≤ length costs.now }
+    ensures { IsTrue result → (k : ℕ) → from ≤ k → k < from + LANES
+        → size_of (at costs.now k) ≤ size_of limit }
+{
+    if !none_between(limit, f64::INFINITY, costs, from) {
+        return false;
+    }
+    none_between(f64::NEG_INFINITY, -limit, costs, from)
+}
+
+// Whether each cost of the first blocks of `LANES` is at most the limit in size, or infinite.
+fn are_blocks_within(limit: f64, costs: &[f64], blocks: usize) -> bool
+    requires limit { IsTrue (is_number limit) }
+    requires room { blocks * LANES ≤ length costs.now }
+    ensures { IsTrue result → (k : ℕ) → k < blocks * LANES
+        → size_of (at costs.now k) ≤ size_of limit }
+{
+    for b in 0..blocks {
+        if !are_lanes_within(limit, costs, b * LANES) {
+            return false;
+        }
+    }
+    true
+}
+
+// Whether each cost is at most the limit in size, or infinite.
 fn are_within(limit: f64, costs: &[f64]) -> bool
     requires { IsTrue (is_number limit) }
     ensures { IsTrue result → All (λ c. size_of c ≤ size_of limit) costs.now }
 {
-    let mut holds = true;
-    for k in 0..costs.len() {
-        holds = both(holds, is_within(limit, costs[k]));
+    let blocks = costs.len() / LANES;
+    if !are_blocks_within(limit, costs, blocks) {
+        return false;
     }
-    holds
+    for k in blocks * LANES..costs.len() {
+        if !is_within(limit, costs[k]) {
+            return false;
+        }
+    }
+    true
 }
 
 // Whether no cost is over 2^52 times the size of a finite margin.

@@ -65,43 +65,65 @@ pub fn last_bits_of(sums: f64x4) -> i64x4 {
     ]) - i64x4::splat(MAGIC_BITS)
 }
 
-// Coarse units in fine ones.
-fn in_fine(coarse: i64x4, scale: Scale) -> i64x4 {
-    if scale.has_more_bits() {
-        coarse << 7
-    } else {
-        coarse << 4
-    }
+// Costs in coarse units, the nearest whole numbers of these, and what is left in fine units.
+#[derive(Clone, Copy)]
+struct Parts {
+    coarse: f64x4,
+    high: i64x4,
+    low: i64x4,
 }
 
-// Costs of at least the limit, of which none is infinite where there are more bits.
-fn above_of(costs: f64x4, scale: Scale) -> i64x4 {
-    let limit = i64x4::splat(scale.limit());
-    if scale.has_more_bits() {
-        return limit;
-    }
-    let is_infinite = costs.simd_eq(f64x4::splat(f64::INFINITY))
-        | costs.simd_eq(f64x4::splat(f64::NEG_INFINITY));
-    is_infinite.select(i64x4::splat(FORBIDDEN), limit)
-}
-
-// What `whole_of` gives for each.
-fn whole_of_all(costs: f64x4, scale: Scale) -> i64x4 {
+fn parts_of(costs: f64x4, scale: Scale) -> Parts {
     let magic = f64x4::splat(MAGIC);
     let coarse = costs * f64x4::splat(scale.factor);
     let sum = coarse + magic;
     let rest = (coarse - (sum - magic)) * f64x4::splat(scale.parts);
-    let whole = in_fine(last_bits_of(sum), scale) + last_bits_of(rest + magic);
-    let is_below = coarse.simd_lt(f64x4::splat(LIMIT));
-    is_below.select(whole, above_of(costs, scale))
+    Parts {
+        coarse,
+        high: last_bits_of(sum),
+        low: last_bits_of(rest + magic),
+    }
+}
+
+// What `whole_of` gives for each where there are more bits, and no cost is infinite.
+fn whole_of_finite(costs: f64x4, scale: Scale) -> i64x4 {
+    let parts = parts_of(costs, scale);
+    let whole = (parts.high << 7) + parts.low;
+    let is_below = parts.coarse.simd_lt(f64x4::splat(LIMIT));
+    is_below.select(whole, i64x4::splat(scale.limit()))
+}
+
+// What `whole_of` gives for each where there are fewer bits.
+fn whole_of_any(costs: f64x4, scale: Scale) -> i64x4 {
+    let parts = parts_of(costs, scale);
+    let whole = (parts.high << 4) + parts.low;
+    let is_infinite = costs.simd_eq(f64x4::splat(f64::INFINITY))
+        | costs.simd_eq(f64x4::splat(f64::NEG_INFINITY));
+    let above = is_infinite.select(i64x4::splat(FORBIDDEN), i64x4::splat(scale.limit()));
+    let is_below = parts.coarse.simd_lt(f64x4::splat(LIMIT));
+    is_below.select(whole, above)
+}
+
+fn finite_to_whole(costs: &[[f64; LANES]], whole: &mut [[i64; LANES]], scale: Scale) {
+    for (costs, whole) in costs.iter().zip(whole.iter_mut()) {
+        *whole = whole_of_finite(f64x4::from_array(*costs), scale).to_array();
+    }
+}
+
+fn any_to_whole(costs: &[[f64; LANES]], whole: &mut [[i64; LANES]], scale: Scale) {
+    for (costs, whole) in costs.iter().zip(whole.iter_mut()) {
+        *whole = whole_of_any(f64x4::from_array(*costs), scale).to_array();
+    }
 }
 
 // The costs of all pairs.
 pub fn to_whole(costs: &[f64], whole: &mut [i64], scale: Scale) {
     let (lanes, rest) = costs.as_chunks::<LANES>();
     let (whole_lanes, whole_rest) = whole.as_chunks_mut::<LANES>();
-    for (costs, whole) in lanes.iter().zip(whole_lanes.iter_mut()) {
-        *whole = whole_of_all(f64x4::from_array(*costs), scale).to_array();
+    if scale.has_more_bits() {
+        finite_to_whole(lanes, whole_lanes, scale);
+    } else {
+        any_to_whole(lanes, whole_lanes, scale);
     }
     rest_to_whole(rest, whole_rest, scale);
 }
