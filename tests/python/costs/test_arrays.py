@@ -262,7 +262,7 @@ class Views(unittest.TestCase):
         self.assertEqual(nushbaret.solve_sparse(1, 1, [0], [0], tenth).cost, Decimal("0.1"))
         problem = _problem.of_matrix([[1]], reading.manner(False))
         for prices in [tenth, memoryview(tenth)] + ([np.array(tenth), [*np.array(tenth)]] if np else []):
-            self.assertEqual(proved.exact_prices(problem, prices), [Fraction(1, 10)])
+            self.assertEqual(proved.read_prices(problem, prices), [Fraction(1, 10)])
         self.assertLess(0.1, exact)
         # By hand: as decimals both plans cost 0.1 + 0.1, as doubles the first one costs more.
         view = memoryview(array("f", [0.1, 0.1, 0.1, 0.1])).cast("B").cast("f", (2, 2))
