@@ -1,6 +1,6 @@
 #!/usr/bin/env bash
 # Proves the library for C and builds it: c/out/libnushbaret.a and c/out/libnushbaret.so, in which only the names of
-# exports.map can be seen. Programs ask at run time for the SONAME, libnushbaret.so.3 by the first number of VERSION: a
+# exports.map can be seen. Programs ask at run time for the SONAME, libnushbaret.so.N with the first number of VERSION: a
 # link of this name stands next to it. Needs the kit, and cc with the binutils that it uses.
 #     c/build.sh [gate] [--target aarch64]
 # The extension module of the Python package, c/build_extension.sh, comes after them where Python.h is.

@@ -6,7 +6,8 @@ import os
 import pathlib
 import sys
 
-PACKAGE = pathlib.Path(__file__).resolve().parents[2] / "python" / "nushbaret"
+TESTS = pathlib.Path(__file__).resolve().parent
+PACKAGE = TESTS.parents[1] / "python" / "nushbaret"
 # What each folder may import in addition to itself, from the lowest on.
 BELOW = {
     "costs": (),
@@ -82,6 +83,17 @@ def is_allowed(name, other):
     if name in FRONTS and its == "roster.output":
         return True
     return other not in ENTRIES and (its == folder or its in BELOW.get(folder, ()))
+
+
+def beyond_their_folder(tests=TESTS):
+    """The modules that each file of the tests imports of another folder than its own."""
+    known = modules()
+    for path in sorted(tests.rglob("*.py")):
+        name = name_of(path, tests)
+        own = name.rpartition(".")[0]
+        names = sorted({other for other in imported(name, path, known) if own != other.split(".")[0]})
+        if names:
+            yield name, names
 
 
 def layers(graph):

@@ -1,10 +1,33 @@
 """The package's folders: imports go down only, no import leads back to where it came from, and what breaks this is
-seen."""
+seen. Tests import public names and modules of their own folder; what else they import is listed here."""
 import pathlib
 import tempfile
 import unittest
 
 import layers
+
+
+# The modules of other folders that files of tests import.
+OF_OTHER_FOLDERS = {
+    # What several files of tests share.
+    "commands": "roster.command",
+    "drawn_rules": "roster.month roster.roster roster.rule_file roster.times",
+    "row_models": "rows.bounds rows.certificates rows.finding rows.model rows.plans rows.worker",
+    "ways": "api.solve lap.direct lap.library",
+    # They count or replace calls below the public one: of levels, checks, searches and the library.
+    "api.test_forms": "costs.kinds costs.problem lap.levels",
+    "api.test_plans": "lap.paths lap.ranking",
+    "api.test_time": "lap.levels lap.library",
+    "roster.test_command": "lap.library",
+    "roster.test_command_rules": "rows.finding rows.model",
+    # They compare or lower limits that aren't public.
+    "api.test_refusals": "costs.limits lap.library lap.proved",
+    "roster.test_command_counts": "counts.nodes",
+    # They make what the tested folder takes, or check what it makes.
+    "counts.test_count_rows": "rows.check",
+    "lap.test_levels": "costs.kinds costs.problem costs.reading",
+    "roster.test_by_rules": "rows.finding rows.model",
+}
 
 
 class Package(unittest.TestCase):
@@ -22,6 +45,12 @@ class Package(unittest.TestCase):
         drawn = "\n".join(layers.drawn(self.GRAPH))
         self.assertRegex(drawn, r"(?s)^pickled/ .*\napi/ .*\nroster/output/ .*\nroster/ .*\ncounts/ .*\nrows/ .*\nlap/ "
                          r".*\ncosts/  imports nothing\n")
+
+
+class Tests(unittest.TestCase):
+    def test_public_names_and_their_own_folder(self):
+        self.assertEqual(dict(layers.beyond_their_folder()),
+                         {name: others.split() for name, others in OF_OTHER_FOLDERS.items()})
 
 
 class Planted(unittest.TestCase):

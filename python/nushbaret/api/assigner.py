@@ -106,7 +106,7 @@ class Assigner:
         if found is None:
             self._state = None
             return solve(self._costs, self._maximize)
-        return Result._of(Source(self._costs, None, None, None, reading.Manner(self._maximize)), found)
+        return Result(Source(self._costs, None, None, None, reading.Manner(self._maximize)), found)
 
     def _found(self, numbers: "SquareCosts") -> Optional[proved.ResultParts]:
         """What a result is made of, from the state of before; None where this way finds nothing that is sure to be
@@ -162,7 +162,7 @@ class SquareCosts(NamedTuple):
     def write(self, row: int, costs: Any) -> bool:
         """Whether a row's other costs are of this kind too; then they stand here."""
         found = doubles_of(costs)
-        own = found if found is None or self.decimals is None else whole_of(found, self.decimals)
+        own = found if found is None or self.decimals is None else in_decimal_units(found, self.decimals)
         if own is None:
             return False
         self.flat[self.n * row:self.n * (row + 1)] = own
@@ -181,7 +181,7 @@ def numbers_of(costs: Any) -> Optional[SquareCosts]:
             return None
         flat.extend(own)
     for decimals in range(MOST_DECIMALS + 1):
-        whole = whole_of(flat, decimals)
+        whole = in_decimal_units(flat, decimals)
         if whole is not None:
             return SquareCosts(n, decimals, whole)
     return SquareCosts(n, None, flat)
@@ -200,7 +200,7 @@ def doubles_of(row: Any) -> Optional[Any]:
     return array("d", row)
 
 
-def whole_of(costs: Any, decimals: int) -> Optional[Any]:
+def in_decimal_units(costs: Any, decimals: int) -> Optional[Any]:
     """Doubles as whole numbers of a decimal unit, in the library's range; None where one isn't."""
     power = 10.0**decimals
     numpy = reading.loaded_numpy()

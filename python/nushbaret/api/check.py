@@ -7,8 +7,8 @@ from ..costs.numbers import exactly_less
 from ..costs.problem import AssignmentProblem, costs_of_pairs
 from ..costs.source import Source
 from ..lap.checking import counted
-from ..lap.proved import exact_prices
-from .results import Result, numbered
+from ..lap.proved import read_prices
+from .results import Result, number_of
 from .solve import solve_problem
 from .solved import ratios_of, sum_of
 from .verdicts import Verdict, verdict_on
@@ -34,9 +34,9 @@ def _pairs_of(problem: AssignmentProblem, columns: Any, rows: Any) -> List[Tuple
     of_rows, of_columns = problem.labels or (None, None)
     if rows is None and isinstance(columns, Mapping):
         columns = naming.listed(columns, "columns", "row", problem.n_rows, of_rows)
-    columns = [None if column is None else numbered(column, of_columns, f"columns[{place}]")
+    columns = [None if column is None else number_of(column, of_columns, f"columns[{place}]")
                for place, column in enumerate(_listed(columns, "columns"))]
-    rows = range(len(columns)) if rows is None else [numbered(row, of_rows, f"rows[{place}]")
+    rows = range(len(columns)) if rows is None else [number_of(row, of_rows, f"rows[{place}]")
                                                      for place, row in enumerate(_listed(rows, "rows"))]
     if len(rows) != len(columns):
         raise ValueError(f"there are {len(rows)} rows and {len(columns)} columns: a plan pairs them one by one")
@@ -106,7 +106,7 @@ def check(costs: Any, columns: Any, prices: Any, rows: Any = None, maximize: boo
     problem = sources.problem_of(sources.lasting(costs), None, None, None, exact.manner(maximize, decimals, missing))
     pairs = _pairs_of(problem, columns, rows)
     return verdict_on(problem, [row for row, _ in pairs], [column for _, column in pairs],
-                      exact_prices(problem, prices))
+                      read_prices(problem, prices))
 
 
 def compare(costs: Any, columns: Any, rows: Any = None, maximize: bool = False,

@@ -1,17 +1,16 @@
 """A best assignment as the caller sees it."""
 from functools import cached_property
-from typing import Any, Dict, Iterable, List, NamedTuple, Optional, Sequence, Tuple, Union
+from typing import Any, Dict, List, NamedTuple, Optional, Tuple, Union
 
 from ..costs.numbers import Number
-from ..costs.problem import AssignmentProblem, costs_of_pairs, renewed
-from ..costs.reading import loaded_numpy, manner, whole_number
+from ..costs.problem import AssignmentProblem, renewed
+from ..costs.reading import manner, whole_number
 from ..costs.source import FixedProblem, Source, problem_of
 from ..lap import library, proved
-from ..lap.paths import Subproblem
-from ..lap.ranking import Ranking, has_other
+from ..lap.ranking import has_other
 from .frames import frame_of
 from .infeasible import infeasible
-from .solved import SolvedProblem, ratios_of, sum_of, without_lists
+from .solved import SolvedProblem, ratios_of, result_parts, sum_of
 from .verdicts import Verdict, verdict_on
 
 
@@ -70,27 +69,14 @@ class Result(Lasting):
     _costs: List[Any]
     _as_arrays: bool
 
-    def __init__(self, source: Union[Source, FixedProblem], problem: AssignmentProblem, answer: proved.Assignment):
-        rows, columns = proved.rows_and_columns(problem, answer)
-        costs = costs_of_pairs(problem, rows, columns)
-        found = proved.ResultParts(without_lists(problem), answer, rows, columns, costs, problem.arrays is not None)
-        self._take(source, found)
-
-    def _take(self, source: Union[Source, FixedProblem], found: proved.ResultParts) -> None:
+    def __init__(self, source: Union[Source, FixedProblem], found: proved.ResultParts):
         held = self.__dict__
         held["_source"], held["maximize"] = source, found.shape.maximize
         held["_shape"], held["_answer"], held["rows"], held["columns"], held["_costs"], held["_as_arrays"] = found
 
-    @classmethod
-    def _of(cls, source: Source, found: proved.ResultParts) -> "Result":
-        """The result of what was found to be a best plan."""
-        result = cls.__new__(cls)
-        result._take(source, found)
-        return result
-
     @cached_property
     def _solved(self) -> SolvedProblem:
-        return SolvedProblem(self._source, self._shape, self._answer, self._costs)
+        return SolvedProblem(self._source, self._shape, self._answer, self._costs, self._as_arrays)
 
     def __getstate__(self) -> Dict[str, Any]:
         return {name: value for name, value in self.__dict__.items() if name != "_solved"}
@@ -107,10 +93,6 @@ class Result(Lasting):
         given."""
         return sum_of(self._shape, ratios_of(self._shape, self._costs))
 
-    def _numbers(self, values: Sequence[int]) -> Any:
-        numpy = loaded_numpy() if self._as_arrays else None
-        return values if numpy is None else numpy.array(values, numpy.intp)
-
     @cached_property
     def pairs(self) -> List[Tuple[Any, Any]]:
         """The pairs, by the labels of a DataFrame, or else by numbers."""
@@ -120,16 +102,12 @@ class Result(Lasting):
     @cached_property
     def unmatched_rows(self) -> Any:
         """The rows without a pair, rising."""
-        return self._numbers(sorted(set(range(self._shape.n_rows)).difference(self._solved.pairs[0])))
+        return self._solved.unmatched(0)
 
     @cached_property
     def unmatched_columns(self) -> Any:
         """The columns without a pair, rising."""
-        return self._numbers(sorted(set(range(self._shape.n_columns)).difference(self._solved.pairs[1])))
-
-    def _shown(self, numbers: Iterable[int]) -> List[Number]:
-        unit = self._solved.duals[1]
-        return [unit.shown(number) for number in numbers]
+        return self._solved.unmatched(1)
 
     @cached_property
     def row_duals(self) -> List[Number]:
@@ -141,18 +119,18 @@ class Result(Lasting):
         are reversed. In a partial plan that leaves out rows and columns, unmatched rows have one dual, none is greater,
         and the sum over matched rows and columns is the cost. Other duals may prove the same plan.
         """
-        return self._shown(-dual if self.maximize else dual for dual in self._solved.duals[0].rows)
+        return self._solved.shown(-dual if self.maximize else dual for dual in self._solved.duals[0].rows)
 
     @cached_property
     def column_duals(self) -> List[Number]:
         """The exact dual of each column, as `row_duals` says."""
-        return self._shown(-dual if self.maximize else dual for dual in self._solved.duals[0].columns)
+        return self._solved.shown(-dual if self.maximize else dual for dual in self._solved.duals[0].columns)
 
     @cached_property
     def prices(self) -> List[Number]:
         """One price for each column, exactly, in the unit of the costs; the least is 0. With them `check` proves the
         plan, and `start` begins at them."""
-        return self._shown(proved.rents(self._solved.duals[0]))
+        return self._solved.shown(proved.rents(self._solved.duals[0]))
 
     @cached_property
     def is_unique(self) -> bool:
@@ -160,13 +138,6 @@ class Result(Lasting):
         reduced cost, one with as few of this plan's pairs as possible; which pairs these are follows from the duals."""
         ranking = self._solved.ranking()
         return not has_other(ranking.paths, ranking.whole)
-
-    def _plan(self, ranking: Ranking, part: Subproblem) -> Plan:
-        """The best plan of a part, as the caller sees it."""
-        rows, columns = ranking.pairs(part)
-        shown = self._shape.costs.unit_shown(ranking.unit)
-        cost = ranking.sign * part.cost * shown.denominator // ranking.unit.denominator
-        return Plan(self._numbers(rows), self._numbers(columns), shown.shown(cost))
 
     def next_best(self) -> Optional[Plan]:
         """The best plan except for this one, with as many pairs. If this is one of several best plans, it is another of
@@ -185,7 +156,7 @@ class Result(Lasting):
         ranking = self._solved.ranking()
         ranking.split(ranking.whole, 1)
         part = ranking.take()
-        return None if part is None else self._plan(ranking, part)
+        return None if part is None else Plan(*self._solved.plan_of(ranking, part))
 
     def to_frame(self) -> Any:
         """The pairs as a DataFrame of pandas, which must be installed.
@@ -268,17 +239,17 @@ class Result(Lasting):
         """
         shape = self._shape
         rows, columns = shape.labels or (None, None)
-        row, column = numbered(row, rows, "row"), numbered(column, columns, "column")
+        row, column = number_of(row, rows, "row"), number_of(column, columns, "column")
         if not (0 <= row < shape.n_rows and 0 <= column < shape.n_columns):
             raise IndexError(f"row {row}, column {column}: there are {shape.n_rows} rows and {shape.n_columns} columns")
         with library.limited(timeout):
             source, problem, answer = self._solved.without(row, column)
         if isinstance(answer, proved.HallSet):
             raise infeasible(problem)
-        return Result(source, problem, answer)
+        return Result(source, result_parts(problem, answer))
 
 
-def numbered(value: Any, labels: Optional[List[Any]], name: str) -> int:
+def number_of(value: Any, labels: Optional[List[Any]], name: str) -> int:
     """The number of a row or column that the caller gave by a name: a whole number is one, anything else is a label."""
     if labels is None or hasattr(value, "__index__"):
         return whole_number(value, name)

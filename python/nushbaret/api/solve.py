@@ -8,6 +8,7 @@ from ..lap import direct, library, proved
 from ..lap.solving import Began, most, solved
 from .infeasible import infeasible
 from .results import Result
+from .solved import result_parts
 
 Start = Union[Result, Sequence[Any], None]
 # What is called with the rows served so far, and how many there are.
@@ -30,24 +31,26 @@ def began_at(problem: AssignmentProblem, start: Start) -> Began:
     if not isinstance(start, Result):
         if not hasattr(start, "__iter__"):
             raise TypeError(f"start is {start!r}: it must be a result, or a list of prices")
-        return proved.WarmStart(proved.exact_prices(problem, start, "start"))
+        return proved.WarmStart(proved.read_prices(problem, start, "start"))
     try:
         prices = start._solved.rents
     except ValueError:
         return None
-    return proved.WarmStart(proved.exact_prices(problem, prices), *start._solved.pairs)
+    return proved.WarmStart(proved.read_prices(problem, prices), *start._solved.pairs)
 
 
 def solve_served(problem: AssignmentProblem, served: int, source: Optional[Source] = None) -> Optional[Result]:
     """The best plan of so many pairs; None if the library proves that there is none."""
     answer = solved(problem, None, served)
-    return None if isinstance(answer, proved.HallSet) else Result(source or FixedProblem(problem), problem, answer)
+    if isinstance(answer, proved.HallSet):
+        return None
+    return Result(source or FixedProblem(problem), result_parts(problem, answer))
 
 
 def solve_problem(problem: AssignmentProblem, start: Start = None, partial: bool = False,
                   source: Optional[Source] = None) -> Result:
     """The result of a problem; Infeasible where it has no plan and none is to be partial."""
-    return Result(source or FixedProblem(problem), problem, _answer(problem, start, partial))
+    return Result(source or FixedProblem(problem), result_parts(problem, _answer(problem, start, partial)))
 
 
 def solve_source(source: Source, start: Start = None, partial: bool = False, timeout: Optional[float] = None,
@@ -123,7 +126,7 @@ def solve(costs: Any, maximize: bool = False, decimals: Optional[int] = None, st
     if decimals is None and start is None and timeout is None and progress is None and missing == "refuse":
         found = direct.found(costs, bool(maximize))
         if found:
-            return Result._of(Source(costs, None, None, None, exact.Manner(found.shape.maximize)), found)
+            return Result(Source(costs, None, None, None, exact.Manner(found.shape.maximize)), found)
     source = Source(sources.lasting(costs), None, None, None, exact.manner(maximize, decimals, missing))
     return solve_source(source, start, partial, timeout, progress)
 

@@ -1,14 +1,16 @@
 """What a result stands on: a problem that a call solved, whose costs are read again where they are needed."""
 from fractions import Fraction
 from functools import cached_property
-from typing import Any, List, Optional, Sequence, Tuple, Union
+from typing import Any, Iterable, List, Optional, Sequence, Tuple, Union
 
 from ..costs import problem as reading
 from ..costs.numbers import Number, Ratio, Unit
-from ..costs.problem import AssignmentProblem, costs_of_pairs
+from ..costs.problem import AssignmentProblem, costs_of_pairs, in_array
+from ..costs.reading import loaded_numpy
 from ..costs.source import FixedProblem, Source
 from ..lap import duals as exact_duals, proved
 from ..lap.checking import check_wholly
+from ..lap.paths import Subproblem
 from ..lap.ranking import Ranking
 from ..lap.solving import Outcome, solved
 
@@ -16,9 +18,12 @@ CHANGED = ("the costs were changed after the call, and the plan and its duals ar
            "again")
 
 
-def without_lists(problem: AssignmentProblem) -> AssignmentProblem:
-    """The problem without its lists, which is small."""
-    return problem._replace(costs=problem.costs.without_numbers(), persons=None, objects=None, arrays=None)
+def result_parts(problem: AssignmentProblem, answer: proved.Assignment) -> proved.ResultParts:
+    """What a result is made of, by the library's answer. It has the problem without its lists, which is small."""
+    rows, columns = proved.rows_and_columns(problem, answer)
+    costs = costs_of_pairs(problem, rows, columns)
+    shape = problem._replace(costs=problem.costs.without_numbers(), persons=None, objects=None, arrays=None)
+    return proved.ResultParts(shape, answer, rows, columns, costs, problem.arrays is not None)
 
 
 def ratios_of(shape: AssignmentProblem, costs: Sequence[Any]) -> List[Ratio]:
@@ -32,12 +37,12 @@ def sum_of(shape: AssignmentProblem, ratios: Sequence[Ratio]) -> Number:
 
 
 class SolvedProblem:
-    """A problem that a call solved: where its costs are, the problem without its lists, the library's answer, and the
-    costs of the plan's pairs, as they were at the call."""
+    """A problem that a call solved: where its costs are, the problem without its lists, the library's answer, the
+    costs of the plan's pairs, as they were at the call, and whether the caller gets arrays."""
 
     def __init__(self, source: Union[Source, FixedProblem], shape: AssignmentProblem, answer: proved.Assignment,
-                 costs: List[Any]):
-        self.source, self.shape, self.answer, self.costs = source, shape, answer, costs
+                 costs: List[Any], as_arrays: bool):
+        self.source, self.shape, self.answer, self.costs, self.as_arrays = source, shape, answer, costs, as_arrays
 
     @cached_property
     def pairs(self) -> Tuple[List[int], List[int]]:
@@ -116,6 +121,28 @@ class SolvedProblem:
         if isinstance(self.source, Source):
             return self.source._replace(less=self.source.less + ((row, column),)), less, answer
         return FixedProblem(less), less, answer
+
+    # What is found, as the caller sees it.
+
+    def _numbers(self, values: Sequence[int]) -> Any:
+        return in_array(loaded_numpy() if self.as_arrays else None, values)
+
+    def unmatched(self, side: int) -> Any:
+        """The rows, side 0, or the columns, side 1, without a pair, rising."""
+        count = (self.shape.n_rows, self.shape.n_columns)[side]
+        return self._numbers(sorted(set(range(count)).difference(self.pairs[side])))
+
+    def shown(self, duals: Iterable[int]) -> List[Number]:
+        """Duals, from whole numbers of their unit."""
+        unit = self.duals[1]
+        return [unit.shown(dual) for dual in duals]
+
+    def plan_of(self, ranking: Ranking, part: Subproblem) -> Tuple[Any, Any, Number]:
+        """Rows, columns and cost of the best plan of a part."""
+        rows, columns = ranking.pairs(part)
+        unit = self.shape.costs.unit_shown(ranking.unit)
+        cost = ranking.sign * part.cost * unit.denominator // ranking.unit.denominator
+        return self._numbers(rows), self._numbers(columns), unit.shown(cost)
 
 
 def _cost_of(problem: AssignmentProblem, answer: proved.Assignment) -> Number:

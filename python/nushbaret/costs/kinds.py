@@ -8,7 +8,7 @@ from typing import Any, Dict, List, Optional, Sequence, Tuple
 from .limits import BorrowedNumbers
 from .numbers import (ONE, Number, Ratio, Unit, all_shown, bits_above, in_unit, of_decimals, ratio_of, rounded, total,
                       unit_of)
-from .rounding import size_of, whole_of
+from .rounding import in_fixed_point, size_of
 
 
 def plain(values: Any) -> Any:
@@ -228,7 +228,7 @@ class Doubles(ExactNumbers):
         if not len(self.numbers):
             return self.numbers.astype("int64"), 0
         shift = self.shift(bits)
-        return whole_of(self.numpy, self.numbers, shift), shift
+        return in_fixed_point(self.numpy, self.numbers, shift), shift
 
     def size(self) -> float:
         """The greatest size of all."""

@@ -57,7 +57,7 @@ class AssignmentProblem(NamedTuple):
 
     def numbers(self, values: Sequence[int]) -> Any:
         """Row or column numbers, as an array if the costs are one."""
-        return values if self.arrays is None else self.arrays.array(values, self.arrays.intp)
+        return in_array(self.arrays, values)
 
     def row_name(self, row: int) -> Any:
         """A row's label, or else its number."""
@@ -66,6 +66,11 @@ class AssignmentProblem(NamedTuple):
     def column_name(self, column: int) -> Any:
         """A column's label, or else its number."""
         return self.labels[1][column] if self.labels else column
+
+
+def in_array(numpy: Any, values: Sequence[int]) -> Any:
+    """Row or column numbers in an array of NumPy's, or as they are without NumPy."""
+    return values if numpy is None else numpy.array(values, numpy.intp)
 
 
 class Problem(NamedTuple):

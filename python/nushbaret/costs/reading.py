@@ -256,24 +256,24 @@ def _to_decimals(value: Any, decimals: int, doubles: bool) -> int:
 def _packed(rows: Any, length: int) -> Optional[Numbers]:
     """Rows as one array of 64-bit numbers; None where a number isn't whole, or is no number of 64 bits."""
     pack = struct.Struct(f"{length}q").pack_into
-    numbers_ = array("q", (0,)) * (length * len(rows))
+    whole = array("q", (0,)) * (length * len(rows))
     try:
         for place, row in enumerate(rows):
-            _pack(pack, numbers_, 8 * length * place, row)
+            _pack(pack, whole, 8 * length * place, row)
     except (struct.error, TypeError, ValueError, OverflowError):
         return None
-    return numbers_
+    return whole
 
 
-def _pack(pack: Callable[..., None], numbers_: Numbers, offset: int, row: Any) -> None:
+def _pack(pack: Callable[..., None], whole: Numbers, offset: int, row: Any) -> None:
     """Writes a row of whole numbers, or one of floats that hold whole numbers. An `array` would take floats as well,
     and in Python 3.9 cut off what stands after the point."""
     try:
-        pack(numbers_, offset, *row)
+        pack(whole, offset, *row)
     except struct.error:
         if not all(map(float.is_integer, row)) or max(max(row), -min(row)) >= _MOST_WHOLE:
             raise
-        pack(numbers_, offset, *map(int, row))
+        pack(whole, offset, *map(int, row))
 
 
 def _of_plain(values: List[Any], manner: Manner) -> Optional[ReadCosts]:
@@ -285,24 +285,24 @@ def _of_plain(values: List[Any], manner: Manner) -> Optional[ReadCosts]:
     for place in forbidden:
         values[place] = 0
     try:
-        numbers_, decimals = _scaled_plain(values)
+        whole, decimals = _scaled_plain(values)
     except (OverflowError, ValueError):
         return None
-    if numbers_ and max(max(numbers_), -min(numbers_)) > GREATEST_COST:
+    if whole and max(max(whole), -min(whole)) > GREATEST_COST:
         return None
-    return ReadCosts(kinds.WholeNumbers(numbers_, of_decimals(decimals)), forbidden)
+    return ReadCosts(kinds.WholeNumbers(whole, of_decimals(decimals)), forbidden)
 
 
 def _scaled_plain(values: List[Any]) -> Tuple[Numbers, int]:
     """The numbers times the least power of ten that makes all whole, and which one that is."""
-    numbers_, decimals = array("q"), 0
+    found, decimals = array("q"), 0
     for begin in range(0, len(values), FEW):
         before = decimals
         whole, decimals = _block_scaled(values[begin:begin + FEW], decimals)
         if decimals > before:
-            numbers_ = array("q", [number * 10**(decimals - before) for number in numbers_])
-        numbers_.extend(whole)
-    return numbers_, decimals
+            found = array("q", [number * 10**(decimals - before) for number in found])
+        found.extend(whole)
+    return found, decimals
 
 
 def _block_scaled(block: List[Any], least: int) -> Tuple[Numbers, int]:
@@ -400,8 +400,8 @@ def _of_whole_array(numpy: Any, flat: Any, manner: Manner, where: Where) -> Read
         most = GREATEST_COST // 10**decimals if decimals else _MOST_64
         if not (int(flat.min()) >= -most and int(flat.max()) <= most):
             return _of_numbers(flat.tolist(), [], manner)
-    numbers_ = flat.astype(numpy.int64, copy=not flat.flags.aligned)
-    return _whole_array(numpy, numbers_ * 10**decimals if decimals else numbers_, decimals)
+    whole = flat.astype(numpy.int64, copy=not flat.flags.aligned)
+    return _whole_array(numpy, whole * 10**decimals if decimals else whole, decimals)
 
 
 def _of_float_array(numpy: Any, flat: Any, manner: Manner, where: Where) -> ReadCosts:
@@ -459,15 +459,14 @@ def whole_numbers(numpy: Any, flat: Any) -> Any:
     if not (flat.dot(flat) <= 2.0**105 if flat.size <= FEW else size_of(flat) < _MOST_WHOLE):
         return None
     if flat.size <= FEW:
-        numbers_ = flat.astype(numpy.int64)
-        return numbers_ if numbers_.astype(numpy.float64).tobytes() == flat.tobytes() or (numbers_
-                                                                                          == flat).all() else None
-    numbers_ = numpy.empty(flat.size, numpy.int64)
+        whole = flat.astype(numpy.int64)
+        return whole if whole.astype(numpy.float64).tobytes() == flat.tobytes() or (whole == flat).all() else None
+    whole = numpy.empty(flat.size, numpy.int64)
     for part in parts.parts(flat.size):
-        numbers_[part] = flat[part]
-        if not (numbers_[part] == flat[part]).all():
+        whole[part] = flat[part]
+        if not (whole[part] == flat[part]).all():
             return None
-    return numbers_
+    return whole
 
 
 def _scaled_array(numpy: Any, flat: Any, decimals: int) -> Any:

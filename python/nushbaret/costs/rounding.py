@@ -12,7 +12,7 @@ def size_of(flat: Any) -> float:
     return max(float(flat.max()), -float(flat.min())) if flat.size else 0.0
 
 
-def whole_of(numpy: Any, costs: Any, shift: int) -> Any:
+def in_fixed_point(numpy: Any, costs: Any, shift: int) -> Any:
     """Doubles times 2**shift, rounded to the nearest whole numbers, which have less than 51 bits."""
     if not -MOST_SHIFT < shift < MOST_SHIFT:
         return numpy.rint(numpy.ldexp(costs, shift)).astype(numpy.int64)

@@ -394,7 +394,7 @@ def _fewest_changes(counted: Counted, nodes: NodeProblem, best: BestPlan, kept: 
     tight = [edge for edge, (row, column, place) in enumerate(zip(lists.rows, lists.columns, lists.places))
              if duals.rows[row] + duals.columns[column] == costs[place]]
     left = _Lists()
-    for own, kept_ in ((lists.rows, left.rows), (lists.columns, left.columns), (lists.places, left.places)):
-        kept_.extend(array("q", [own[edge] for edge in tight]))
+    for own, values in ((lists.rows, left.rows), (lists.columns, left.columns), (lists.places, left.places)):
+        values.extend(array("q", [own[edge] for edge in tight]))
     found = _solved(nodes._replace(lists=left), [changes[place] for place in left.places])
     return nodes.pairs(found.rows, found.columns)

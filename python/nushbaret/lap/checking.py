@@ -87,7 +87,7 @@ def _judged(problem: AssignmentProblem, pairs: List[Tuple[int, int]], costs: Lis
     the cost of staying out is lowered instead, so that no price is below 0."""
     n, m, dummies = proved.sizes_of(problem, len(pairs))
     sign = -1 if problem.maximize else 1
-    prices = proved.whole_of(problem, given, m + 1)
+    prices = proved.rounded_prices(problem, given, m + 1)
     if prices is None:
         return None
     paid = [sign * cost + prices[column] for (_, column), cost in zip(pairs, costs)]

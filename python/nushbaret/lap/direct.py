@@ -92,8 +92,8 @@ def found(costs: Any, maximize: bool) -> Optional[proved.ResultParts]:
         return None
     n_rows, n_columns = (len(costs), len(costs[0])) if is_list else matrix.shape
     labels = (list(costs.index), list(costs.columns)) if is_frame(costs) else None
-    costs_ = kinds.shape(None if decimals < 0 else decimals)
-    shape = AssignmentProblem(n_rows, n_columns, maximize, costs_, labels=labels)
+    kind = kinds.shape(None if decimals < 0 else decimals)
+    shape = AssignmentProblem(n_rows, n_columns, maximize, kind, labels=labels)
     n, m = sorted((n_rows, n_columns))
     best = proved.Assignment(n, m, total, array("I", objects), None if prices is None else array("q", prices))
     return proved.ResultParts(shape, best, rows, columns, own, not is_list)

@@ -6,7 +6,7 @@ from typing import Any, Dict, NamedTuple, Optional, Tuple
 
 from ..costs.problem import AssignmentProblem
 from ..costs.reading import loaded_numpy
-from ..costs.rounding import MOST_SHIFT, size_of, whole_of
+from ..costs.rounding import MOST_SHIFT, in_fixed_point, size_of
 from . import library
 from .level import BITS, Level
 
@@ -66,7 +66,7 @@ def start(sense: bool, n: int, m: int, costs: Any) -> Tuple[Any, Any]:
     if not numpy.isfinite(held).all() or not -MOST_SHIFT < shift < MOST_SHIFT:
         return objects, prices
     whole = array("q", bytes(8 * m))
-    code, _ = library.searched(sense, n, m, [whole_of(numpy, held, shift)], None,
+    code, _ = library.searched(sense, n, m, [in_fixed_point(numpy, held, shift)], None,
                                [objects, array("I", bytes(4 * n)), whole])
     return objects, array("d", [math.ldexp(price, -shift) for price in whole]) if code == "BEST" else prices
 

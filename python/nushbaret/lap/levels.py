@@ -74,10 +74,10 @@ def prepared(problem: AssignmentProblem) -> AssignmentProblem:
     them."""
     if problem.persons is not None and problem.costs.of_64_bits() is not None:
         return reading.once(problem)
-    doubles_ = problem.costs.as_doubles()
-    if doubles_ is None or not len(doubles_) or not arrays.is_extreme(doubles_):
+    costs = problem.costs.as_doubles()
+    if costs is None or not len(costs) or not arrays.is_extreme(costs):
         return problem
-    return reading.in_lists(problem, doubles_.in_list())
+    return reading.in_lists(problem, costs.in_list())
 
 
 def first_level(problem: AssignmentProblem, served: Optional[int],

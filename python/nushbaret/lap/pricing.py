@@ -8,7 +8,7 @@ from typing import Any, List, NamedTuple, Optional, Tuple
 from ..costs import parts
 from ..costs.orientation import matrix_of
 from ..costs.problem import AssignmentProblem
-from ..costs.rounding import whole_of
+from ..costs.rounding import in_fixed_point
 from . import arrays, proved
 from .level import Level, Pairs
 
@@ -75,7 +75,7 @@ class _Matrix:
         return numpy.unique(numpy.concatenate(places))
 
     def _whole(self, costs: Any) -> Any:
-        return whole_of(self.numpy, costs, self.shift)
+        return in_fixed_point(self.numpy, costs, self.shift)
 
     def answer(self, places: Any, prices: Any) -> Optional[proved.Assignment]:
         """The library's answer to some pairs; None if these hold no plan."""

@@ -121,17 +121,17 @@ def refuse(code: str, info: library.Info) -> NoReturn:
 
 def answer(problem: AssignmentProblem, asked: Instance,
            first: Optional[FirstPrices] = None) -> Union[Assignment, HallSet, None]:
-    """The library's answer, an Answer or a Short; None where a cost is beyond its range. `first` is where to begin."""
+    """The library's answer; None where a cost is beyond its range. `first` is where to begin."""
     is_dense = problem.persons is None and not len(asked.persons)
     lists = (asked.costs,) if is_dense else (asked.persons, asked.objects, asked.costs)
-    code, info, answer_ = _searched(asked, problem.maximize, lists, first)
-    return None if code == "COST" else answer_ or refuse(code, info)
+    code, info, best = _searched(asked, problem.maximize, lists, first)
+    return None if code == "COST" else best or refuse(code, info)
 
 
 def found(asked: Instance, maximize: bool, first: Optional[FirstPrices] = None) -> Union[Assignment, HallSet]:
     """The library's answer to listed pairs, whose costs are in its range."""
-    code, info, answer_ = _searched(asked, maximize, (asked.persons, asked.objects, asked.costs), first)
-    return answer_ or refuse(code, info)
+    code, info, best = _searched(asked, maximize, (asked.persons, asked.objects, asked.costs), first)
+    return best or refuse(code, info)
 
 
 def _searched(asked: Instance, maximize: bool, lists: Sequence[Any],
@@ -148,10 +148,10 @@ def _searched(asked: Instance, maximize: bool, lists: Sequence[Any],
 
 def best_of(asked: Instance) -> Assignment:
     """The library's answer to listed pairs that hold an assignment; the sum is to be least."""
-    answer_ = found(asked, False)
-    if isinstance(answer_, HallSet):
+    best = found(asked, False)
+    if isinstance(best, HallSet):
         raise RuntimeError("some pairs were found to hold a plan, and the library says otherwise")
-    return answer_
+    return best
 
 
 def no_pairs(problem: AssignmentProblem) -> Assignment:
@@ -241,7 +241,7 @@ def rents(duals: Duals) -> List[int]:
 # Prices of the caller's, in the unit of the costs, one for each column.
 
 
-def exact_price(price: Any, name: Any) -> Fraction:
+def read_price(price: Any, name: Any) -> Fraction:
     """A price of any kind, exactly; a float is the decimal that it prints as. `name` is that of its column."""
     if isinstance(price, str) or type(price) is bytes:
         raise TypeError(f"the price of column {name} is {price!r}: it must be a number")
@@ -258,15 +258,15 @@ def exact_price(price: Any, name: Any) -> Fraction:
         raise TypeError(f"the price of column {name} is {price!r}: it must be a number") from None
 
 
-def exact_prices(problem: AssignmentProblem, prices: Any, what: str = "prices") -> List[Fraction]:
+def read_prices(problem: AssignmentProblem, prices: Any, what: str = "prices") -> List[Fraction]:
     """The caller's prices, one for each column; `what` is the argument's name."""
     prices = naming.listed(prices, what, "column", problem.n_columns, problem.labels and problem.labels[1])
     if len(prices) != problem.n_columns:
         raise ValueError(f"there are {len(prices)} prices, and {problem.n_columns} columns")
-    return [exact_price(price, problem.column_name(column)) for column, price in enumerate(prices)]
+    return [read_price(price, problem.column_name(column)) for column, price in enumerate(prices)]
 
 
-def whole_of(problem: AssignmentProblem, prices: List[Fraction], parts: int = 1) -> Optional[List[int]]:
+def rounded_prices(problem: AssignmentProblem, prices: List[Fraction], parts: int = 1) -> Optional[List[int]]:
     """Prices as whole numbers of the unit of the costs, the least 0; None where they are too far apart for the library.
     They are rounded to so many `parts` of the unit first, and then down, from a point that none of them is at: with
     more parts than prices there is one. So an order of sums of costs and prices that holds to within a part holds of
@@ -284,7 +284,7 @@ def whole_of(problem: AssignmentProblem, prices: List[Fraction], parts: int = 1)
 def first_of(problem: AssignmentProblem, start: WarmStart, served: Optional[int]) -> Optional[FirstPrices]:
     """Where the library's search begins; prices of dummies are 0. None where prices are too far apart to be of use."""
     n, _, dummies = sizes_of(problem, served)
-    prices, objects = whole_of(problem, start.prices), array("I", bytes(4 * n))
+    prices, objects = rounded_prices(problem, start.prices), array("I", bytes(4 * n))
     if prices is None:
         return None
     for row, column in zip(start.rows, start.columns):

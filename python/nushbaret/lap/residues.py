@@ -15,7 +15,7 @@ from ..costs.numbers import Ratio, in_unit, unit_of
 from ..costs.orientation import own_place
 from ..costs.problem import AssignmentProblem
 from ..costs.reading import loaded_numpy
-from ..costs.rounding import MOST_SHIFT, size_of, whole_of
+from ..costs.rounding import MOST_SHIFT, in_fixed_point, size_of
 from . import arrays, proved, reduced
 from .arrays import MOST_BITS, taken_off
 from .level import BITS, Level, Pairs, more
@@ -68,14 +68,14 @@ def residue_of(problem: AssignmentProblem, level: Level, pairs: Pairs) -> Option
     nothing."""
     doubles = problem.costs.as_doubles()
     if doubles is not None:
-        return Doubles(problem, doubles.doubles, level, pairs).residue(True)
+        return DoublesResidue(problem, doubles.doubles, level, pairs).residue(True)
     return _left_of_whole(problem, level, pairs) if problem.numpy else _exactly(problem, level, pairs)
 
 
 # Whole numbers.
 
 
-class WholeNumbers:
+class ListResidue:
     """Whole numbers of any size, in a list."""
 
     def __init__(self, pairs: Pairs, left: List[int]):
@@ -93,11 +93,11 @@ class WholeNumbers:
 
     def after(self, level: Level, pairs: Pairs) -> Residue:
         of_persons, of_objects = reduced.taken_off(level)
-        return WholeNumbers(pairs, [self.left[place] - (of_persons[person] + of_objects[item] << -level.shift)
-                                    for place, person, item in zip(pairs.places, pairs.persons, pairs.objects)])
+        return ListResidue(pairs, [self.left[place] - (of_persons[person] + of_objects[item] << -level.shift)
+                                   for place, person, item in zip(pairs.places, pairs.persons, pairs.objects)])
 
 
-class WholeArray:
+class ArrayResidue:
     """Whole numbers of less than 62 bits, in an array of NumPy's."""
 
     def __init__(self, numpy: Any, pairs: Pairs, left: Any):
@@ -115,15 +115,15 @@ class WholeArray:
         left, taken = self.left[pairs.places], taken_off(self.numpy, level, pairs)
         for part in parts.parts(len(left)):
             left[part] -= taken[part] << -level.shift
-        return WholeArray(self.numpy, pairs, left)
+        return ArrayResidue(self.numpy, pairs, left)
 
 
 def _left_of_whole(problem: AssignmentProblem, level: Level, pairs: Pairs) -> Residue:
     """What a level leaves of whole costs. Sums may wrap around, and what is left is small."""
     numpy = problem.numpy
     left, taken = arrays.costs_at(numpy, problem, level, pairs), taken_off(numpy, level, pairs)
-    return WholeArray(numpy, pairs, parts.filled(numpy, numpy.int64, len(left),
-                                                 lambda part: left[part] - (taken[part] << -level.shift)))
+    return ArrayResidue(numpy, pairs, parts.filled(numpy, numpy.int64, len(left),
+                                                   lambda part: left[part] - (taken[part] << -level.shift)))
 
 
 def _exactly(problem: AssignmentProblem, level: Level, pairs: Pairs) -> Optional[Residue]:
@@ -135,9 +135,9 @@ def _exactly(problem: AssignmentProblem, level: Level, pairs: Pairs) -> Optional
     if left is None:
         return None
     if numpy and len(left) >= FEW_PAIRS and max(max(left), -min(left)) < 2**MOST_BITS:
-        return WholeArray(numpy, Pairs(numpy.array(persons, numpy.uint32), numpy.array(objects, numpy.uint32), None),
-                          numpy.array(left, numpy.int64))
-    return WholeNumbers(Pairs(array("I", persons), array("I", objects), None), left)
+        return ArrayResidue(numpy, Pairs(numpy.array(persons, numpy.uint32), numpy.array(objects, numpy.uint32), None),
+                            numpy.array(left, numpy.int64))
+    return ListResidue(Pairs(array("I", persons), array("I", objects), None), left)
 
 
 def _exact_left(level: Level, ratios: Sequence[Ratio], persons: Sequence[int],
@@ -199,7 +199,7 @@ def ratios_at(problem: AssignmentProblem, asked: proved.Instance, places: Sequen
 # Sums of doubles.
 
 
-class Doubles:
+class DoublesResidue:
     """Pairs with costs that are doubles, or decimals that print as these. What is left of a cost is held as the sum of
     two doubles, `high` and `low`, and is at most `loose` off."""
 
@@ -216,7 +216,7 @@ class Doubles:
 
     def rounded(self) -> Tuple[Any, int, bool]:
         shift = self._next_shift()
-        return whole_of(self.numpy, self.high, shift), shift, False
+        return in_fixed_point(self.numpy, self.high, shift), shift, False
 
     def most(self, n: int) -> int:
         return n + more(n)
@@ -238,7 +238,7 @@ class Doubles:
             self._take_off(self.taken, self.shift)
             whole = self._whole() if self.doubles else None
         if whole is not None:
-            return WholeArray(self.numpy, self.pairs, whole)
+            return ArrayResidue(self.numpy, self.pairs, whole)
         return self if len(self.costs) >= MANY and self._is_close() else _exactly(*self.first)
 
     def _next_shift(self) -> int:

@@ -106,9 +106,9 @@ class Chain:
         """The link that fixes variables of a person without which, or with which, her months cost `wanted` or more at
         the prices."""
         block, own = self.pricing.blocks[number], self.costs[self.pricing.blocks[number].variables]
-        without, with_ = self.pricing.with_and_without(number, own)
-        terms = tuple((place, 1 if with_[place] >= wanted else -1) for place in range(len(own))
-                      if max(with_[place], without[place]) >= wanted)
+        without, taken = self.pricing.with_and_without(number, own)
+        terms = tuple((place, 1 if taken[place] >= wanted else -1) for place in range(len(own))
+                      if max(taken[place], without[place]) >= wanted)
         most = -sum(factor < 0 for _, factor in terms)
         if not terms:
             return None

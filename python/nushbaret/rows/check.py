@@ -50,23 +50,23 @@ def _leaves(certificate: Certificate) -> Iterator[Tuple[_TreeNode, List[Limits]]
     """The leaves, each with the rows of the splits above it."""
     path: List[Limits] = []
     # Of each split above: its terms, the greatest sum of the half below, and whether that half is done.
-    place, open_ = 0, [False]
-    while open_:
+    place, are_done = 0, [False]
+    while are_done:
         node = _node(certificate.tree, place)
         place = node.after
         if not node.is_leaf:
             if len(path) >= MOST_DEPTH or any(not 0 <= variable < certificate.variables for variable, _ in node.pairs):
                 raise WrongTree
             path.append(Limits(None, tuple(node.pairs), node.most))
-            open_.append(False)
+            are_done.append(False)
             continue
         yield node, path
-        while len(open_) > 1 and open_[-1]:
-            open_.pop()
+        while len(are_done) > 1 and are_done[-1]:
+            are_done.pop()
             path.pop()
-        if len(open_) == 1:
+        if len(are_done) == 1:
             break
-        open_[-1] = True
+        are_done[-1] = True
         below = path.pop()
         path.append(Limits((below.most or 0) + 1, below.terms, None))
     if place != len(certificate.tree):

@@ -160,8 +160,8 @@ class Pricing:
 
     def with_and_without(self, number: int, costs: Any) -> Tuple[List[int], List[int]]:
         """The least costs of a block's months without each of its variables, and with it."""
-        without, with_ = cheapest_with(self.diagrams[number], costs).tolist()
-        return without, with_
+        without, taken = cheapest_with(self.diagrams[number], costs).tolist()
+        return without, taken
 
     def reaches(self, prices: Any) -> Any:
         """For each variable the bounds at whole prices where it is 0 and where it is 1: an array of shape (2,

@@ -5,7 +5,7 @@ from fractions import Fraction
 from unittest import mock
 
 import nushbaret
-from nushbaret.costs import kinds as _kinds, printing, problem as _problem
+from nushbaret.costs import kinds as _kinds, problem as _problem
 from nushbaret.lap import levels
 from drawn import drawing
 from optional import np, pd as pandas
@@ -195,33 +195,6 @@ class Listed(unittest.TestCase):
         problem = _problem.once(_problem.AssignmentProblem(n, m, False, held, (rows + 1).astype(kind),
                                                            (columns + 1).astype(kind)))
         return list(zip((problem.persons - 1).tolist(), (problem.objects - 1).tolist(), problem.costs.listed()))
-
-
-@unittest.skipUnless(np, "NumPy isn't there")
-class Shortest(unittest.TestCase):
-    """The decimals that short floats print as, compared with what NumPy prints."""
-
-    def compare(self, floats):
-        with np.errstate(all="ignore"):
-            np.testing.assert_array_equal(printing.of_array(np, floats), floats.astype("U32").astype(float))
-
-    def test_all_of_16_bits(self):
-        every = np.arange(2**16, dtype=np.uint16).view(np.float16)
-        self.compare(every)
-        self.compare(every[every == every][7:1000:3])
-
-    def test_of_32_bits(self):
-        draw = drawing(176)
-        powers = np.array([2.0**power for power in range(-149, 128)], np.float32)
-        self.compare(np.concatenate([powers, -powers, np.nextafter(powers, np.float32(0)),
-                                     np.nextafter(powers, np.float32(np.inf))]))
-        with np.errstate(all="ignore"):
-            self.compare(np.array([draw.getrandbits(32) for _ in range(20000)], np.uint32).view(np.float32))
-        for count in 1, 64, 20000:
-            self.compare(np.array([10**draw.uniform(-4.2, 7.4) for _ in range(count)], np.float32))
-            self.compare(np.array([draw.randint(-10**6, 10**6) / 10**draw.randint(0, 5) for _ in range(count)],
-                                  np.float32))
-            self.compare(np.array([draw.random() for _ in range(count)], np.float32))
 
 
 if __name__ == "__main__":

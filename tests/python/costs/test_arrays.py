@@ -10,7 +10,6 @@ from fractions import Fraction
 
 import nushbaret
 from nushbaret.costs import printing, problem as _problem, reading
-from nushbaret.lap import proved
 from drawn import drawing
 from optional import np, pd
 
@@ -260,9 +259,11 @@ class Views(unittest.TestCase):
         self.assertEqual(nushbaret.solve([tenth]).cost, Decimal("0.1"))
         self.assertEqual(nushbaret.solve((ctypes.c_float * 1 * 1)((0.1,))).cost, Decimal("0.1"))
         self.assertEqual(nushbaret.solve_sparse(1, 1, [0], [0], tenth).cost, Decimal("0.1"))
-        problem = _problem.of_matrix([[1]], reading.manner(False))
-        for prices in [tenth, memoryview(tenth)] + ([np.array(tenth), [*np.array(tenth)]] if np else []):
-            self.assertEqual(proved.exact_prices(problem, prices), [Fraction(1, 10)])
+        # The first row has its column only up to a price of a tenth, and the second row its own only from there on.
+        costs, prices = [[0, Decimal("0.1")], [0, Decimal("0.1")]], array("f", [0.1, 0])
+        for given in [prices, memoryview(prices)] + ([np.array(prices), [*np.array(prices)]] if np else []):
+            self.assertTrue(nushbaret.check(costs, [0, 1], given))
+        self.assertFalse(nushbaret.check(costs, [0, 1], [exact, 0]))
         self.assertLess(0.1, exact)
         # By hand: as decimals both plans cost 0.1 + 0.1, as doubles the first one costs more.
         view = memoryview(array("f", [0.1, 0.1, 0.1, 0.1])).cast("B").cast("f", (2, 2))

@@ -6,6 +6,7 @@ from decimal import Decimal
 from fractions import Fraction
 
 import nushbaret
+from nushbaret.costs import printing
 from drawn import best, drawing
 from optional import np, optimize
 
@@ -131,6 +132,33 @@ class BesideScipy(unittest.TestCase):
             self.assertGreaterEqual(better, 0)
             self.assertLessEqual(better, len(rows) * most / 2**45)
         self.assertGreater(infeasible, 20)
+
+
+@unittest.skipUnless(np, "NumPy isn't there")
+class Shortest(unittest.TestCase):
+    """The decimals that short floats print as, compared with what NumPy prints."""
+
+    def compare(self, floats):
+        with np.errstate(all="ignore"):
+            np.testing.assert_array_equal(printing.of_array(np, floats), floats.astype("U32").astype(float))
+
+    def test_all_of_16_bits(self):
+        every = np.arange(2**16, dtype=np.uint16).view(np.float16)
+        self.compare(every)
+        self.compare(every[every == every][7:1000:3])
+
+    def test_of_32_bits(self):
+        draw = drawing(176)
+        powers = np.array([2.0**power for power in range(-149, 128)], np.float32)
+        self.compare(np.concatenate([powers, -powers, np.nextafter(powers, np.float32(0)),
+                                     np.nextafter(powers, np.float32(np.inf))]))
+        with np.errstate(all="ignore"):
+            self.compare(np.array([draw.getrandbits(32) for _ in range(20000)], np.uint32).view(np.float32))
+        for count in 1, 64, 20000:
+            self.compare(np.array([10**draw.uniform(-4.2, 7.4) for _ in range(count)], np.float32))
+            self.compare(np.array([draw.randint(-10**6, 10**6) / 10**draw.randint(0, 5) for _ in range(count)],
+                                  np.float32))
+            self.compare(np.array([draw.random() for _ in range(count)], np.float32))
 
 
 if __name__ == "__main__":

@@ -17,7 +17,6 @@ from fractions import Fraction
 from unittest import mock
 
 import nushbaret
-from nushbaret.api import batch
 from nushbaret.lap import direct
 from drawn import best, drawing, exactly
 from optional import np
@@ -160,7 +159,6 @@ class Reading(unittest.TestCase):
 
     def test_what_it_is_called(self):
         call, plain = nushbaret.linear_sum_assignment, longer_call
-        self.assertIs(batch.linear_sum_assignment, call)
         self.assertIs(pickle.loads(pickle.dumps(call)), call)
         self.assertEqual([inspect.signature(call).parameters[name].default
                           for name in ("maximize", "missing", "timeout")], [False, "refuse", None])
