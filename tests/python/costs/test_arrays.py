@@ -260,10 +260,11 @@ class Views(unittest.TestCase):
         self.assertEqual(nushbaret.solve((ctypes.c_float * 1 * 1)((0.1,))).cost, Decimal("0.1"))
         self.assertEqual(nushbaret.solve_sparse(1, 1, [0], [0], tenth).cost, Decimal("0.1"))
         # The first row has its column only up to a price of a tenth, and the second row its own only from there on.
-        costs, prices = [[0, Decimal("0.1")], [0, Decimal("0.1")]], array("f", [0.1, 0])
+        row = [0, Decimal("0.1"), Decimal("5.000000000001")]
+        costs, prices = [row, row], array("f", [0.1, 0, 0])
         for given in [prices, memoryview(prices)] + ([np.array(prices), [*np.array(prices)]] if np else []):
             self.assertTrue(nushbaret.check(costs, [0, 1], given))
-        self.assertFalse(nushbaret.check(costs, [0, 1], [exact, 0]))
+        self.assertFalse(nushbaret.check(costs, [0, 1], [exact, 0, 0]))
         self.assertLess(0.1, exact)
         # By hand: as decimals both plans cost 0.1 + 0.1, as doubles the first one costs more.
         view = memoryview(array("f", [0.1, 0.1, 0.1, 0.1])).cast("B").cast("f", (2, 2))
