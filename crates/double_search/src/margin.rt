@@ -151,7 +151,8 @@ impl<'a> Lists<'a> {
     fn step_on(&mut self, first: Ring, bounds: Bounds) -> bool {
         let mut ring = first;
         let persons = self.objects.len();
-        for _ in 0..persons.saturating_mul(100).saturating_add(100) {
+        let each = (persons / 32).saturating_add(20).min(100);
+        for _ in 0..persons.saturating_mul(each).saturating_add(100) {
             if ring.count == 0 {
                 return true;
             }
