@@ -19,7 +19,7 @@
 #endif
 
 /* What the library has, as c/nushbaret.h says. */
-enum { BEST = 0, STOPPED = 21, UNDECIDED = 23 };
+enum { BEST = 0, UNDECIDED = 23 };
 #define MOST_SIDE 4194304
 #define GREATEST_COST 1e12
 
@@ -31,19 +31,10 @@ struct info {
     int64_t total;
     uint64_t place, persons, objects, person, object;
 };
-struct record {
-    uint32_t stage, shift;
-    int64_t slackness;
-    uint64_t bids, passes;
-    uint32_t dummy_bids, flags;
-    uint64_t looks;
-};
 typedef int32_t doubles_call(uint32_t, size_t, size_t, const double *, size_t, uint32_t *, size_t, uint32_t *, size_t, double *, size_t,
     struct doubles_info *);
 typedef int32_t dense_call(uint32_t, size_t, size_t, const int64_t *, size_t, uint32_t *, size_t, uint32_t *, size_t, int64_t *, size_t,
     struct info *);
-typedef int32_t dense_from_call(uint32_t, size_t, size_t, const int64_t *, size_t, const int64_t *, size_t, uint32_t *, size_t, uint32_t *,
-    size_t, int64_t *, size_t, uint64_t, struct record *, struct info *);
 
 /* An array of NumPy's, and its kind. */
 struct array {
@@ -71,9 +62,8 @@ typedef struct {
     char *text;              /* its docstring */
     PyObject *longer;        /* Python's call */
     PyObject *connect;       /* what gives the library and NumPy, once they are there */
-    doubles_call *doubles, *doubles_from;
+    doubles_call *doubles;
     dense_call *dense;
-    dense_from_call *dense_from;
     PyTypeObject *array;
     new_array *make;
 } State;
@@ -99,11 +89,11 @@ typedef struct {
 enum { SPARE = 2048 };
 /* From so many costs on the interpreter's lock is released, which takes as long as a few of them. */
 enum { FEW = 2000 };
-/* A search of so many persons times pairs may take long: it is done in pieces, and Ctrl-C ends it. */
+/* A search of so many persons times pairs may take long: Python does it in pieces, which Ctrl-C ends. linear_sum_assignment takes this
+   way with more of them only, since mostly they take a tenth of a second. */
 #define LONG ((double)((int64_t)1 << 27))
-enum { PIECE = 20000000, PASSES = 10 };
-/* Rounded costs have so many bits, and doubles hold all whole numbers up to this. */
-enum { BITS = 39 };
+#define LONGEST ((double)((int64_t)1 << 33))
+/* Doubles hold all whole numbers up to this. */
 #define WHOLE ((int64_t)1 << 53)
 #define MOST_DOUBLE 1.7976931348623157e308
 /* What is added to a double of less than 2^51 rounds it to a whole number, and is taken off again. */
@@ -298,77 +288,6 @@ static int32_t search(const State *state, const Matrix *matrix, int maximize, co
     return code;
 }
 
-/* The power of two above the greatest finite cost. */
-static int top_of(const double *costs, size_t count) {
-    double most = 0;
-    int top;
-    for (size_t k = 0; k < count; k++) {
-        const double size = fabs(costs[k]);
-        if (size > most && size <= MOST_DOUBLE) most = size;
-    }
-    frexp(most, &top);
-    return top;
-}
-
-/* Costs times a factor as whole numbers. Where a pair is forbidden it is only dear: this finds a start, and proves nothing. */
-static void round_costs(const double *costs, size_t count, double factor, int64_t dear, int64_t *whole) {
-    for (size_t k = 0; k < count; k++) {
-        const double scaled = costs[k] * factor;
-        whole[k] = fabs(scaled) < GREATEST_COST ? (int64_t)scaled : dear;
-    }
-}
-
-/* Solves whole numbers in pieces, with the lock between them; -1 where Ctrl-C or another signal raised something. */
-static int32_t in_pieces(const State *state, const Matrix *matrix, int maximize, const int64_t *whole, const Room *room, int64_t *prices) {
-    const size_t n = (size_t)matrix->n, m = (size_t)matrix->m;
-    const uint64_t least = PIECE + PASSES * (uint64_t)(n * m);
-    struct record record;
-    struct info info;
-    int32_t code = STOPPED;
-    memset(&record, 0, sizeof record);
-    memset(room->objects, 0, n * sizeof(uint32_t));
-    for (uint64_t looks = 0, budget = least; code == STOPPED; looks += budget, budget = looks / 4 > least ? looks / 4 : least) {
-        if (PyErr_CheckSignals()) return -1;
-        PyThreadState *thread = PyEval_SaveThread();
-        code = state->dense_from(maximize ? 1 : 0, n, m, whole, n * m, whole, 0, room->objects, n, room->persons, n, prices, m, budget,
-            &record, &info);
-        PyEval_RestoreThread(thread);
-    }
-    return code;
-}
-
-/* Rounds costs, solves these in pieces, and writes objects and prices of that plan as a start; the code of this search. */
-static int32_t find_start(const State *state, const Matrix *matrix, int maximize, const double *costs, const Room *room, int64_t *whole) {
-    const size_t m = (size_t)matrix->m, count = (size_t)matrix->n * m;
-    const int shift = BITS - top_of(costs, count);
-    if (shift < -900 || shift > 900) return UNDECIDED;
-    round_costs(costs, count, ldexp(1, shift), (int64_t)(maximize ? -GREATEST_COST : GREATEST_COST), whole);
-    int64_t *prices = whole + count;
-    const int32_t code = in_pieces(state, matrix, maximize, whole, room, prices);
-    for (size_t j = 0; code == BEST && j < m; j++) room->prices[j] = ldexp((double)prices[j], -shift);
-    return code;
-}
-
-/* A long search: that of rounded costs, and from its plan that of the doubles. -1 where something was raised. */
-static int32_t search_long(const State *state, const Matrix *matrix, int maximize, const double *costs, const Room *room, uint32_t *by_margin) {
-    const size_t n = (size_t)matrix->n, m = (size_t)matrix->m;
-    struct doubles_info info = {0, 0, 0, 0, 0, 0};
-    int64_t *whole = PyMem_Malloc((n * m + m) * sizeof *whole);
-    if (!whole) return UNDECIDED;
-    int32_t code = find_start(state, matrix, maximize, costs, room, whole);
-    PyMem_Free(whole);
-    if (code != BEST) return code;
-    PyThreadState *thread = PyEval_SaveThread();
-    code = state->doubles_from(maximize ? 1 : 0, n, m, costs, n * m, room->objects, n, room->persons, n, room->prices, m, &info);
-    PyEval_RestoreThread(thread);
-    *by_margin = info.by_margin;
-    return code;
-}
-
-static int is_long(const Matrix *matrix) {
-    return (double)matrix->n * (double)matrix->n * (double)matrix->m >= LONG;
-}
-
 /* Whether a pair is forbidden, of costs that aren't NaN. */
 static int forbids(const double *costs, size_t count) {
     int found = 0;
@@ -376,11 +295,17 @@ static int forbids(const double *costs, size_t count) {
     return found;
 }
 
-/* Whichever search fits. Of the long ones the longer way is the faster one where all pairs are allowed. */
+static double looks_at_most(const Matrix *matrix) {
+    return (double)matrix->n * (double)matrix->n * (double)matrix->m;
+}
+
+static int is_long(const Matrix *matrix) {
+    return looks_at_most(matrix) >= LONG;
+}
+
+/* The search, without the interpreter's lock where it isn't over at once. */
 static int32_t solve(const State *state, const Matrix *matrix, int maximize, const double *costs, const Room *room, uint32_t *by_margin) {
-    const size_t count = (size_t)matrix->n * (size_t)matrix->m;
-    if (is_long(matrix)) return forbids(costs, count) ? search_long(state, matrix, maximize, costs, room, by_margin) : UNDECIDED;
-    if (count < FEW) return search(state, matrix, maximize, costs, room, by_margin);
+    if (matrix->n * matrix->m < FEW) return search(state, matrix, maximize, costs, room, by_margin);
     PyThreadState *thread = PyEval_SaveThread();
     const int32_t code = search(state, matrix, maximize, costs, room, by_margin);
     PyEval_RestoreThread(thread);
@@ -470,7 +395,7 @@ static PyObject *assigned(State *state, PyObject *costs, int maximize) {
     Matrix matrix;
     Room room;
     uint32_t by_margin;
-    if (!look_at(state, costs, &matrix, 1) || (is_long(&matrix) && !is_plain(&matrix))) return NULL;
+    if (!look_at(state, costs, &matrix, 1) || looks_at_most(&matrix) >= LONGEST) return NULL;
     if (!take(&room, &matrix, !is_plain(&matrix), spare)) return NULL;
     const double *numbers = costs_of(&matrix, &room);
     const int32_t code = numbers ? solve(state, &matrix, maximize, numbers, &room, &by_margin) : UNDECIDED;
@@ -647,7 +572,7 @@ static void solve_some(const State *state, Matrix matrix, Py_ssize_t step, Py_ss
 /* All of them, a piece at a time, so that Ctrl-C ends it; 0 where something was raised. */
 static int solve_all(const State *state, Matrix matrix, Py_ssize_t step, Py_ssize_t count, int maximize, const Room *room, int64_t *rows,
     int64_t *columns) {
-    const Py_ssize_t piece = 1 + (Py_ssize_t)(LONG / ((double)matrix.n * (double)matrix.n * (double)matrix.m + 256));
+    const Py_ssize_t piece = 1 + (Py_ssize_t)(LONG / (looks_at_most(&matrix) + 256));
     for (Py_ssize_t k = 0; k < count; k += piece) {
         if (PyErr_CheckSignals()) return 0;
         solve_some(state, matrix, step, count - k < piece ? count - k : piece, maximize, *room, rows + k * matrix.n, columns + k * matrix.n);
@@ -690,14 +615,12 @@ static PyObject *batch(PyObject *module, PyObject *arguments) {
 
 /* ---- The module ---- */
 
-/* attach(addresses): those of nushbaret_doubles, _doubles_from, _dense and _dense_from. */
+/* attach(addresses): those of nushbaret_doubles and nushbaret_dense. */
 static PyObject *attach(PyObject *module, PyObject *arguments) {
     State *state = PyModule_GetState(module);
-    unsigned long long doubles, doubles_from, dense, dense_from;
-    if (!PyArg_ParseTuple(arguments, "KKKK", &doubles, &doubles_from, &dense, &dense_from)) return NULL;
-    state->doubles_from = (doubles_call *)(uintptr_t)doubles_from;
+    unsigned long long doubles, dense;
+    if (!PyArg_ParseTuple(arguments, "KK", &doubles, &dense)) return NULL;
     state->dense = (dense_call *)(uintptr_t)dense;
-    state->dense_from = (dense_from_call *)(uintptr_t)dense_from;
     state->doubles = (doubles_call *)(uintptr_t)doubles;
     Py_RETURN_NONE;
 }

@@ -18,7 +18,7 @@ from . import library, proved
 NAME = "nushbaret._extension"
 FILE = "_extension.abi3.so"
 # What the extension calls.
-EXPORTS = "nushbaret_doubles", "nushbaret_doubles_from", "nushbaret_dense", "nushbaret_dense_from"
+EXPORTS = "nushbaret_doubles", "nushbaret_dense"
 
 
 def extension() -> Any:

@@ -59,7 +59,7 @@ def start(sense: bool, n: int, m: int, costs: Any) -> Tuple[Any, Any]:
     pieces, and else nobody's."""
     objects, prices = array("I", bytes(4 * n)), array("d", bytes(8 * m))
     numpy = loaded_numpy()
-    if numpy is None or n * n * m < library.LONG:
+    if numpy is None or n * n * m < library.LONGEST:
         return objects, prices
     held = numpy.frombuffer(costs)
     shift = BITS - math.frexp(size_of(held))[1]

@@ -192,6 +192,8 @@ class _Pace:
 _limits = threading.local()
 # A search whose persons times pairs are so many may take long. It is done in pieces of some tenths of a second.
 LONG = 2**27
+# The same of doubles, which mostly take a tenth of a second, for linear_sum_assignment and an Assigner.
+LONGEST = 2**33
 PIECES = {"dense": PieceSize(2 * 10**7, 10), "sparse": PieceSize(5 * 10**6, 4)}
 _LONGEST_WAIT = 10.0**5
 _TIME_IS_OVER = "the time is over; nothing of the caller's was changed"
