@@ -184,16 +184,16 @@ class Exact(unittest.TestCase):
                 self.assertEqual(exact_doubles.is_best(costs, rows, columns), len(np.unique(costs)) == 1)
 
     def test_long_searches(self):
-        """Where pairs are forbidden these begin with whole numbers in pieces; the others take the longer way."""
+        """Up to 2047 rows, these take the short way too."""
         rng = np.random.default_rng(4)
         costs = np.where(rng.random((520, 520)) < 0.3, np.inf, rng.random((520, 520)))
         module, call = another()
-        for maximize in False, True:
-            rows, columns = call(-costs if maximize else costs, maximize)
-            wanted = longer_call(-costs if maximize else costs, maximize)
-            self.assertEqual(sums(costs, rows, columns), sums(costs, *wanted))
-        self.assertIs(call(rng.random((520, 520))), LONGER)
-        self.assertIs(call(costs[:, ::-1]), LONGER)
+        for matrix in costs, costs[:, ::-1], rng.random((520, 520)):
+            for maximize in False, True:
+                rows, columns = call(-matrix if maximize else matrix, maximize)
+                wanted = longer_call(-matrix if maximize else matrix, maximize)
+                self.assertEqual(sums(matrix, rows, columns), sums(matrix, *wanted))
+        self.assertIs(call(np.broadcast_to(1.0, (2048, 2048))), LONGER)
 
 
 @unittest.skipUnless(extension() and np, "the extension or NumPy isn't there")
