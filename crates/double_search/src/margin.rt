@@ -116,16 +116,89 @@ impl<'a> Lists<'a> {
         for k in place_of(from)..place_of(to) {
             let owner = place_of(at(self.near, k));
             let need = own.wrapping_sub(at(self.spare, k));
-            if need > at(self.levels, owner) {
-                let step = up_to_grid(need, bounds.grid);
-                if step > bounds.most.min(at(self.caps, owner)) {
-                    return None;
-                }
-                put(self.levels, owner, step);
+            if self.raise(owner, need, bounds)? {
                 ring = self.add(ring, owner);
             }
         }
         Some(ring)
+    }
+
+    // Raises a person's step to what is needed. Returns whether it was less; none if it can't rise.
+    fn raise(&mut self, person: usize, need: i64, bounds: Bounds) -> Option<bool> {
+        if need <= at(self.levels, person) {
+            return Some(false);
+        }
+        let step = up_to_grid(need, bounds.grid);
+        if step > bounds.most.min(at(self.caps, person)) {
+            return None;
+        }
+        put(self.levels, person, step);
+        Some(true)
+    }
+
+    // Counts, for each person, the near pairs of others with its object that aren't worse enough.
+    fn count_tight(&mut self) {
+        fill(self.scanned, 0);
+        for k in 0..place_of(at(self.starts, self.objects.len())) {
+            if at(self.spare, k) < 0 {
+                let owner = place_of(at(self.near, k));
+                let count = at(self.scanned, owner).wrapping_add(1);
+                put(self.scanned, owner, count);
+            }
+        }
+    }
+
+    // Puts the persons without such a pair first in order. Returns how many they are.
+    fn begin_order(&mut self) -> usize {
+        let mut count = 0usize;
+        for person in 0..self.objects.len() {
+            if at(self.scanned, person) == 0 {
+                put(self.passed, count, number_of(person));
+                count = count.wrapping_add(1);
+            }
+        }
+        count
+    }
+
+    // The steps that a person's near pairs need, and the persons who are next in order by them.
+    // Returns how many are in order; none if the steps can't be taken.
+    fn step_in_order(&mut self, person: usize, count: usize, bounds: Bounds) -> Option<usize> {
+        let mut count = count;
+        let own = at(self.levels, person);
+        let from = at(self.starts, person);
+        let to = at(self.starts, person.wrapping_add(1));
+        for k in place_of(from)..place_of(to) {
+            let owner = place_of(at(self.near, k));
+            let spare = at(self.spare, k);
+            let _ = self.raise(owner, own.wrapping_sub(spare), bounds)?;
+            if spare < 0 {
+                let left = at(self.scanned, owner).wrapping_sub(1);
+                put(self.scanned, owner, left);
+                if left == 0 {
+                    put(self.passed, count, number_of(owner));
+                    count = count.wrapping_add(1);
+                }
+            }
+        }
+        Some(count)
+    }
+
+    // Steps of all persons in topological order (Kahn, Topological sorting of large networks, 1962),
+    // each after those whose pairs need it. Where there is no order no prices make each pair worse.
+    fn step_by_order(&mut self, bounds: Bounds) -> bool {
+        self.count_tight();
+        let mut count = self.begin_order();
+        for place in 0..self.objects.len() {
+            if place >= count {
+                return false;
+            }
+            let person = place_of(at(self.passed, place));
+            match self.step_in_order(person, count, bounds) {
+                Some(next) => count = next,
+                None => return false,
+            }
+        }
+        true
     }
 
     // Whether the first steps leave the unowned objects worse.
@@ -136,7 +209,7 @@ impl<'a> Lists<'a> {
             .all(|(level, cap)| *level <= *cap)
     }
 
-    // Steps of each person, in turn; who needs more waits after them.
+    // Steps of each person once more, in turn; who needs more waits after them.
     fn step_all(&mut self, bounds: Bounds) -> Option<Ring> {
         let mut ring = Ring { begin: 0, count: 0 };
         fill(self.scanned, 1);
@@ -151,8 +224,7 @@ impl<'a> Lists<'a> {
     fn step_on(&mut self, first: Ring, bounds: Bounds) -> bool {
         let mut ring = first;
         let persons = self.objects.len();
-        let each = (persons / 32).saturating_add(20).min(100);
-        for _ in 0..persons.saturating_mul(each).saturating_add(100) {
+        for _ in 0..persons.saturating_mul(20).saturating_add(100) {
             if ring.count == 0 {
                 return true;
             }
@@ -171,7 +243,7 @@ impl<'a> Lists<'a> {
     }
 
     fn take_steps(&mut self, bounds: Bounds) -> bool {
-        if !self.begin_steps(bounds) {
+        if !self.begin_steps(bounds) || !self.step_by_order(bounds) {
             return false;
         }
         match self.step_all(bounds) {
