@@ -306,7 +306,7 @@ impl<'a> Lists<'a> {
     // cost isn't the same by the least margin.
     pub fn spread(&mut self, rows: &mut Rows<'_>, scale: Scale, off: i64) -> bool {
         let least = scale.least_margin();
-        let wanted = scale.margin.max(least);
+        let wanted = scale.wanted_margin();
         self.spread_of(rows, scale, wanted, wanted, off)
             || self.spread_of(rows, scale, least, 0, off)
     }

@@ -25,7 +25,7 @@ pub struct Scale {
     pub unit: f64,
     // Whether costs above the limit count as the limit.
     pub is_cut: bool,
-    // By how much other pairs are to be worse, in fine units.
+    // Twice the margin, in fine units.
     pub margin: i64,
 }
 
@@ -62,7 +62,7 @@ impl Scale {
             parts,
             unit: 1.0 / factor / parts,
             is_cut,
-            margin: small_in(margin * factor * parts),
+            margin: small_in(2.0 * margin * factor * parts),
         }
     }
 
@@ -79,6 +79,13 @@ impl Scale {
     // The cost from which on pairs are far.
     pub fn far(self) -> i64 {
         if self.is_cut { self.limit() } else { i64::MAX }
+    }
+
+    // By how much other pairs are to be worse: a checker takes the margin twice, in rounded sums.
+    pub fn wanted_margin(self) -> i64 {
+        self.margin
+            .wrapping_add(self.grid())
+            .max(self.least_margin())
     }
 
     // The least margin.
