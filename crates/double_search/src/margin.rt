@@ -148,7 +148,7 @@ impl<'a> Lists<'a> {
         }
     }
 
-    // Puts the persons without such a pair first in order. Returns how many they are.
+    // Puts the persons without one first in order. Returns how many they are.
     fn begin_order(&mut self) -> usize {
         let mut count = 0usize;
         for person in 0..self.objects.len() {
