@@ -139,7 +139,9 @@ impl<'a> Lists<'a> {
     // Counts, for each person, the near pairs of others with its object that aren't worse enough.
     fn count_tight(&mut self) {
         fill(self.scanned, 0);
-        for k in 0..place_of(at(self.starts, self.objects.len())) {
+        let persons = self.objects.len();
+        let pairs = place_of(at(self.starts, persons));
+        for k in 0..pairs {
             if at(self.spare, k) < 0 {
                 let owner = place_of(at(self.near, k));
                 let count = at(self.scanned, owner).wrapping_add(1);
