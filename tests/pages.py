@@ -30,7 +30,7 @@ RUN = ["README.md", "docs/MODELLING.md", "docs/SCRIPTS.md"]
 RELEASED = re.compile(r"\brelease/|\bplanner\b")
 GENERATED = "docs/DEFINITIONS.md"
 # The most words of each page. The generated one and the list of changes may have any number.
-MOST_OF_PAGE = {"README.md": 1550, "SECURITY.md": 250, "bench/README.md": 1080,
+MOST_OF_PAGE = {"README.md": 1550, "SECURITY.md": 250, "bench/README.md": 1160,
                 "examples/README.md": 200,
                 "docs/ARCHITECTURE.md": 1450, "docs/CALLING.md": 700, "docs/CONTRIBUTING.md": 850,
                 "docs/DECISIONS.md": 1400, "docs/FORMATS.md": 2200, "docs/MODELLING.md": 1200, "docs/PROOFS.md": 1150,
