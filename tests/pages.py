@@ -33,7 +33,7 @@ GENERATED = "docs/DEFINITIONS.md"
 MOST_OF_PAGE = {"README.md": 1550, "SECURITY.md": 250, "bench/README.md": 1160,
                 "examples/README.md": 200,
                 "docs/ARCHITECTURE.md": 1450, "docs/CALLING.md": 700, "docs/CONTRIBUTING.md": 850,
-                "docs/DECISIONS.md": 1400, "docs/FORMATS.md": 2200, "docs/MODELLING.md": 1200, "docs/PROOFS.md": 1150,
+                "docs/DECISIONS.md": 1430, "docs/FORMATS.md": 2200, "docs/MODELLING.md": 1200, "docs/PROOFS.md": 1150,
                 "docs/PROVED.md": 3350, "docs/PYTHON.md": 1700, "docs/RATTLE.md": 400, "docs/ROSTERS.md": 2000,
                 "docs/RULES.md": 950, "docs/SCRIPTS.md": 850, "docs/TESTING.md": 650}
 UNCOUNTED = (GENERATED, "CHANGELOG.md")
