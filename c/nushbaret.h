@@ -104,7 +104,7 @@
 extern "C" {
 #endif
 
-#define NUSHBARET_VERSION "4.2.0"
+#define NUSHBARET_VERSION "4.3.0"
 
 /* The sense: the least sum of costs, or the greatest. */
 #define NUSHBARET_MIN 0u

@@ -98,7 +98,7 @@ enum { FEW = 2000 };
 #define MOST_DOUBLE 1.7976931348623157e308
 /* What is added to a double of less than 2^51 rounds it to a whole number, and is taken off again. */
 #define TO_WHOLE 0x1.8p52
-/* Floats of at most so many decimal places are whole numbers of a unit, as in _exact.py. */
+/* Floats of at most so many decimal places are whole numbers of a unit. */
 enum { MOST_PLACES = 6 };
 
 /* ---- Reading ---- */

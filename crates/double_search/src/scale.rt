@@ -66,11 +66,6 @@ impl Scale {
         }
     }
 
-    // A small double in fine units.
-    pub fn small(self, double: f64) -> i64 {
-        small_in(double * self.factor.abs() * self.parts)
-    }
-
     // The cost of pairs whose cost is cut.
     pub fn limit(self) -> i64 {
         (1i64 << 50).wrapping_mul(self.grid())
