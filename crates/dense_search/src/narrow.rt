@@ -38,6 +38,11 @@ pub fn narrow_costs<R: Reading<i64>>(
     Ok(Some(copy))
 }
 
+// Whether prices, none below 0, have room among the costs of a copy.
+pub fn are_narrow(prices: &[i64]) -> bool {
+    prices.iter().all(|price| *price < NARROW)
+}
+
 // Prices in 32 bits, which hold those that a search over a copy left.
 pub fn narrow_prices(alloc: Global, prices: &[i64]) -> Result<Vec<i32>, AllocError> {
     let mut narrow = Vec::with_capacity(alloc, prices.len())?;

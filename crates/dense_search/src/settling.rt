@@ -6,6 +6,9 @@ use super::rows::two_best;
 use sparse_search::{NOBODY, place_at};
 use std::alloc::{AllocError, Global};
 
+// The part of all persons that tells what prices are worth.
+const FIRST_PART: usize = 16;
+
 // A person leaves an object that isn't best, and takes a best one that nobody owns.
 fn settle<R: Reading<i64>>(matrix: &Matrix<'_, i64, R>, market: &mut Market<'_, i64>, person: u32) {
     let two = two_best(&matrix.reading, matrix.row(person), market.prices);
@@ -35,6 +38,28 @@ pub fn settle_all<R: Reading<i64>>(
         settle(matrix, market, place_at(k));
     }
     matrix.pairs()
+}
+
+// Settles all persons, unless more than `most` find no object, or three quarters of the first ones.
+// Returns the looks at pairs, and whether all are settled.
+pub fn settle_up_to<R: Reading<i64>>(
+    matrix: &Matrix<'_, i64, R>,
+    market: &mut Market<'_, i64>,
+    most: usize,
+) -> (usize, bool) {
+    let first = matrix.persons / FIRST_PART;
+    let mut unserved = 0usize;
+    for k in 0..matrix.persons {
+        let person = place_at(k);
+        settle(matrix, market, person);
+        if market.object(person) == NOBODY {
+            unserved = unserved.wrapping_add(1);
+        }
+        if unserved > most || (k == first && unserved > first / 4 * 3) {
+            return (k.saturating_mul(matrix.objects), false);
+        }
+    }
+    (matrix.pairs(), true)
 }
 
 // Raises the bounds to the prices at which a person with this value for its object would take the

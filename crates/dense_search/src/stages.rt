@@ -6,12 +6,12 @@ use super::cores::{resume_cores, solve_by_cores};
 use super::market::Market;
 use super::matrix::{DenseProblem, Matrix};
 use super::middle::search_copy;
-use super::narrow::{narrow_costs, narrow_prices, widen};
+use super::narrow::{are_narrow, narrow_costs, narrow_prices, widen};
 use super::paths::{Allowance, lower_unowned, serve_all, serve_by_rows};
 use super::prices::{begin, begin_at_zero, cut, magnify, reduce};
 use super::reading::{AsCosts, AsGains, Reading};
 use super::record::{Ended, Outcome, Record, SHIFT, Stage};
-use super::settling::settle_all;
+use super::settling::{settle_all, settle_up_to};
 use assign_core::Sense;
 use sparse_search::Looks;
 use std::alloc::{AllocError, Global};
@@ -43,6 +43,9 @@ const CORE_LOOKS: u64 = 4000;
 
 const CORE_PASSES: u64 = 2;
 
+// From first prices so many persons are served by searches alone.
+const FEW_UNSERVED: usize = 8;
+
 // The looks of searches after a core, as passes over all pairs.
 const RETRY_PASSES: u64 = 64;
 
@@ -68,6 +71,18 @@ fn most_looks<R: Reading<i64>>(matrix: &Matrix<'_, i64, R>) -> u64 {
 // are looked at, and a copy takes longer than these.
 fn is_middle<R: Reading<i64>>(matrix: &Matrix<'_, i64, R>) -> bool {
     matrix.pairs() <= MOST_NARROW && matrix.persons > matrix.objects / 8 * 5
+}
+
+// How many persons first prices may leave without an object. A search without these prices is faster
+// for more.
+fn most_left<R: Reading<i64>>(matrix: &Matrix<'_, i64, R>) -> usize {
+    if matrix.persons < matrix.objects {
+        FEW_UNSERVED
+    } else if matrix.pairs() < MIDDLE {
+        (matrix.persons / 32).max(FEW_UNSERVED)
+    } else {
+        matrix.persons / 2
+    }
 }
 
 // What a step of a search leads to.
@@ -236,18 +251,44 @@ impl<'a> Work<'a> {
 
     // First prices of which many persons' best objects are others' too save nothing, and so do those
     // of many more objects than persons, since a search without any looks at few pairs twice.
-    fn begin_warm<R: Reading<i64>>(&mut self, matrix: &Matrix<'_, i64, R>) -> Step {
+    fn begin_warm<R: Reading<i64>>(
+        &mut self,
+        alloc: Global,
+        matrix: &Matrix<'_, i64, R>,
+    ) -> Result<Step, AllocError> {
         if matrix.persons < matrix.objects / 8 * 7 {
-            return Step::To(Stage::Cold);
+            return Ok(Step::To(Stage::Cold));
         }
         begin_at_zero(self.market.prices);
         cut(self.market.prices);
-        let looks = settle_all(matrix, &mut self.market);
+        let (looks, are_settled) = settle_up_to(matrix, &mut self.market, most_left(matrix));
         self.looks.add(looks);
-        if self.market.unserved() > matrix.persons / 2 {
-            return Step::To(Stage::Cold);
+        if !are_settled {
+            return Ok(Step::To(Stage::Cold));
         }
-        self.begin_paths()
+        self.go_on_warm(alloc, matrix)
+    }
+
+    // Searches for few persons. More are served over a copy, or by a core.
+    fn go_on_warm<R: Reading<i64>>(
+        &mut self,
+        alloc: Global,
+        matrix: &Matrix<'_, i64, R>,
+    ) -> Result<Step, AllocError> {
+        if self.market.unserved() <= FEW_UNSERVED {
+            return Ok(self.begin_paths());
+        }
+        if !is_middle(matrix) {
+            let _ = self.begin_paths();
+            return Ok(Step::To(Stage::Core));
+        }
+        if are_narrow(self.market.prices) {
+            self.record.stage = Stage::CopyPaths;
+            if let Some(step) = self.search_copied(alloc, matrix)? {
+                return Ok(step);
+            }
+        }
+        Ok(self.begin_paths())
     }
 
     // What is left of so many looks of searches, which count in all calls of the stage.
@@ -483,7 +524,7 @@ impl<'a> Work<'a> {
     ) -> Result<Step, AllocError> {
         match self.record.stage {
             Stage::Cold => self.begin_cold(alloc, matrix),
-            Stage::Warm => Ok(self.begin_warm(matrix)),
+            Stage::Warm => self.begin_warm(alloc, matrix),
             Stage::Paths => self.search_paths(alloc, matrix),
             Stage::Core => self.solve_cores(alloc, matrix),
             Stage::Retry => self.retry(alloc, matrix),

@@ -11,9 +11,8 @@ pub struct Standing {
 }
 
 impl Standing {
-    // Whether all prices are 0 and nobody has an object.
+    // Whether all prices are 0. A plan without prices saves nothing.
     pub fn has_nothing(&self) -> bool {
-        self.objects.iter().all(|object| *object == 0)
-            && self.prices.iter().all(|price| *price == 0)
+        self.prices.iter().all(|price| *price == 0)
     }
 }

@@ -186,8 +186,8 @@ fn split_below(prices: &mut [i64], pivot: i64) -> usize {
     count
 }
 
-// The entry at this place of the sorted prices.
-fn price_at(alloc: Global, prices: &[i64], place: usize) -> Result<i64, AllocError> {
+/// The entry at this place of the sorted prices.
+pub fn price_at(alloc: Global, prices: &[i64], place: usize) -> Result<i64, AllocError> {
     let mut copy = Vec::from_slice(alloc, prices)?;
     let mut rest = copy.as_mut_slice();
     let mut place = place;

@@ -6,6 +6,7 @@ use super::matching::hall_set;
 use super::outcome::Outcome;
 use super::problem::SparseProblem;
 use super::record::{Record, Stage};
+use super::rivals::first_rivals;
 use super::stages::{Run, RunEnd, first_without_pairs};
 use std::alloc::{AllocError, Global};
 
@@ -112,6 +113,9 @@ pub fn search(
     }
     if let Some(person) = first_without_pairs(problem) {
         return Ok(Outcome::Hall(hall_set(alloc, problem, &[person])?));
+    }
+    if let Some(rivals) = first_rivals(alloc, problem)? {
+        return Ok(Outcome::Hall(hall_set(alloc, problem, &rivals)?));
     }
     let limit = if budget == 0 {
         u64::MAX

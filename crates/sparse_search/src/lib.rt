@@ -17,6 +17,7 @@ mod path;
 mod place;
 mod problem;
 mod record;
+mod rivals;
 mod row;
 mod stages;
 mod tight;

@@ -122,6 +122,17 @@ impl Market {
         least
     }
 
+    /// The sum of all prices above the least one, for each person.
+    pub fn mean_price(&self) -> i64 {
+        let least = self.least_price();
+        let mut sum = 0i64;
+        for price in &self.prices {
+            sum = sum.saturating_add(price.saturating_sub(least));
+        }
+        let persons = (self.objects.len() as u64 & 0xffff_ffff) as i64;
+        sum.checked_div(persons).unwrap_or(0)
+    }
+
     /// Brings prices to the unit of the costs, with the least one at 0. A gap of two prices that was
     /// enough for a cost is so afterwards, since costs are whole.
     pub fn bring_to_costs(&mut self, shift: u32) {

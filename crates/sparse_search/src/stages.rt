@@ -11,7 +11,7 @@ use super::place::{NOBODY, place_at};
 use super::problem::{Scaled, SparseProblem};
 use super::record::{Record, Stage};
 use super::tight::{count_slack, match_tight, settle};
-use super::unowned::{bring_down, lower_unowned};
+use super::unowned::{bring_down, bring_down_many, lower_unowned};
 use std::alloc::{AllocError, Global};
 
 // The numbers come from measurements; no answer depends on them.
@@ -27,18 +27,20 @@ const SEARCH_LOOKS: u64 = 32;
 const FALL: i64 = 5;
 // The most bids of dummies in a phase.
 const DUMMY_BIDS: u32 = 4;
-// With more objects than persons by this part a search is short, unless as few persons are left.
+// With more objects than persons by this part, and prices below this part of the costs' spread, a
+// search without first prices is short.
 const WIDE: usize = 8;
 
-const FEW: usize = 512;
+const CHEAP: i64 = 3;
 
-const SAMPLE: usize = 16;
+const SAMPLE: usize = 4;
 // Prices are left if more persons than this part find no object by them.
 const MOST_LEFT: usize = 32;
 // So many unowned objects come down one by one.
 const FEW_DEAR: usize = 4;
-// The looks of more, for each pair, instead of which an auction begins.
-const DEAR_LOOKS: u64 = 2;
+
+// More are brought down together.
+const MANY_DEAR: usize = 32;
 // Costs count at most 2 to this power times.
 const MOST_SHIFT: u32 = 9;
 
@@ -224,7 +226,8 @@ impl<'a> Run<'a> {
     fn begin_warm(&mut self) -> Result<(), AllocError> {
         self.record.shift = 0;
         let scaled = self.scaled();
-        if self.is_sooner_cold(scaled) {
+        let is_easy = self.is_easy();
+        if is_easy && count_slack(scaled, &self.market, SAMPLE, &mut self.looks) > 0 {
             self.record = self.record.with_stage(Stage::Cold);
             return Ok(());
         }
@@ -233,22 +236,22 @@ impl<'a> Run<'a> {
         let persons = (self.persons() & 0xffff_ffff) as i64;
         let mean = sum.checked_div(persons).unwrap_or(0);
         self.record.slackness = if mean < spread / 50 { mean.max(1) } else { 0 };
+        if is_easy && self.market.count_unserved() > 0 {
+            self.record = self.record.with_stage(Stage::Cold);
+            return Ok(());
+        }
         self.lower_dear(scaled)?;
         self.record = self.record.with_stage(Stage::WarmTight);
         self.record.place = 1;
         Ok(())
     }
 
-    // Whether there are far more objects than persons, which is solved in a few passes over all pairs,
-    // and some persons have no object or no best one.
-    fn is_sooner_cold(&mut self, scaled: Scaled<'a>) -> bool {
-        let (persons, objects) = (self.problem.persons(), self.problem.objects);
-        if objects <= persons.saturating_add(persons / WIDE) {
-            return false;
-        }
-        let few = persons / FEW;
-        self.market.count_unserved() > few
-            || count_slack(scaled, &self.market, SAMPLE, &mut self.looks) > few / SAMPLE
+    // Whether there are far more objects than persons, and they are cheap. A search without first prices
+    // takes a few passes over all pairs then.
+    fn is_easy(&mut self) -> bool {
+        let persons = self.problem.persons();
+        self.problem.objects > persons.saturating_add(persons / WIDE)
+            && self.market.mean_price() < self.spread() / CHEAP
     }
 
     // Tight pairs at somebody's prices. Prices that fit few persons are left.
@@ -356,25 +359,45 @@ impl<'a> Run<'a> {
         Some(RunEnd::Best)
     }
 
-    fn bring_down_unowned(&mut self) -> Result<Option<RunEnd>, AllocError> {
+    // In the unit of the costs, in which many prices are the least one.
+    fn begin_unowned(&mut self) -> Result<(), AllocError> {
+        let shift = self.scaled().shift;
+        self.market.bring_to_costs(shift);
+        self.record.shift = 0;
         let scaled = self.scaled();
+        self.lower_dear(scaled)?;
+        self.record.place = 1;
+        Ok(())
+    }
+
+    fn bring_down_unowned(&mut self) -> Result<Option<RunEnd>, AllocError> {
         if self.record.place == 0 {
-            self.lower_dear(scaled)?;
-            self.record.place = 1;
+            self.begin_unowned()?;
             return Ok(None);
         }
+        let scaled = self.scaled();
         for _object in 0..self.problem.objects {
             if self.record.place > 1 {
                 return Ok(self.finish());
             }
-            if !bring_down(&mut self.search, scaled, &mut self.market, &mut self.looks)? {
-                self.record.place = 2;
-            }
+            self.bring_some_down(scaled)?;
             if self.looks.is_spent() {
                 return Ok(None);
             }
         }
         Ok(self.finish())
+    }
+
+    // A dear unowned object, or many at once.
+    fn bring_some_down(&mut self, scaled: Scaled<'_>) -> Result<(), AllocError> {
+        let (search, market, looks) = (&mut self.search, &mut self.market, &mut self.looks);
+        if market.count_dear() > MANY_DEAR {
+            return bring_down_many(self.alloc, search, scaled, market, looks);
+        }
+        if !bring_down(search, scaled, market, looks)? {
+            self.record.place = 2;
+        }
+        Ok(())
     }
 
     fn first_paths(&mut self) -> Result<Option<RunEnd>, AllocError> {
@@ -387,25 +410,14 @@ impl<'a> Run<'a> {
             forecast.write(&mut self.record);
         }
         match served {
-            Served::All if !self.has_many_dear()? => Ok(self.after_all()),
+            Served::All => Ok(self.after_all()),
             Served::Hall(persons) => Ok(Some(RunEnd::Hall(persons))),
             Served::Spent => Ok(None),
-            Served::All | Served::Slow => {
+            Served::Slow => {
                 self.begin_auction();
                 Ok(None)
             }
         }
-    }
-
-    // Whether an auction is sooner done than a search for each dear unowned object.
-    fn has_many_dear(&mut self) -> Result<bool, AllocError> {
-        let scaled = self.scaled();
-        self.lower_dear(scaled)?;
-        let looks = self
-            .market
-            .count_dear()
-            .saturating_mul(self.problem.objects);
-        Ok(looks as u64 > DEAR_LOOKS.saturating_mul(self.pairs()))
     }
 
     fn last_paths(&mut self) -> Result<Option<RunEnd>, AllocError> {

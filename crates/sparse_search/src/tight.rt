@@ -15,6 +15,8 @@ struct Deepening {
     ahead: Vec<u32>,
     seen: Vec<bool>,
     path: Vec<u32>,
+    // Unowned objects at this price or below don't count.
+    floor: i64,
 }
 
 // What is seen of a row from one of its pairs on.
@@ -33,11 +35,19 @@ struct Spot {
     place: u32,
 }
 
-// The first unowned object with a tight pair.
-fn find_unowned(sight: Sight<'_>, market: &Market) -> Spot {
-    let (prices, owners) = (market.prices.as_slice(), market.owners.as_slice());
+// Whether nobody owns an object, and its price is above the floor.
+fn is_wanted(market: &Market, object: u32, floor: i64) -> bool {
+    is_unowned(market.owners.as_slice(), object)
+        && market.prices.get(object as usize).copied().unwrap_or(floor) > floor
+}
+
+// The first wanted object with a tight pair.
+fn find_unowned(sight: Sight<'_>, market: &Market, floor: i64) -> Spot {
+    let prices = market.prices.as_slice();
     for (k, pair) in sight.row.iter().enumerate().skip(sight.from as usize) {
-        if is_unowned(owners, pair.object) && value(*pair, prices, sight.shift) == sight.least {
+        if is_wanted(market, pair.object, floor)
+            && value(*pair, prices, sight.shift) == sight.least
+        {
             return Spot {
                 pair: place_at(k),
                 place: pair.object,
@@ -69,7 +79,8 @@ fn find_owner(sight: Sight<'_>, market: &Market, seen: &[bool]) -> Spot {
     }
 }
 
-// Gives each person on the path the object that the next one had, and the last one this object.
+// Gives each person on the path the object that the next one had, and the last one this object. Nobody
+// owns what the first one had.
 fn take_path(path: &[u32], market: &mut Market, last: u32) {
     let mut object = last;
     for person in path.iter().rev() {
@@ -77,6 +88,7 @@ fn take_path(path: &[u32], market: &mut Market, last: u32) {
         market.give(object, *person);
         object = before;
     }
+    put(market.owners.as_mut_slice(), object, NOBODY);
 }
 
 fn mark(seen: &mut [bool], place: u32) {
@@ -86,13 +98,14 @@ fn mark(seen: &mut [bool], place: u32) {
 }
 
 impl Deepening {
-    fn new(alloc: Global, count: usize) -> Result<Deepening, AllocError> {
+    fn new(alloc: Global, count: usize, floor: i64) -> Result<Deepening, AllocError> {
         Ok(Deepening {
             leasts: vec![in alloc; 0i64; count]?,
             next: vec![in alloc; 0u32; count]?,
             ahead: vec![in alloc; 0u32; count]?,
             seen: vec![in alloc; false; count]?,
             path: Vec::new(alloc),
+            floor,
         })
     }
 
@@ -139,7 +152,7 @@ impl Deepening {
         looks: &mut Looks,
     ) -> Result<bool, AllocError> {
         let sight = self.sight(scaled, person, at(self.ahead.as_slice(), person));
-        let unowned = find_unowned(sight, market);
+        let unowned = find_unowned(sight, market, self.floor);
         Deepening::note(self.ahead.as_mut_slice(), person, unowned, looks);
         if unowned.place != NOBODY {
             take_path(self.path.as_slice(), market, unowned.place);
@@ -233,7 +246,7 @@ pub fn match_tight(
     looks: &mut Looks,
 ) -> Result<u32, AllocError> {
     let persons = scaled.problem.persons();
-    let mut deepening = Deepening::new(alloc, persons)?;
+    let mut deepening = Deepening::new(alloc, persons, i64::MIN)?;
     for person in first..place_at(persons) {
         if looks.is_spent() {
             return Ok(person);
@@ -243,4 +256,25 @@ pub fn match_tight(
         }
     }
     Ok(place_at(persons))
+}
+
+/// Gives dear unowned objects to owners of objects at the floor, from whom tight pairs lead to them, as
+/// far as a search in depth finds them and looks are left.
+pub fn match_dear(
+    alloc: Global,
+    scaled: Scaled<'_>,
+    market: &mut Market,
+    floor: i64,
+    looks: &mut Looks,
+) -> Result<(), AllocError> {
+    let persons = scaled.problem.persons();
+    let mut deepening = Deepening::new(alloc, persons, floor)?;
+    for person in 0..place_at(persons) {
+        let object = at(market.objects.as_slice(), person);
+        let is_at_floor = market.prices.get(object as usize).copied() == Some(floor);
+        if is_at_floor && !deepening.seen.get(person as usize).copied().unwrap_or(true) {
+            deepening.serve(scaled, market, person, looks)?;
+        }
+    }
+    Ok(())
 }

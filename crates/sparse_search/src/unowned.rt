@@ -1,12 +1,14 @@
 // Fewer persons than objects: an unowned object has to be as cheap as any. First each dear one's price
 // falls until a person would pay it, and then searches from the cheapest objects bring down the rest.
+use super::auction::price_at;
 use super::heap::Reached;
 use super::looks::Looks;
 use super::market::Market;
 use super::path::{Level, PathSearch};
 use super::place::{NOBODY, at, place_at};
 use super::problem::{Pair, Scaled};
-use super::row::{FAR, least_value};
+use super::row::{FAR, least_value, value};
+use super::tight::match_dear;
 use std::alloc::{AllocError, Global};
 
 // The greatest price at which a person would pay for each unowned object as for its best one.
@@ -144,4 +146,119 @@ pub fn bring_down(
     raise_floor(market, level.floor, level.nearest);
     take_path(search, market, level.object);
     Ok(level.nearest < FAR)
+}
+
+// The prices of dear unowned objects.
+fn dear_prices(alloc: Global, market: &Market, floor: i64) -> Result<Vec<i64>, AllocError> {
+    let mut dear = Vec::new(alloc);
+    for (price, owner) in market.prices.iter().zip(&market.owners) {
+        if *owner == NOBODY && *price > floor {
+            dear.push(*price)?;
+        }
+    }
+    Ok(dear)
+}
+
+// One pair of a person: an owned or a dear object is reached.
+#[inline(always)]
+fn reach(
+    search: &mut PathSearch,
+    market: &Market,
+    reached: Reached,
+    from: u32,
+    level: Level,
+) -> Result<(), AllocError> {
+    if reached.distance >= level.nearest || !search.is_nearer(reached.object, reached.distance) {
+        return Ok(());
+    }
+    let place = reached.object as usize;
+    let is_dear = market.prices.get(place).copied().unwrap_or(0) > level.floor;
+    if is_dear || at(market.owners.as_slice(), reached.object) != NOBODY {
+        search.keep(reached, from, level)?;
+    }
+    Ok(())
+}
+
+// The pairs of a person at some distance.
+fn scan_all(
+    search: &mut PathSearch,
+    scaled: Scaled<'_>,
+    market: &Market,
+    person: u32,
+    level: Level,
+) -> Result<(), AllocError> {
+    let row = scaled.problem.row(person);
+    let prices = market.prices.as_slice();
+    let base = level
+        .distance
+        .wrapping_sub(least_value(row, prices, scaled.shift));
+    for pair in row {
+        let reached = Reached {
+            distance: base.wrapping_add(value(*pair, prices, scaled.shift)),
+            object: pair.object,
+        };
+        reach(search, market, reached, person, level)?;
+    }
+    Ok(())
+}
+
+// Passes all objects nearer than the level's nearest.
+fn pass_all(
+    search: &mut PathSearch,
+    scaled: Scaled<'_>,
+    market: &Market,
+    first: Level,
+    looks: &mut Looks,
+) -> Result<(), AllocError> {
+    let mut level = first;
+    for turn in 0..market.prices.len() {
+        level = search.go_on(turn, level)?;
+        if turn >= search.passed.len() {
+            return Ok(());
+        }
+        let person = search.next_person(market, turn);
+        if person != NOBODY {
+            looks.add(scaled.problem.row(person).len());
+            scan_all(search, scaled, market, person, level)?;
+        }
+    }
+    Ok(())
+}
+
+// Raises the prices of unowned objects to the floor.
+fn raise_to_floor(market: &mut Market, floor: i64) {
+    for (price, owner) in market.prices.iter_mut().zip(&market.owners) {
+        if *owner == NOBODY {
+            *price = (*price).max(floor);
+        }
+    }
+}
+
+// The part of dear objects that one step brings down.
+const PART: usize = 4;
+
+/// Brings down many dear unowned objects: raises the floor to the price of some of them, with the
+/// prices of what is reached below, and gives others to persons by tight pairs. Each step leaves fewer.
+pub fn bring_down_many(
+    alloc: Global,
+    search: &mut PathSearch,
+    scaled: Scaled<'_>,
+    market: &mut Market,
+    looks: &mut Looks,
+) -> Result<(), AllocError> {
+    let floor = market.least_price();
+    let dear = dear_prices(alloc, market, floor)?;
+    let price = price_at(alloc, dear.as_slice(), dear.len() / PART)?;
+    let level = Level {
+        floor,
+        nearest: price.wrapping_sub(floor),
+        ..Level::begin()
+    };
+    search.begin();
+    reach_all(search, market, level)?;
+    pass_all(search, scaled, market, level, looks)?;
+    search.raise_prices(market, level.nearest);
+    raise_to_floor(market, price);
+    looks.add(market.prices.len());
+    match_dear(alloc, scaled, market, price, looks)
 }
