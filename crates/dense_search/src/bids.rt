@@ -6,16 +6,35 @@ use super::market::Market;
 use super::matrix::Matrix;
 use super::number::Number;
 use super::reading::Reading;
-use super::rows::{Two, two_best};
+use super::rows::{two_best, unowned_below};
 use sparse_search::{NOBODY, place_at};
 
+// Gives a person an object that nobody owns and that is as good as its best one, if there is one.
+pub fn give_unowned<K: Number, R: Reading<K>>(
+    matrix: &Matrix<'_, K, R>,
+    market: &mut Market<'_, K>,
+    person: u32,
+    best: K,
+) {
+    let limit = best.plus(K::from_wide(1));
+    let (row, owners) = (matrix.row(person), market.owners.as_slice());
+    let object = unowned_below(&matrix.reading, row, market.prices, owners, limit);
+    if object != NOBODY {
+        market.give(object, person);
+    }
+}
+
 // One bid: the person who lost its object by it, or nobody.
-fn bid<K: Number>(market: &mut Market<'_, K>, two: Two<K>, person: u32, slackness: K) -> u32 {
+fn bid<K: Number, R: Reading<K>>(
+    matrix: &Matrix<'_, K, R>,
+    market: &mut Market<'_, K>,
+    person: u32,
+    slackness: K,
+) -> u32 {
+    let two = two_best(&matrix.reading, matrix.row(person), market.prices);
     let (gap, owner) = (two.gap().plus(slackness), market.owner(two.object));
     if !K::zero().is_below(gap) && owner != NOBODY {
-        if two.other != NOBODY && market.owner(two.other) == NOBODY {
-            market.give(two.other, person);
-        }
+        give_unowned(matrix, market, person, two.best);
         return NOBODY;
     }
     if !market.price(two.object).plus(gap).is_below(K::limit()) {
@@ -39,8 +58,7 @@ fn bid_on<K: Number, R: Reading<K>>(
 ) -> usize {
     let mut person = first;
     for made in 0..most {
-        let two = two_best(&matrix.reading, matrix.row(person), market.prices);
-        person = bid(market, two, person, slackness);
+        person = bid(matrix, market, person, slackness);
         if person == NOBODY {
             return made + 1;
         }

@@ -144,7 +144,7 @@ fn solve_core<R: Reading<i64>>(
     Ok(if is_best { Ended::Served } else { Ended::Long })
 }
 
-// Adds better pairs to a core. Where many persons have some, it gets those that are cheapest by
+// Adds better pairs to a core. Where most persons have some, it gets those that are cheapest by
 // another measure too.
 fn grow<R: Reading<i64>>(
     alloc: Global,
@@ -154,7 +154,7 @@ fn grow<R: Reading<i64>>(
     looks: &mut Looks,
 ) -> Result<Core, AllocError> {
     let grown = merge(alloc, core, &better.core, matrix.persons)?;
-    if !are_many(matrix, better) || matrix.persons < matrix.objects {
+    if !are_most(matrix, better) || matrix.persons < matrix.objects {
         return Ok(grown);
     }
     let others = pick_by_means(alloc, matrix)?;
@@ -165,6 +165,10 @@ fn grow<R: Reading<i64>>(
 // Whether many persons have better pairs.
 fn are_many<R: Reading<i64>>(matrix: &Matrix<'_, i64, R>, better: &Better) -> bool {
     better.persons > matrix.persons as u64 / 4
+}
+
+fn are_most<R: Reading<i64>>(matrix: &Matrix<'_, i64, R>, better: &Better) -> bool {
+    better.persons > matrix.persons as u64 / 2
 }
 
 // Whether cores aren't worth going on with: many persons have better pairs after two, or three

@@ -1,11 +1,12 @@
-// Bids and searches over a copy of the costs, for problems of middle size.
+// Bids and searches over a copy of the costs, for problems of middle size, or over the costs of small
+// ones.
 use super::bids::bid_all;
 use super::market::Market;
 use super::matrix::Matrix;
-use super::narrow::low_half;
+use super::number::{Number, greater, lesser};
 use super::paths::serve_by_rows;
 use super::prices::begin;
-use super::reading::AsCosts;
+use super::reading::Reading;
 use super::record::{Ended, Record, Stage};
 use sparse_search::Looks;
 use std::alloc::{AllocError, Global};
@@ -25,26 +26,31 @@ const DIVISOR: i64 = 5;
 const PASSES: u64 = 100;
 
 // The greatest cost less the least one.
-fn spread_of(costs: &[i32]) -> i32 {
-    let mut least = 0i32;
-    let mut greatest = 0i32;
-    for cost in costs {
-        least = least.min(*cost);
-        greatest = greatest.max(*cost);
+fn spread_of<K: Number, R: Reading<K>>(matrix: &Matrix<'_, K, R>) -> i64 {
+    let mut least = matrix.value(0, 0);
+    let mut greatest = least;
+    for cost in matrix.costs {
+        let value = matrix.reading.value(*cost);
+        least = lesser(least, value);
+        greatest = greater(greatest, value);
     }
-    greatest.wrapping_sub(least)
+    greatest.minus(least).wide()
 }
 
 // As many bids as the looks allow, and no more than these.
-fn bids_within(matrix: &Matrix<'_, i32, AsCosts>, most: usize, looks: &Looks) -> usize {
+fn bids_within<K: Number, R: Reading<K>>(
+    matrix: &Matrix<'_, K, R>,
+    most: usize,
+    looks: &Looks,
+) -> usize {
     let room = looks.limit.saturating_sub(looks.done) as usize;
     most.min(room / matrix.objects.max(1))
 }
 
 // First prices, and bids without slackness.
-fn begin_paths(
-    matrix: &Matrix<'_, i32, AsCosts>,
-    market: &mut Market<'_, i32>,
+fn begin_paths<K: Number, R: Reading<K>>(
+    matrix: &Matrix<'_, K, R>,
+    market: &mut Market<'_, K>,
     record: &mut Record,
     looks: &mut Looks,
 ) {
@@ -54,28 +60,32 @@ fn begin_paths(
     record.stage = Stage::CopyPaths;
 }
 
-fn bid(matrix: &Matrix<'_, i32, AsCosts>, market: &mut Market<'_, i32>, looks: &mut Looks) {
+fn bid<K: Number, R: Reading<K>>(
+    matrix: &Matrix<'_, K, R>,
+    market: &mut Market<'_, K>,
+    looks: &mut Looks,
+) {
     let most = bids_within(matrix, matrix.persons.saturating_mul(BIDS), looks);
-    let made = bid_all(matrix, market, 0, most);
+    let made = bid_all(matrix, market, K::zero(), most);
     looks.add(made.saturating_mul(matrix.objects));
 }
 
-fn begin_auction(
-    matrix: &Matrix<'_, i32, AsCosts>,
-    market: &mut Market<'_, i32>,
+fn begin_auction<K: Number, R: Reading<K>>(
+    matrix: &Matrix<'_, K, R>,
+    market: &mut Market<'_, K>,
     record: &mut Record,
     looks: &mut Looks,
 ) {
     looks.add(begin(matrix, market.prices));
-    record.slackness = i64::from(spread_of(matrix.costs)) / DIVISOR;
+    record.slackness = spread_of(matrix) / DIVISOR;
     record.bids = 0;
     record.stage = Stage::CopyAuction;
 }
 
 // Bids of one slackness, as far as the looks allow. Returns whether the phase is over.
-fn is_phase_over(
-    matrix: &Matrix<'_, i32, AsCosts>,
-    market: &mut Market<'_, i32>,
+fn is_phase_over<K: Number, R: Reading<K>>(
+    matrix: &Matrix<'_, K, R>,
+    market: &mut Market<'_, K>,
     record: &mut Record,
     looks: &mut Looks,
 ) -> bool {
@@ -83,7 +93,7 @@ fn is_phase_over(
     let all = matrix.persons.saturating_mul(BIDS_A_PHASE) as u64;
     let left = all.saturating_sub(record.bids) as usize;
     let most = bids_within(matrix, left, looks);
-    let made = bid_all(matrix, market, low_half(record.slackness), most);
+    let made = bid_all(matrix, market, K::from_wide(record.slackness), most);
     record.bids = record.bids.saturating_add(made as u64);
     looks.add(made.saturating_mul(matrix.objects));
     made < most || most == left
@@ -91,9 +101,9 @@ fn is_phase_over(
 
 // Bids of falling slackness, as far as the looks allow. Returns whether they ended; no object is
 // owned then.
-fn auction(
-    matrix: &Matrix<'_, i32, AsCosts>,
-    market: &mut Market<'_, i32>,
+fn auction<K: Number, R: Reading<K>>(
+    matrix: &Matrix<'_, K, R>,
+    market: &mut Market<'_, K>,
     record: &mut Record,
     looks: &mut Looks,
 ) -> bool {
@@ -112,7 +122,7 @@ fn auction(
 
 // The looks that searches may be expected to take. An auction would leave high prices at unowned
 // objects, so where there are more objects than persons searches go on.
-fn most_looks(matrix: &Matrix<'_, i32, AsCosts>) -> u64 {
+fn most_looks<K: Number, R: Reading<K>>(matrix: &Matrix<'_, K, R>) -> u64 {
     if matrix.persons < matrix.objects {
         return u64::MAX;
     }
@@ -121,10 +131,10 @@ fn most_looks(matrix: &Matrix<'_, i32, AsCosts>) -> u64 {
 
 // Searches, and once more from the prices of an auction where these take too long, from the stage of
 // the record on.
-fn search_from(
+fn search_from<K: Number, R: Reading<K>>(
     alloc: Global,
-    matrix: &Matrix<'_, i32, AsCosts>,
-    market: &mut Market<'_, i32>,
+    matrix: &Matrix<'_, K, R>,
+    market: &mut Market<'_, K>,
     record: &mut Record,
     looks: &mut Looks,
 ) -> Result<Ended, AllocError> {
@@ -145,19 +155,16 @@ fn search_from(
     serve_by_rows(alloc, matrix, market, u64::MAX, looks)
 }
 
-// Bids and searches for these prices and objects. They go on where the record says, if its stage is
-// one of theirs.
-pub fn search_copy(
+// Bids and searches. They go on where the record says, if its stage is one of theirs.
+pub fn search_market<K: Number, R: Reading<K>>(
     alloc: Global,
-    matrix: &Matrix<'_, i32, AsCosts>,
-    prices: &mut [i32],
-    objects: &mut [u32],
+    matrix: &Matrix<'_, K, R>,
+    market: &mut Market<'_, K>,
     record: &mut Record,
     looks: &mut Looks,
 ) -> Result<Ended, AllocError> {
-    let mut market = Market::new(alloc, prices, objects)?;
     if !record.stage.is_copied() {
-        begin_paths(matrix, &mut market, record, looks);
+        begin_paths(matrix, market, record, looks);
     }
-    search_from(alloc, matrix, &mut market, record, looks)
+    search_from(alloc, matrix, market, record, looks)
 }

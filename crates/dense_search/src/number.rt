@@ -1,6 +1,8 @@
 // The numbers of a search: 64 bits, or 32 bits where costs lie close together, since a scan takes
 // half the time then. Sums wrap.
 
+use super::narrow::low_half;
+
 // Costs of 32 bits lie this close to the first one, and prices are below twice as much.
 pub const NARROW: i64 = 1 << 27;
 
@@ -29,6 +31,9 @@ pub trait Number: Copy + Drop {
     fn joined(self, other: Self) -> Self;
 
     fn wide(self) -> i64;
+
+    // The number, or its low bits.
+    fn from_wide(number: i64) -> Self;
 
     // Whether a vector's lesser numbers take one instruction.
     fn is_narrow() -> bool;
@@ -73,6 +78,10 @@ impl Number for i64 {
 
     fn wide(self) -> i64 {
         self
+    }
+
+    fn from_wide(number: i64) -> i64 {
+        number
     }
 
     fn is_narrow() -> bool {
@@ -121,6 +130,10 @@ impl Number for i32 {
         i64::from(self)
     }
 
+    fn from_wide(number: i64) -> i32 {
+        low_half(number)
+    }
+
     fn is_narrow() -> bool {
         true
     }
@@ -128,6 +141,10 @@ impl Number for i32 {
 
 pub fn lesser<K: Number>(one: K, other: K) -> K {
     if other.is_below(one) { other } else { one }
+}
+
+pub fn greater<K: Number>(one: K, other: K) -> K {
+    if one.is_below(other) { other } else { one }
 }
 
 // The least of some numbers, or `most` if that is less.

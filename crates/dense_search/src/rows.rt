@@ -22,13 +22,12 @@ pub fn is_any_below<K: Number, R: Reading<K>>(
     signs.is_below(K::zero())
 }
 
-// The two best objects of a person, with their values.
+// The best object of a person, its value, and that of the second best one.
 #[derive(Clone, Copy)]
 pub struct Two<K> {
     pub best: K,
     pub object: u32,
     pub second: K,
-    pub other: u32,
 }
 
 impl<K: Number> Two<K> {
@@ -37,46 +36,38 @@ impl<K: Number> Two<K> {
             best: K::far(),
             object: NOBODY,
             second: K::far(),
-            other: NOBODY,
         }
     }
 
     // With another object. Without branches, since nobody can foretell them.
     fn with(self, object: u32, value: K) -> Two<K> {
         let is_best = value.is_below(self.best);
-        let is_second = value.is_below(self.second);
-        let (second, other) = if is_second {
-            (value, object)
-        } else {
-            (self.second, self.other)
-        };
+        let worse = if is_best { self.best } else { value };
         Two {
             best: if is_best { value } else { self.best },
             object: if is_best { object } else { self.object },
-            second: if is_best { self.best } else { second },
-            other: if is_best { self.object } else { other },
+            second: lesser(self.second, worse),
         }
     }
 
     // How much worse the second best is; 0 if there is one object.
     pub fn gap(self) -> K {
-        if self.other == NOBODY {
-            K::zero()
-        } else {
+        if self.second.is_below(K::far()) {
             self.second.minus(self.best)
+        } else {
+            K::zero()
         }
     }
 }
 
-// The two best with the objects of a block that begins at this place.
-fn two_with_block<K: Number, R: Reading<K>>(
-    two: Two<K>,
+// The two best of a block that begins at this place.
+fn two_of_block<K: Number, R: Reading<K>>(
     reading: &R,
     costs: &[K],
     keys: &[K],
     at: usize,
 ) -> Two<K> {
-    let mut two = two;
+    let mut two = Two::none();
     for (k, (cost, key)) in costs.iter().zip(keys).enumerate() {
         let value = reading.value(*cost).plus(*key);
         two = two.with(place_at(at.wrapping_add(k)), value);
@@ -99,7 +90,7 @@ fn may_be_below<K: Number, R: Reading<K>>(reading: &R, costs: &[K], keys: &[K], 
     K::is_narrow() || is_any_below(reading, costs, keys, limit)
 }
 
-// The two blocks with the least values, by their numbers from 0.
+// The block with the least value, by its number from 0, this value, and the least one of the others.
 fn two_blocks<K: Number, R: Reading<K>>(reading: &R, row: &[K], keys: &[K]) -> Two<K> {
     let mut two = Two::none();
     for (k, (costs, keys)) in row.chunks(BLOCK).zip(keys.chunks(BLOCK)).enumerate() {
@@ -115,24 +106,54 @@ fn block_of<K>(numbers: &[K], from: usize) -> &[K] {
     numbers.get(from..to).unwrap_or(&[])
 }
 
-// The two best objects of a row. They lie in the two blocks with the least values, if there are more
-// than one.
+// The best object of a row with its value, and the second best value. The second best object lies in
+// the same block, or has the least value of another one.
 pub fn two_best<K: Number, R: Reading<K>>(reading: &R, row: &[K], keys: &[K]) -> Two<K> {
     if row.len() <= BLOCK {
-        return two_with_block(Two::none(), reading, row, keys, 0);
+        return two_of_block(reading, row, keys, 0);
     }
     let blocks = two_blocks(reading, row, keys);
     let at = (blocks.object as usize).saturating_mul(BLOCK);
-    let two = two_with_block(
-        Two::none(),
-        reading,
-        block_of(row, at),
-        block_of(keys, at),
-        at,
-    );
-    if !blocks.second.is_below(two.second) {
-        return two;
+    let two = two_of_block(reading, block_of(row, at), block_of(keys, at), at);
+    Two {
+        second: lesser(two.second, blocks.second),
+        ..two
     }
-    let at = (blocks.other as usize).saturating_mul(BLOCK);
-    two_with_block(two, reading, block_of(row, at), block_of(keys, at), at)
+}
+
+// The first object of a block that nobody owns, with a value below the limit.
+fn unowned_of_block<K: Number, R: Reading<K>>(
+    reading: &R,
+    costs: &[K],
+    keys: &[K],
+    owners: &[u32],
+    limit: K,
+) -> Option<usize> {
+    for (k, ((cost, key), owner)) in costs.iter().zip(keys).zip(owners).enumerate() {
+        if *owner == NOBODY && reading.value(*cost).plus(*key).is_below(limit) {
+            return Some(k);
+        }
+    }
+    None
+}
+
+// The first object of a row that nobody owns, with a value below the limit; nobody if there is none.
+pub fn unowned_below<K: Number, R: Reading<K>>(
+    reading: &R,
+    row: &[K],
+    keys: &[K],
+    owners: &[u32],
+    limit: K,
+) -> u32 {
+    let blocks = row.chunks(BLOCK).zip(keys.chunks(BLOCK));
+    let mut at = 0usize;
+    for ((costs, keys), owners) in blocks.zip(owners.chunks(BLOCK)) {
+        if is_any_below(reading, costs, keys, limit) {
+            if let Some(k) = unowned_of_block(reading, costs, keys, owners, limit) {
+                return place_at(at.wrapping_add(k));
+            }
+        }
+        at = at.wrapping_add(BLOCK);
+    }
+    NOBODY
 }

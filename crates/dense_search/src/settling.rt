@@ -1,4 +1,5 @@
 // Prices that somebody has: who keeps or takes a best object.
+use super::bids::give_unowned;
 use super::market::Market;
 use super::matrix::Matrix;
 use super::reading::Reading;
@@ -24,8 +25,8 @@ fn settle<R: Reading<i64>>(matrix: &Matrix<'_, i64, R>, market: &mut Market<'_, 
     }
     if market.owner(two.object) == NOBODY {
         market.give(two.object, person);
-    } else if two.gap() == 0 && market.owner(two.other) == NOBODY {
-        market.give(two.other, person);
+    } else if two.gap() == 0 {
+        give_unowned(matrix, market, person, two.best);
     }
 }
 

@@ -5,7 +5,7 @@ use super::cheapest::take_cheapest;
 use super::cores::{resume_cores, solve_by_cores};
 use super::market::Market;
 use super::matrix::{DenseProblem, Matrix};
-use super::middle::search_copy;
+use super::middle::search_market;
 use super::narrow::{are_narrow, narrow_costs, narrow_prices, widen};
 use super::paths::{Allowance, lower_unowned, serve_all, serve_by_rows};
 use super::prices::{begin, begin_at_zero, cut, magnify, reduce};
@@ -24,6 +24,9 @@ const STAGES: usize = 12;
 
 // Searches alone serve problems with fewer pairs.
 const SMALL: usize = 1 << 14;
+
+// Problems with no more pairs are searched where they are: a copy takes longer than it saves.
+const MOST_IN_PLACE: usize = 1 << 10;
 
 // Problems with more pairs aren't copied: a core is faster.
 const MOST_NARROW: usize = 1 << 21;
@@ -205,17 +208,37 @@ impl<'a> Work<'a> {
             return Ok(None);
         }
         self.may_copy = false;
-        let Some(costs) = narrow_costs(alloc, matrix)? else {
+        let before = self.record;
+        let Some(ended) = self.search_by_rows(alloc, matrix)? else {
             return Ok(None);
         };
-        let before = self.record;
-        match self.search_narrow(alloc, &matrix.over(costs.as_slice()))? {
+        match ended {
             Ended::Served => Ok(Some(self.lower(alloc, matrix)?)),
             Ended::Stopped => Ok(Some(Step::End(Outcome::Stopped))),
             Ended::Long | Ended::Blocked => {
                 self.record = before;
                 Ok(None)
             }
+        }
+    }
+
+    // Nothing if the costs don't fit a copy.
+    fn search_by_rows<R: Reading<i64>>(
+        &mut self,
+        alloc: Global,
+        matrix: &Matrix<'_, i64, R>,
+    ) -> Result<Option<Ended>, AllocError> {
+        if matrix.pairs() <= MOST_IN_PLACE {
+            let (record, looks) = (&mut self.record, &mut self.looks);
+            let ended = search_market(alloc, matrix, &mut self.market, record, looks)?;
+            return Ok(Some(ended));
+        }
+        match narrow_costs(alloc, matrix)? {
+            Some(costs) => {
+                let copy = matrix.over(costs.as_slice());
+                Ok(Some(self.search_narrow(alloc, &copy)?))
+            }
+            None => Ok(None),
         }
     }
 
@@ -227,8 +250,8 @@ impl<'a> Work<'a> {
         let mut prices = narrow_prices(alloc, self.market.prices)?;
         let (mut record, mut looks) = (self.record, self.looks);
         let objects = &mut *self.market.objects;
-        let slice = prices.as_mut_slice();
-        let ended = search_copy(alloc, matrix, slice, objects, &mut record, &mut looks)?;
+        let mut market = Market::new(alloc, prices.as_mut_slice(), objects)?;
+        let ended = search_market(alloc, matrix, &mut market, &mut record, &mut looks)?;
         self.record = record;
         self.looks = looks;
         widen(prices.as_slice(), self.market.prices);
