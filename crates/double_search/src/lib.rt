@@ -8,6 +8,7 @@ mod bids;
 mod block;
 mod dense;
 mod hall;
+mod lanes;
 mod lists;
 mod margin;
 mod narrow;
@@ -19,6 +20,9 @@ mod rows;
 mod scale;
 mod small;
 mod solver;
+mod square;
+mod square_plan;
+mod square_prices;
 mod start;
 mod whole;
 
