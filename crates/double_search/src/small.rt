@@ -42,7 +42,7 @@ struct Small<'a> {
 }
 
 // The greatest absolute value of a finite cost.
-pub fn size_of(costs: &[f64]) -> f64 {
+fn size_of(costs: &[f64]) -> f64 {
     let mut size = 0.0;
     for cost in costs {
         let one = cost.abs();

@@ -6,16 +6,15 @@ ghost use Rattle.std.specs.Prelude.{◌≡◌, ◌≤◌, length};
 use super::best::lowest;
 use super::hall::as_number;
 use super::lanes::{MOST, first_of, greater_of, lesser_of, put_first, row_of, zero_to};
-use super::range::{Range, greater};
-use super::small::{DEAR, size_of};
+use super::range::{Range, greatest_of};
+use super::small::DEAR;
 use super::solver::Problem;
 use std::simd::prelude::*;
 
 // No person, and no object.
 pub const NONE: usize = 64;
 
-// 2^-900 and 2^900: sizes between them, times and by what is used here, are no subnormal doubles and
-// not infinite.
+// 2^-900 and 2^900: between them no product here is infinite or below the normal doubles.
 const LEAST: f64 = 1.1830521861667747e-271;
 
 const GREATEST: f64 = 8.452712498170644e270;
@@ -60,8 +59,7 @@ impl Ends {
 
     // The greatest absolute value.
     fn size(self) -> f64 {
-        let each = greater_of(self.greatest, -self.least).to_array();
-        greater(greater(each[0], each[1]), greater(each[2], each[3]))
+        greatest_of(greater_of(self.greatest, -self.least))
     }
 }
 
@@ -84,6 +82,19 @@ fn read_row(row: &[f64], to: &mut [f64], sign: f64, ends: Ends) -> Ends {
         *to = turned;
     }
     ends
+}
+
+// The greatest absolute value of a finite number.
+fn finite_size(numbers: &[f64]) -> f64 {
+    let mut size = f64x4::splat(0.0);
+    let (parts, _) = numbers.as_chunks::<LANES>();
+    for part in parts {
+        let numbers = f64x4::from_array(*part);
+        let each = greater_of(numbers, -numbers);
+        let is_greater = each.simd_gt(size) & each.simd_lt(f64x4::splat(f64::INFINITY));
+        size = is_greater.select(each, size);
+    }
+    greatest_of(size)
 }
 
 // Costs above the greatest one become it.
@@ -118,7 +129,7 @@ impl<'a> Square<'a> {
         }
         let size = ends.size();
         if size == f64::INFINITY {
-            self.cap(size_of(costs));
+            self.cap(finite_size(self.rows));
         } else {
             self.size = size;
         }
