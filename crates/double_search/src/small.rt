@@ -140,7 +140,10 @@ impl<'a> Problem<'a> {
             return None;
         }
         match self.persons {
-            2 | 3 => self.solve_by_plans(objects, prices),
+            2 | 3 => match self.solve_by_plans(objects, prices) {
+                Some(margin) => Some(margin),
+                None => self.solve_four(objects, prices),
+            },
             4 => self.solve_four(objects, prices),
             5..=8 => self.solve_eight(objects, prices),
             9..=12 => self.solve_twelve(objects, prices),

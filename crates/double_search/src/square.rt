@@ -129,14 +129,16 @@ impl<'a> Square<'a> {
         }
         let size = ends.size();
         if size == f64::INFINITY {
-            self.cap(finite_size(self.rows));
+            self.cap();
         } else {
             self.size = size;
         }
     }
 
-    // Pairs that aren't allowed cost more than others, which are up to this size.
-    fn cap(&mut self, size: f64) {
+    // Pairs that aren't allowed cost more than others.
+    fn cap(&mut self) {
+        let rows = &*self.rows;
+        let size = finite_size(rows);
         let dear = size * DEAR;
         self.size = size;
         self.dear = dear;
@@ -250,7 +252,7 @@ fn solve_in<const W: usize>(
 }
 
 impl<'a> Problem<'a> {
-    // Writes a best plan of four persons and prices, where doubles are good enough for both.
+    // Writes a best plan of up to four persons and prices, where doubles are good enough for both.
     // Returns the margin.
     pub fn solve_four(self, objects: &mut [u32], prices: &mut [f64]) -> Option<f64>
         ensures objects { length objects.new ≡ length objects.old }
