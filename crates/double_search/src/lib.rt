@@ -1,6 +1,7 @@
 //! Plans and prices for costs that are doubles: an untrusted search over whole numbers of 64 bits,
 //! made of the doubles. Squares of many persons begin with what the search of dense problems finds in
-//! fewer bits. Sums wrap, and a checker decides about what it finds.
+//! fewer bits; squares of up to 12 are tried in doubles first. Sums wrap, and a checker decides about
+//! what it finds.
 #![tactic(auto)]
 
 mod best;
@@ -8,6 +9,7 @@ mod bids;
 mod block;
 mod dense;
 mod hall;
+mod lanes;
 mod lists;
 mod margin;
 mod narrow;
@@ -19,6 +21,9 @@ mod rows;
 mod scale;
 mod small;
 mod solver;
+mod square;
+mod square_plan;
+mod square_prices;
 mod start;
 mod whole;
 

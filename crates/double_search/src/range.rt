@@ -43,7 +43,7 @@ fn least_of(lanes: f64x4) -> f64 {
     lesser(lesser(each[0], each[1]), lesser(each[2], each[3]))
 }
 
-fn greatest_of(lanes: f64x4) -> f64 {
+pub fn greatest_of(lanes: f64x4) -> f64 {
     let each = lanes.to_array();
     greater(greater(each[0], each[1]), greater(each[2], each[3]))
 }

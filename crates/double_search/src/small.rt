@@ -24,7 +24,7 @@ const PART: f64 = 0.000000000000007105427357601002;
 
 // A dear pair costs so many times the greatest cost. With more, prices would be too great for a margin
 // to count.
-const DEAR: f64 = 2.0;
+pub const DEAR: f64 = 2.0;
 
 // A plan, the price of each person's object, and by how much other pairs are worse.
 #[derive(Clone, Copy)]
@@ -136,9 +136,26 @@ impl<'a> Problem<'a> {
         ensures objects { length objects.new ≡ length objects.old }
         ensures prices { length prices.new ≡ length prices.old }
     {
-        if self.persons != self.objects || (self.persons != 2 && self.persons != 3) {
+        if self.persons != self.objects {
             return None;
         }
+        match self.persons {
+            2 | 3 => match self.solve_by_plans(objects, prices) {
+                Some(margin) => Some(margin),
+                None => self.solve_four(objects, prices),
+            },
+            4 => self.solve_four(objects, prices),
+            5..=8 => self.solve_eight(objects, prices),
+            9..=12 => self.solve_twelve(objects, prices),
+            _ => None,
+        }
+    }
+
+    // The same for two or three persons.
+    fn solve_by_plans(self, objects: &mut [u32], prices: &mut [f64]) -> Option<f64>
+        ensures objects { length objects.new ≡ length objects.old }
+        ensures prices { length prices.new ≡ length prices.old }
+    {
         let size = size_of(self.costs);
         let small = Small {
             problem: self,
