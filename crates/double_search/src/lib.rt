@@ -6,8 +6,11 @@
 mod best;
 mod bids;
 mod block;
+mod cheap;
+mod cheap_paths;
 mod dense;
 mod hall;
+mod limits;
 mod lists;
 mod margin;
 mod narrow;

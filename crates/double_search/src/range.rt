@@ -1,4 +1,5 @@
 // The range of the costs, as a search minimises them.
+use super::reach::BLOCK;
 use assign_core::Sense;
 use std::simd::prelude::*;
 
@@ -72,6 +73,31 @@ fn range_of_row(row: &[f64], sign: f64) -> RowRange {
     }
 }
 
+impl RowRange {
+    fn joined(self, other: RowRange) -> RowRange {
+        RowRange {
+            least: lesser(self.least, other.least),
+            greatest: greater(self.greatest, other.greatest),
+            has_infinite: self.has_infinite || other.has_infinite,
+        }
+    }
+}
+
+// The same, with the least cost of each block.
+fn range_of_blocks(row: &[f64], sign: f64, least: &mut [f64]) -> RowRange {
+    let mut range = RowRange {
+        least: f64::INFINITY,
+        greatest: f64::NEG_INFINITY,
+        has_infinite: false,
+    };
+    for (block, least) in row.chunks(BLOCK).zip(least.iter_mut()) {
+        let of_block = range_of_row(block, sign);
+        *least = of_block.least;
+        range = range.joined(of_block);
+    }
+    range
+}
+
 // The greatest finite cost of each lane.
 fn greatest_of_lanes(lanes: &[[f64; LANES]], sign: f64) -> f64x4 {
     let mut greatest = f64x4::splat(f64::NEG_INFINITY);
@@ -104,8 +130,7 @@ pub fn lesser(one: f64, other: f64) -> f64 {
 }
 
 impl Range {
-    fn with(self, row: &[f64], sign: f64) -> Range {
-        let of_row = range_of_row(row, sign);
+    fn with(self, row: &[f64], of_row: RowRange, sign: f64) -> Range {
         if of_row.least == f64::INFINITY {
             return Range {
                 has_infinite: true,
@@ -125,16 +150,30 @@ impl Range {
         }
     }
 
-    // The range of rows of m costs each; `sign` is -1 where the greatest sum is wanted.
-    pub fn of(costs: &[f64], m: usize, sign: f64) -> Range {
-        let mut range = Range {
+    fn of_nothing() -> Range {
+        Range {
             least: f64::INFINITY,
             greatest: f64::NEG_INFINITY,
             reach: f64::NEG_INFINITY,
             has_infinite: false,
-        };
+        }
+    }
+
+    // The range of rows of m costs each; `sign` is -1 where the greatest sum is wanted.
+    pub fn of(costs: &[f64], m: usize, sign: f64) -> Range {
+        let mut range = Range::of_nothing();
         for row in costs.chunks(m.max(1)) {
-            range = range.with(row, sign);
+            range = range.with(row, range_of_row(row, sign), sign);
+        }
+        range
+    }
+
+    // The same, with the least cost of each block of each row.
+    pub fn with_least(costs: &[f64], m: usize, sign: f64, least: &mut [f64]) -> Range {
+        let mut range = Range::of_nothing();
+        let blocks = least.chunks_mut(m.div_ceil(BLOCK).max(1));
+        for (row, least) in costs.chunks(m.max(1)).zip(blocks) {
+            range = range.with(row, range_of_blocks(row, sign, least), sign);
         }
         range
     }
