@@ -1,11 +1,14 @@
 // The cheap pairs of each person: those that cost less than its rest. Each other pair costs at least
 // the rest, so few pairs are looked at where most are far, or objects are many.
 use super::best::{lowest, others};
-use super::reach::{BLOCK, LANES};
+use super::reach::LANES;
 use super::scale::Scale;
 use super::whole::whole_of;
 use std::alloc::{AllocError, Global};
 use std::simd::prelude::*;
+
+// A row is looked at in spans of so many objects.
+pub const SPAN: usize = 32;
 
 // An object with its cost.
 #[derive(Clone, Copy)]
@@ -45,9 +48,9 @@ fn bits_in_rest(costs: &[f64], sign: f64, limit: f64) -> u64 {
     bits
 }
 
-// Which costs of a block are below a limit, as bits, the first one's the lowest.
-fn bits_below(block: &[f64], sign: f64, limit: f64) -> u64 {
-    let (lanes, rest) = block.as_chunks::<LANES>();
+// Which costs of a span are below a limit, as bits, the first one's the lowest.
+fn bits_below(span: &[f64], sign: f64, limit: f64) -> u64 {
+    let (lanes, rest) = span.as_chunks::<LANES>();
     let (bits, count) = bits_in_lanes(lanes, sign, limit);
     if rest.is_empty() {
         return bits;
@@ -81,10 +84,10 @@ impl CheapPairs {
         self.rests.get(person).copied().unwrap_or(0)
     }
 
-    // Adds the pairs of a block that these bits stand for.
+    // Adds the pairs of a span that these bits stand for.
     fn add_some(
         &mut self,
-        block: &[f64],
+        span: &[f64],
         from: usize,
         bits: u64,
         scale: Scale,
@@ -92,7 +95,7 @@ impl CheapPairs {
         let mut left = bits;
         for _ in 0..bits.count_ones() {
             let k = lowest(left);
-            let cost = whole_of(block.get(k).copied().unwrap_or(0.0), scale);
+            let cost = whole_of(span.get(k).copied().unwrap_or(0.0), scale);
             let object = from.wrapping_add(k);
             self.pairs.push(CheapPair { object, cost })?;
             left = others(left);
@@ -100,8 +103,8 @@ impl CheapPairs {
         Ok(())
     }
 
-    // Adds the pairs of the next person below its rest. Where the least costs of its blocks are
-    // known it looks at no other blocks than it has to.
+    // Adds the pairs of the next person below its rest. Where the least costs of its spans are
+    // known it looks at no other spans than it has to.
     pub fn add_row(
         &mut self,
         row: &[f64],
@@ -113,12 +116,12 @@ impl CheapPairs {
         let sign = if scale.factor < 0.0 { -1.0 } else { 1.0 };
         self.rests.push(whole_of(rest * sign, scale))?;
         let mut from = 0usize;
-        for (k, block) in row.chunks(BLOCK).enumerate() {
+        for (k, span) in row.chunks(SPAN).enumerate() {
             if least.get(k).copied().unwrap_or(f64::NEG_INFINITY) < rest {
-                let bits = bits_below(block, sign, rest);
-                self.add_some(block, from, bits, scale)?;
+                let bits = bits_below(span, sign, rest);
+                self.add_some(span, from, bits, scale)?;
             }
-            from = from.wrapping_add(BLOCK);
+            from = from.wrapping_add(SPAN);
         }
         Ok(())
     }

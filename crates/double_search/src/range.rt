@@ -1,5 +1,5 @@
 // The range of the costs, as a search minimises them.
-use super::reach::BLOCK;
+use super::cheap::SPAN;
 use assign_core::Sense;
 use std::simd::prelude::*;
 
@@ -83,17 +83,17 @@ impl RowRange {
     }
 }
 
-// The same, with the least cost of each block.
-fn range_of_blocks(row: &[f64], sign: f64, least: &mut [f64]) -> RowRange {
+// The same, with the least cost of each span.
+fn range_of_spans(row: &[f64], sign: f64, least: &mut [f64]) -> RowRange {
     let mut range = RowRange {
         least: f64::INFINITY,
         greatest: f64::NEG_INFINITY,
         has_infinite: false,
     };
-    for (block, least) in row.chunks(BLOCK).zip(least.iter_mut()) {
-        let of_block = range_of_row(block, sign);
-        *least = of_block.least;
-        range = range.joined(of_block);
+    for (span, least) in row.chunks(SPAN).zip(least.iter_mut()) {
+        let of_span = range_of_row(span, sign);
+        *least = of_span.least;
+        range = range.joined(of_span);
     }
     range
 }
@@ -168,12 +168,12 @@ impl Range {
         range
     }
 
-    // The same, with the least cost of each block of each row.
+    // The same, with the least cost of each span of each row.
     pub fn with_least(costs: &[f64], m: usize, sign: f64, least: &mut [f64]) -> Range {
         let mut range = Range::of_nothing();
-        let blocks = least.chunks_mut(m.div_ceil(BLOCK).max(1));
-        for (row, least) in costs.chunks(m.max(1)).zip(blocks) {
-            range = range.with(row, range_of_blocks(row, sign, least), sign);
+        let parts = least.chunks_mut(m.div_ceil(SPAN).max(1));
+        for (row, least) in costs.chunks(m.max(1)).zip(parts) {
+            range = range.with(row, range_of_spans(row, sign, least), sign);
         }
         range
     }
