@@ -1,5 +1,5 @@
-// The cheap pairs of each person: those that cost less than its rest. Each other pair costs at least
-// the rest, so few pairs are looked at where most are far, or objects are many.
+// The cheap pairs of each person: those that cost less than its rest. Each other pair costs at
+// least the rest, so few pairs are looked at where most are far, or objects are many.
 use super::best::{lowest, others};
 use super::reach::LANES;
 use super::scale::Scale;

@@ -1,10 +1,10 @@
-// Bids and shortest paths (as in `bids` and `paths`) over cheap pairs. No dual is above 0, the dual of
-// each unowned object. So of a person's other pairs only those with unowned objects count: a path
-// that goes on by way of another one costs as much without it.
+// Bids and shortest paths (as in `bids` and `paths`) over cheap pairs. No dual is above 0, the dual
+// of each unowned object. So of a person's other pairs only those with unowned objects count: a
+// path that goes on from another object ends at least as near at an unowned one.
 use super::cheap::{CheapPair, CheapPairs};
-use super::lists::{Lists, NOBODY, at, copy, fill, number_of, place_of, put};
+use super::lists::{Lists, NOBODY, at, fill, number_of, place_of, put};
 use super::reach::{BLOCK, least_of_block};
-use super::rows::CheapRows;
+use super::rows::Doubles;
 use super::whole::FAR;
 
 // The best cheap pair of a person, with its value, and the second best value of all pairs.
@@ -81,7 +81,7 @@ impl<'a> Lists<'a> {
         owner
     }
 
-    // At most `most` bids of a person and of those who lose their objects in turn. Returns how many.
+    // At most `most` bids of a person and of those who lose their objects. Returns how many.
     fn bid_on_cheaply(&mut self, cheap: &CheapPairs, first: usize, most: usize) -> usize {
         let mut person = first;
         for made in 0..most {
@@ -118,6 +118,10 @@ impl<'a> Lists<'a> {
                 put(self.blocks, block, least);
             }
         }
+    }
+
+    fn least_distance(&self) -> i64 {
+        self.blocks.iter().copied().min().unwrap_or(FAR)
     }
 
     // Passes an object at this distance, and hides it.
@@ -163,20 +167,33 @@ impl<'a> Lists<'a> {
 
     // The same at any unowned object that no cheap pair led to, if the pair costs no more than the
     // rest.
-    fn end_at_rest(&mut self, rows: &mut CheapRows<'_>, turn: usize, rest: Rest) -> bool {
+    fn end_at_rest(
+        &mut self,
+        cheap: &CheapPairs,
+        doubles: &Doubles<'_>,
+        turns: &mut [i64],
+        turn: usize,
+        rest: Rest,
+    ) -> bool {
         let Some(object) = self.owners.iter().position(|owner| *owner == NOBODY) else {
             return false;
         };
         let person = place_of(at(self.scanned, rest.turn));
-        if rest.level >= FAR || rows.doubles.cost(person, object) > rows.cheap.rest(person) {
+        if rest.level >= FAR || doubles.cost(person, object) > cheap.rest(person) {
             return false;
         }
-        put(rows.turns, object, number_of(rest.turn));
-        self.end_at(rows.turns, turn, object, rest.level)
+        put(turns, object, number_of(rest.turn));
+        self.end_at(turns, turn, object, rest.level)
     }
 
     // Gives a person an object by a shortest path. Returns whether it has one.
-    fn augment_cheaply(&mut self, rows: &mut CheapRows<'_>, first: usize) -> bool {
+    fn augment_cheaply(
+        &mut self,
+        cheap: &CheapPairs,
+        doubles: &Doubles<'_>,
+        turns: &mut [i64],
+        first: usize,
+    ) -> bool {
         fill(self.distances, FAR);
         fill(self.blocks, FAR);
         let mut rest = Rest {
@@ -187,44 +204,56 @@ impl<'a> Lists<'a> {
         let mut base = 0i64;
         for turn in 0..self.objects.len() {
             put(self.scanned, turn, number_of(person));
-            rest = rest.with(rows.cheap.rest(person).wrapping_sub(base), turn);
-            let pairs = rows.cheap.of(person);
-            self.reach(pairs, rows.turns, turn, base, rest.level);
-            let level = self.blocks.iter().copied().min().unwrap_or(FAR);
+            rest = rest.with(cheap.rest(person).wrapping_sub(base), turn);
+            self.reach(cheap.of(person), turns, turn, base, rest.level);
+            let level = self.least_distance();
             if level >= rest.level {
-                return self.end_at_rest(rows, turn, rest);
+                return self.end_at_rest(cheap, doubles, turns, turn, rest);
             }
             let object = place_of(self.nearest_at(level));
             let owner = at(self.owners, object);
             if owner == NOBODY {
-                return self.end_at(rows.turns, turn, object, level);
+                return self.end_at(turns, turn, object, level);
             }
             self.pass_in_block(turn, object, level);
             person = place_of(owner);
-            let own = rows.doubles.cost(person, object);
-            base = own.wrapping_sub(at(self.duals, object)).wrapping_sub(level);
+            let own = doubles.cost(person, object);
+            base = own
+                .wrapping_sub(at(self.duals, object))
+                .wrapping_sub(level);
         }
         false
     }
 
     // Gives each person without an object one.
-    fn augment_all_cheaply(&mut self, rows: &mut CheapRows<'_>) -> bool {
-        let duals = &*self.duals;
-        let keys = &mut *self.keys;
-        copy(duals, keys);
+    fn augment_all_cheaply(
+        &mut self,
+        cheap: &CheapPairs,
+        doubles: &Doubles<'_>,
+        turns: &mut [i64],
+    ) -> bool {
         for person in 0..self.objects.len() {
-            if at(self.objects, person) == NOBODY && !self.augment_cheaply(rows, person) {
+            if at(self.objects, person) == NOBODY
+                && !self.augment_cheaply(cheap, doubles, turns, person)
+            {
                 return false;
             }
         }
         true
     }
 
-    // A search from nothing. Returns whether each person has an object.
-    pub fn search_cheaply(&mut self, rows: &mut CheapRows<'_>) -> bool {
+    // A search from nothing, with room for the turns in which objects are reached. Returns whether
+    // each person has an object.
+    pub fn search_cheaply(
+        &mut self,
+        cheap: &CheapPairs,
+        doubles: &Doubles<'_>,
+        turns: &mut [i64],
+    ) -> bool {
         self.release_all();
         fill(self.duals, 0);
-        self.bid_all_cheaply(rows.cheap);
-        self.augment_all_cheaply(rows)
+        self.bid_all_cheaply(cheap);
+        self.begin_keys_exactly();
+        self.augment_all_cheaply(cheap, doubles, turns)
     }
 }

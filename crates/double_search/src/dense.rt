@@ -26,7 +26,7 @@ impl<'a> Problem<'a> {
     }
 
     // Whether more than an eighth of the first costs are the same as the next one.
-    pub fn has_many_equal(self) -> bool {
+    fn has_many_equal(self) -> bool {
         let (costs, _) = self.costs.split_at(LOOKED_AT.min(self.costs.len()));
         let mut count = 0usize;
         for (one, next) in costs.iter().zip(costs.iter().skip(1)) {

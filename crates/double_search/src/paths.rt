@@ -35,7 +35,7 @@ impl<'a> Lists<'a> {
         }
     }
 
-    fn begin_keys_exactly(&mut self) {
+    pub fn begin_keys_exactly(&mut self) {
         let duals = &mut *self.duals;
         let keys = &mut *self.keys;
         copy(duals, keys);

@@ -19,12 +19,11 @@ pub struct Doubles<'a> {
     pub scale: Scale,
 }
 
-// Cheap pairs, with all pairs in doubles, and room for the turns in which a search reaches objects.
+// Cheap pairs, with all pairs in doubles.
 #[derive(Drop)]
 pub struct CheapRows<'a> {
     pub cheap: &'a CheapPairs,
     pub doubles: Doubles<'a>,
-    pub turns: &'a mut [i64],
 }
 
 impl<'a> Doubles<'a> {

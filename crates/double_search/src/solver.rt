@@ -243,8 +243,8 @@ fn search_few_in(
     }
 }
 
-// A search from nothing in this unit over cheap pairs, where few pairs are cheap. None where there is
-// more to do.
+// A search from nothing in this unit over cheap pairs, where few pairs are cheap. None where there
+// is more to do.
 fn search_cheap_in(
     alloc: Global,
     problem: Problem<'_>,
@@ -266,15 +266,15 @@ fn search_cheap_in(
     let (turns, block) = cut(block, m);
     let mut lists = lists_in(n, m, block);
     let costs = problem.costs;
-    let mut rows = CheapRows {
-        cheap: &cheap,
-        doubles: Doubles { costs, row, scale },
-        turns,
-    };
-    if !lists.search_cheaply(&mut rows) {
+    let doubles = Doubles { costs, row, scale };
+    if !lists.search_cheaply(&cheap, &doubles, turns) {
         return Ok(None);
     }
-    let _ = lists.spread(&mut Rows::Cheap(rows), scale, 0);
+    let mut rows = Rows::Cheap(CheapRows {
+        cheap: &cheap,
+        doubles,
+    });
+    let _ = lists.spread(&mut rows, scale, 0);
     Ok(Some(ended_by(alloc, problem, scale, &lists, Path::Found, objects, prices)?))
 }
 
