@@ -106,10 +106,20 @@ impl<'a> Lists<'a> {
     }
 
     // Lowers the distances of a person's cheap objects, where that takes them below a limit.
-    fn reach(&mut self, pairs: &[CheapPair], turns: &mut [i64], turn: usize, base: i64, limit: i64) {
+    fn reach(
+        &mut self,
+        pairs: &[CheapPair],
+        turns: &mut [i64],
+        turn: usize,
+        base: i64,
+        limit: i64,
+    ) {
         for pair in pairs {
             let object = pair.object;
-            let distance = pair.cost.wrapping_sub(at(self.keys, object)).wrapping_sub(base);
+            let distance = pair
+                .cost
+                .wrapping_sub(at(self.keys, object))
+                .wrapping_sub(base);
             if distance < limit && distance < at(self.distances, object) {
                 put(self.distances, object, distance);
                 put(turns, object, number_of(turn));
@@ -218,9 +228,7 @@ impl<'a> Lists<'a> {
             self.pass_in_block(turn, object, level);
             person = place_of(owner);
             let own = doubles.cost(person, object);
-            base = own
-                .wrapping_sub(at(self.duals, object))
-                .wrapping_sub(level);
+            base = own.wrapping_sub(at(self.duals, object)).wrapping_sub(level);
         }
         false
     }
