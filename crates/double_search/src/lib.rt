@@ -7,9 +7,12 @@
 mod best;
 mod bids;
 mod block;
+mod cheap;
+mod cheap_paths;
 mod dense;
 mod hall;
 mod lanes;
+mod limits;
 mod lists;
 mod margin;
 mod narrow;

@@ -1,9 +1,10 @@
 // The near pairs at a plan: those of a person and an object that is worse than its own by less than
 // so much.
 use super::best::{bits_below, block_of, lowest, others};
+use super::cheap::CheapPair;
 use super::lists::{Lists, NOBODY, at, number_of, place_of, put};
 use super::reach::BLOCK;
-use super::rows::Rows;
+use super::rows::{CheapRows, Rows};
 use super::whole::FAR;
 
 // Which pairs are near, and by how much they are to be worse.
@@ -122,6 +123,63 @@ impl<'a> Lists<'a> {
         kept.count
     }
 
+    // Keeps the near pairs among a person's cheap ones.
+    fn gather_cheap(
+        &mut self,
+        pairs: &[CheapPair],
+        person: usize,
+        own: Own,
+        nearness: Nearness,
+        count: usize,
+    ) -> usize {
+        let mut kept = Kept { count, cap: FAR };
+        let limit = own.value.wrapping_add(nearness.most);
+        for pair in pairs {
+            let value = pair.cost.wrapping_sub(at(self.keys, pair.object));
+            if value < limit && pair.object != own.object && pair.cost < nearness.far {
+                kept = self.keep(pair.cost, pair.object, own, nearness, kept);
+            }
+        }
+        put(self.caps, person, kept.cap);
+        kept.count
+    }
+
+    // The same, or among all pairs of the person where others may be near too. No key is above 0.
+    fn gather_by_rest(
+        &mut self,
+        rows: &mut CheapRows<'_>,
+        person: usize,
+        nearness: Nearness,
+        count: usize,
+    ) -> usize {
+        let object = place_of(at(self.objects, person));
+        let cost = rows.doubles.cost(person, object);
+        let value = cost.wrapping_sub(at(self.keys, object));
+        let own = Own {
+            object,
+            cost,
+            value,
+        };
+        let rest = rows.cheap.rest(person);
+        if rest < nearness.far && rest < value.wrapping_add(nearness.most) {
+            return self.gather_of(rows.doubles.row_of(person), person, nearness, count);
+        }
+        self.gather_cheap(rows.cheap.of(person), person, own, nearness, count)
+    }
+
+    fn gather_from(
+        &mut self,
+        rows: &mut Rows<'_>,
+        person: usize,
+        nearness: Nearness,
+        count: usize,
+    ) -> usize {
+        match rows {
+            Rows::Cheap(rows) => self.gather_by_rest(rows, person, nearness, count),
+            _ => self.gather_of(rows.row(person), person, nearness, count),
+        }
+    }
+
     // Lists the near pairs at the duals in the keys. Returns whether there is room for them.
     pub fn gather_near(&mut self, rows: &mut Rows<'_>, nearness: Nearness) -> bool {
         let persons = self.objects.len();
@@ -129,7 +187,7 @@ impl<'a> Lists<'a> {
         let mut count = 0usize;
         for person in 0..persons {
             put(self.starts, person, number_of(count));
-            count = self.gather_of(rows.row(person), person, nearness, count);
+            count = self.gather_from(rows, person, nearness, count);
             if count > room {
                 return false;
             }

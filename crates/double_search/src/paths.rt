@@ -35,13 +35,13 @@ impl<'a> Lists<'a> {
         }
     }
 
-    fn begin_keys_exactly(&mut self) {
+    pub fn begin_keys_exactly(&mut self) {
         let duals = &mut *self.duals;
         let keys = &mut *self.keys;
         copy(duals, keys);
     }
 
-    fn nearest_at(&self, level: i64) -> i64 {
+    pub fn nearest_at(&self, level: i64) -> i64 {
         let distances = &*self.distances;
         let owners = &*self.owners;
         let blocks = &*self.blocks;
@@ -49,7 +49,7 @@ impl<'a> Lists<'a> {
     }
 
     // Passes an object at this distance, and hides it.
-    fn pass(&mut self, turn: usize, object: usize, level: i64) {
+    pub fn pass(&mut self, turn: usize, object: usize, level: i64) {
         put(self.passed, turn, number_of(object));
         put(self.levels, turn, level);
         put(self.keys, object, PASSED);
@@ -92,7 +92,7 @@ impl<'a> Lists<'a> {
     }
 
     // Lowers the duals of the passed objects.
-    fn lower_passed(&mut self, count: usize, level: i64) {
+    pub fn lower_passed(&mut self, count: usize, level: i64) {
         for turn in 0..count {
             let object = place_of(at(self.passed, turn));
             let less = level.wrapping_sub(at(self.levels, turn));

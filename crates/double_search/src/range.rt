@@ -1,4 +1,5 @@
 // The range of the costs, as a search minimises them.
+use super::cheap::SPAN;
 use assign_core::Sense;
 use std::simd::prelude::*;
 
@@ -72,6 +73,31 @@ fn range_of_row(row: &[f64], sign: f64) -> RowRange {
     }
 }
 
+impl RowRange {
+    fn joined(self, other: RowRange) -> RowRange {
+        RowRange {
+            least: lesser(self.least, other.least),
+            greatest: greater(self.greatest, other.greatest),
+            has_infinite: self.has_infinite || other.has_infinite,
+        }
+    }
+}
+
+// The same, with the least cost of each span.
+fn range_of_spans(row: &[f64], sign: f64, least: &mut [f64]) -> RowRange {
+    let mut range = RowRange {
+        least: f64::INFINITY,
+        greatest: f64::NEG_INFINITY,
+        has_infinite: false,
+    };
+    for (span, least) in row.chunks(SPAN).zip(least.iter_mut()) {
+        let of_span = range_of_row(span, sign);
+        *least = of_span.least;
+        range = range.joined(of_span);
+    }
+    range
+}
+
 // The greatest finite cost of each lane.
 fn greatest_of_lanes(lanes: &[[f64; LANES]], sign: f64) -> f64x4 {
     let mut greatest = f64x4::splat(f64::NEG_INFINITY);
@@ -104,8 +130,7 @@ pub fn lesser(one: f64, other: f64) -> f64 {
 }
 
 impl Range {
-    fn with(self, row: &[f64], sign: f64) -> Range {
-        let of_row = range_of_row(row, sign);
+    fn with(self, row: &[f64], of_row: RowRange, sign: f64) -> Range {
         if of_row.least == f64::INFINITY {
             return Range {
                 has_infinite: true,
@@ -125,16 +150,30 @@ impl Range {
         }
     }
 
-    // The range of rows of m costs each; `sign` is -1 where the greatest sum is wanted.
-    pub fn of(costs: &[f64], m: usize, sign: f64) -> Range {
-        let mut range = Range {
+    fn of_nothing() -> Range {
+        Range {
             least: f64::INFINITY,
             greatest: f64::NEG_INFINITY,
             reach: f64::NEG_INFINITY,
             has_infinite: false,
-        };
+        }
+    }
+
+    // The range of rows of m costs each; `sign` is -1 where the greatest sum is wanted.
+    pub fn of(costs: &[f64], m: usize, sign: f64) -> Range {
+        let mut range = Range::of_nothing();
         for row in costs.chunks(m.max(1)) {
-            range = range.with(row, sign);
+            range = range.with(row, range_of_row(row, sign), sign);
+        }
+        range
+    }
+
+    // The same, with the least cost of each span of each row.
+    pub fn with_least(costs: &[f64], m: usize, sign: f64, least: &mut [f64]) -> Range {
+        let mut range = Range::of_nothing();
+        let parts = least.chunks_mut(m.div_ceil(SPAN).max(1));
+        for (row, least) in costs.chunks(m.max(1)).zip(parts) {
+            range = range.with(row, range_of_spans(row, sign, least), sign);
         }
         range
     }

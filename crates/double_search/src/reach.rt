@@ -1,5 +1,6 @@
 // Scans of rows for shortest paths, block by block, of some objects at once. The value of an object
 // is its cost less its key: its dual, or what hides it.
+use super::best::block_of;
 use super::lists::{NOBODY, number_of};
 use super::whole::FAR;
 use std::simd::prelude::*;
@@ -16,6 +17,28 @@ fn least_of(lanes: i64x8) -> i64 {
         least = least.min(each);
     }
     least
+}
+
+fn least_in_rest(distances: &[i64]) -> i64 {
+    let mut least = FAR;
+    for distance in distances {
+        least = least.min(*distance);
+    }
+    least
+}
+
+fn least_in_lanes(distances: &[[i64; LANES]]) -> i64 {
+    let mut least = i64x8::splat(FAR);
+    for lanes in distances {
+        least = least.simd_min(i64x8::from_array(*lanes));
+    }
+    least_of(least)
+}
+
+// The least distance of a block.
+pub fn least_of_block(distances: &[i64], block: usize) -> i64 {
+    let (lanes, rest) = block_of(distances, block.wrapping_mul(BLOCK)).as_chunks::<LANES>();
+    least_in_lanes(lanes).min(least_in_rest(rest))
 }
 
 // The distances of objects from the first person; the least of them.

@@ -1,4 +1,5 @@
 // The costs of a person as whole numbers: those in a list, or new ones of its doubles.
+use super::cheap::CheapPairs;
 use super::lists::Matrix;
 use super::scale::Scale;
 use super::whole::{to_whole, whole_of};
@@ -7,6 +8,7 @@ use super::whole::{to_whole, whole_of};
 pub enum Rows<'a> {
     Listed(Matrix<'a>),
     Made(Doubles<'a>),
+    Cheap(CheapRows<'a>),
 }
 
 // Costs in doubles, and room for those of a person.
@@ -17,8 +19,15 @@ pub struct Doubles<'a> {
     pub scale: Scale,
 }
 
+// Cheap pairs, with all pairs in doubles.
+#[derive(Drop)]
+pub struct CheapRows<'a> {
+    pub cheap: &'a CheapPairs,
+    pub doubles: Doubles<'a>,
+}
+
 impl<'a> Doubles<'a> {
-    fn row_of(&mut self, person: usize) -> &[i64] {
+    pub fn row_of(&mut self, person: usize) -> &[i64] {
         let m = self.row.len();
         let from = person.wrapping_mul(m);
         let costs = self.costs.get(from..from.wrapping_add(m)).unwrap_or(&[]);
@@ -26,7 +35,7 @@ impl<'a> Doubles<'a> {
         self.row
     }
 
-    fn cost(&self, person: usize, object: usize) -> i64 {
+    pub fn cost(&self, person: usize, object: usize) -> i64 {
         let pair = person.wrapping_mul(self.row.len()).wrapping_add(object);
         whole_of(self.costs.get(pair).copied().unwrap_or(0.0), self.scale)
     }
@@ -37,6 +46,7 @@ impl<'a> Rows<'a> {
         match self {
             Rows::Listed(matrix) => matrix.row(person),
             Rows::Made(doubles) => doubles.row_of(person),
+            Rows::Cheap(rows) => rows.doubles.row_of(person),
         }
     }
 
@@ -44,6 +54,7 @@ impl<'a> Rows<'a> {
         match self {
             Rows::Listed(matrix) => matrix.cost(person, object),
             Rows::Made(doubles) => doubles.cost(person, object),
+            Rows::Cheap(rows) => rows.doubles.cost(person, object),
         }
     }
 }

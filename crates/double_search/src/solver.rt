@@ -4,10 +4,11 @@ ghost use Rattle.std.specs.Prelude.{◌≡◌, length};
 use super::block::{cut, lists_in, room_of};
 use super::dense::Dense;
 use super::hall::{HallSet, all_persons, as_number, hall_set_of};
+use super::limits::Limits;
 use super::lists::{Lists, Matrix, at, place_of};
 use super::paths::Path;
 use super::range::{Range, sign_of};
-use super::rows::{Doubles, Rows};
+use super::rows::{CheapRows, Doubles, Rows};
 use super::scale::Scale;
 use super::whole::{to_duals, to_prices, to_whole, whole_of};
 use assign_core::Sense;
@@ -242,7 +243,42 @@ fn search_few_in(
     }
 }
 
-// A search in this unit.
+// A search from nothing in this unit over cheap pairs, where few pairs are cheap. None where there
+// is more to do.
+fn search_cheap_in(
+    alloc: Global,
+    problem: Problem<'_>,
+    limits: &Limits,
+    scale: Scale,
+    objects: &mut [u32],
+    prices: &mut [f64],
+) -> Result<Option<Tried>, AllocError>
+    ensures objects { length objects.new ≡ length objects.old }
+    ensures prices { length prices.new ≡ length prices.old }
+{
+    let Some(cheap) = limits.cheap_pairs(alloc, problem, scale)? else {
+        return Ok(None);
+    };
+    let (n, m) = (problem.persons, problem.objects);
+    let room = m.saturating_mul(2).saturating_add(room_of(n, m));
+    let mut memory = vec![in alloc; 0i64; room]?;
+    let (row, block) = cut(memory.as_mut_slice(), m);
+    let (turns, block) = cut(block, m);
+    let mut lists = lists_in(n, m, block);
+    let costs = problem.costs;
+    let doubles = Doubles { costs, row, scale };
+    if !lists.search_cheaply(&cheap, &doubles, turns) {
+        return Ok(None);
+    }
+    let mut rows = Rows::Cheap(CheapRows {
+        cheap: &cheap,
+        doubles,
+    });
+    let _ = lists.spread(&mut rows, scale, 0);
+    Ok(Some(ended_by(alloc, problem, scale, &lists, Path::Found, objects, prices)?))
+}
+
+// A search in this unit over all pairs.
 fn search_in(
     alloc: Global,
     problem: Problem<'_>,
@@ -254,11 +290,6 @@ fn search_in(
     ensures objects { length objects.new ≡ length objects.old }
     ensures prices { length prices.new ≡ length prices.old }
 {
-    if let Begin::Plan = begin {
-        if let Some(tried) = search_few_in(alloc, problem, scale, objects, prices)? {
-            return Ok(tried);
-        }
-    }
     let (n, m) = (problem.persons, problem.objects);
     let pairs = problem.costs.len();
     let mut memory = vec![in alloc; 0i64; pairs.saturating_add(room_of(n, m))]?;
@@ -286,6 +317,30 @@ fn search_in(
         Dense::Nothing => search_whole(problem, &mut lists, room, scale, begin, objects, prices),
     };
     ended_by(alloc, problem, scale, &lists, path, objects, prices)
+}
+
+// A search in this unit: over few pairs where that is enough.
+fn search_first_in(
+    alloc: Global,
+    problem: Problem<'_>,
+    limits: &Limits,
+    scale: Scale,
+    begin: Begin,
+    objects: &mut [u32],
+    prices: &mut [f64],
+) -> Result<Tried, AllocError>
+    ensures objects { length objects.new ≡ length objects.old }
+    ensures prices { length prices.new ≡ length prices.old }
+{
+    let tried = match begin {
+        Begin::Plan => search_few_in(alloc, problem, scale, objects, prices)?,
+        Begin::Nothing => search_cheap_in(alloc, problem, limits, scale, objects, prices)?,
+        Begin::Near => None,
+    };
+    match tried {
+        Some(tried) => Ok(tried),
+        None => search_in(alloc, problem, scale, begin, objects, prices),
+    }
 }
 
 // The margin of a plan of a small problem, where a search begins with nothing.
@@ -321,15 +376,16 @@ fn search_all(
     if let Some(margin) = solve_small(problem, begin, objects, prices) {
         return Ok(Ended::Plan(margin));
     }
-    let range = Range::of(problem.costs, m, problem.sign());
+    let limits = Limits::of(alloc, problem)?;
+    let range = limits.range;
     let scale = problem.scale(range);
-    match search_in(alloc, problem, scale, begin, objects, prices)? {
+    match search_first_in(alloc, problem, &limits, scale, begin, objects, prices)? {
         Tried::Plan => Ok(Ended::Plan(range.margin())),
         Tried::Hall(set) => Ok(Ended::Hall(set)),
         Tried::Lost => Ok(Ended::Lost),
         Tried::Cut => {
             let scale = problem.full_scale(range);
-            match search_in(alloc, problem, scale, begin, objects, prices)? {
+            match search_first_in(alloc, problem, &limits, scale, begin, objects, prices)? {
                 Tried::Plan => Ok(Ended::Plan(range.margin())),
                 Tried::Hall(set) => Ok(Ended::Hall(set)),
                 Tried::Lost | Tried::Cut => Ok(Ended::Lost),
