@@ -97,7 +97,7 @@ fn try_anew(
 /// passes over all pairs, and then stops after about `budget` looks at pairs (0: it doesn't).
 ///
 /// A record whose stage is 0 begins: from the prices and the objects of the standing, or with nothing
-/// if all of them are 0. Objects that aren't from 1 to `m`, or are given twice, count as nobody's.
+/// if all prices are 0. Objects that aren't from 1 to `m`, or are given twice, count as nobody's.
 /// Prices may be left out if far more objects are dear than there are persons. Any other stage goes on
 /// from the prices, the objects and the record, as a `Stopped` call left them. Whatever they hold, the
 /// answer is as good: `Best` and `Hall` are what the checker accepts. Where a search from there finds
