@@ -60,41 +60,9 @@
    WARM STARTS
 
    The `_from` calls take first prices, m of them or none (first_count 0), and read objects as an earlier plan. Numbers
-   that aren't from 1 to m, or stand there twice, count as nobody's. Without first prices, or where all of them are 0,
-   they begin as the plain calls do. Prices of a similar problem save time, and more so with its plan; whatever they are,
-   the answer is optimal.
-
-   IN PIECES).
-
-   WHAT STANDS WHERE AFTER A CALL
-
-   The code says what was written. All else is as it was before: the lists and fields that aren't named here, and what
-   follows the written part of a list.
-
-   code                  written
-   NUSHBARET_BEST        solving: objects (of person 1, 2, .., n), prices (of object 1, 2, .., m) and info->total;
-                         nushbaret_check: nothing
-   NUSHBARET_HALL        solving: info->persons and info->objects say how many numbers stand at the beginning of persons
-                         and of objects, rising; nushbaret_check_hall: nothing
-   NUSHBARET_STOPPED     objects (0: the person has none yet), prices and record
-   NUSHBARET_PERSON, NUSHBARET_OBJECT, NUSHBARET_COST, NUSHBARET_PRICE                  info->place
-   NUSHBARET_UNLISTED                                                                   info->person
-   NUSHBARET_TWICE, NUSHBARET_PRICE_RANGE, NUSHBARET_OVERPRICED, NUSHBARET_HALL_EXTRA   info->object
-   NUSHBARET_SLACK, NUSHBARET_HALL_MISSING                                              info->person and info->object
-   any other             nothing
-
-   Of several faults a call returns the first in this order: the codes from NUSHBARET_SENSE to NUSHBARET_PRICE as they
-   are numbered; then, in nushbaret_check, those from NUSHBARET_ANSWER_LENGTH to NUSHBARET_SLACK and
-   NUSHBARET_OVERPRICED, and in nushbaret_check_hall those from NUSHBARET_HALL_RANGE to NUSHBARET_HALL_COUNT.
-   info->place is the first place with this fault. NUSHBARET_MEMORY comes only where nothing is wrong with the problem or
-   with a length: memory was refused that the call can't do without. The checking calls ask for it before they judge the
-   numbers of an answer.
-
-   WARM STARTS
-
-   The `_from` calls take first prices, m of them or none (first_count 0), and read objects as an earlier plan. Numbers
-   that aren't from 1 to m, or stand there twice, count as nobody's. Without first prices and with all objects 0 they
-   begin as the plain calls do. Prices and plans of similar problems save time; whatever they are, the answer is optimal.
+   that aren't from 1 to m, or stand there twice, count as nobody's. Without first prices, or where all
+   of them are 0, they begin as the plain calls do. Prices of a similar problem save time, and more so with its plan.
+   Whatever they are, the answer is optimal.
 
    IN PIECES
 
