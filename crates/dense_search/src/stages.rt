@@ -183,7 +183,8 @@ impl<'a> Work<'a> {
         Step::To(Stage::Paths)
     }
 
-    // Bids and searches over a copy of the costs, if there may be one and all sums fit it.
+    // Bids and searches over a copy of the costs, if there may be one and all sums fit it. A small
+    // problem needs no copy.
     fn search_copied<R: Reading<i64>>(
         &mut self,
         alloc: Global,
@@ -207,7 +208,7 @@ impl<'a> Work<'a> {
         }
     }
 
-    // Nothing if the costs don't fit a copy.
+    // Searches over the costs of a small problem, and else over a copy. Nothing if they don't fit it.
     fn search_by_rows<R: Reading<i64>>(
         &mut self,
         alloc: Global,
