@@ -9,6 +9,18 @@ use super::reading::Reading;
 use super::rows::{two_best, unowned_below};
 use sparse_search::{NOBODY, place_at};
 
+// An object that nobody owns and that is as good as a person's best one; nobody if there is none.
+fn unowned_best<K: Number, R: Reading<K>>(
+    matrix: &Matrix<'_, K, R>,
+    market: &Market<'_, K>,
+    person: u32,
+    best: K,
+) -> u32 {
+    let limit = best.plus(K::from_wide(1));
+    let (row, owners) = (matrix.row(person), market.owners.as_slice());
+    unowned_below(&matrix.reading, row, market.prices, owners, limit)
+}
+
 // Gives a person an object that nobody owns and that is as good as its best one, if there is one.
 pub fn give_unowned<K: Number, R: Reading<K>>(
     matrix: &Matrix<'_, K, R>,
@@ -16,9 +28,7 @@ pub fn give_unowned<K: Number, R: Reading<K>>(
     person: u32,
     best: K,
 ) {
-    let limit = best.plus(K::from_wide(1));
-    let (row, owners) = (matrix.row(person), market.owners.as_slice());
-    let object = unowned_below(&matrix.reading, row, market.prices, owners, limit);
+    let object = unowned_best(matrix, market, person, best);
     if object != NOBODY {
         market.give(object, person);
     }

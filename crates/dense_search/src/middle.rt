@@ -168,3 +168,16 @@ pub fn search_market<K: Number, R: Reading<K>>(
     }
     search_from(alloc, matrix, market, record, looks)
 }
+
+// The same over a market of these prices and objects.
+pub fn search_copy<K: Number, R: Reading<K>>(
+    alloc: Global,
+    matrix: &Matrix<'_, K, R>,
+    prices: &mut [K],
+    objects: &mut [u32],
+    record: &mut Record,
+    looks: &mut Looks,
+) -> Result<Ended, AllocError> {
+    let mut market = Market::new(alloc, prices, objects)?;
+    search_market(alloc, matrix, &mut market, record, looks)
+}

@@ -5,7 +5,7 @@ use super::cheapest::take_cheapest;
 use super::cores::{resume_cores, solve_by_cores};
 use super::market::Market;
 use super::matrix::{DenseProblem, Matrix};
-use super::middle::search_market;
+use super::middle::{search_copy, search_market};
 use super::narrow::{are_narrow, narrow_costs, narrow_prices, widen};
 use super::paths::{Allowance, lower_unowned, serve_all, serve_by_rows};
 use super::prices::{begin, begin_at_zero, cut, magnify, reduce};
@@ -198,7 +198,8 @@ impl<'a> Work<'a> {
         Step::To(Stage::Paths)
     }
 
-    // Bids and searches over a copy of the costs, if there may be one and all sums fit it.
+    // Bids and searches over a copy of the costs, if there may be one and all sums fit it. A small
+    // problem needs no copy.
     fn search_copied<R: Reading<i64>>(
         &mut self,
         alloc: Global,
@@ -222,7 +223,7 @@ impl<'a> Work<'a> {
         }
     }
 
-    // Nothing if the costs don't fit a copy.
+    // Searches over the costs of a small problem, and else over a copy. Nothing if they don't fit it.
     fn search_by_rows<R: Reading<i64>>(
         &mut self,
         alloc: Global,
@@ -250,8 +251,8 @@ impl<'a> Work<'a> {
         let mut prices = narrow_prices(alloc, self.market.prices)?;
         let (mut record, mut looks) = (self.record, self.looks);
         let objects = &mut *self.market.objects;
-        let mut market = Market::new(alloc, prices.as_mut_slice(), objects)?;
-        let ended = search_market(alloc, matrix, &mut market, &mut record, &mut looks)?;
+        let slice = prices.as_mut_slice();
+        let ended = search_copy(alloc, matrix, slice, objects, &mut record, &mut looks)?;
         self.record = record;
         self.looks = looks;
         widen(prices.as_slice(), self.market.prices);

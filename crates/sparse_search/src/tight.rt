@@ -258,8 +258,8 @@ pub fn match_tight(
     Ok(place_at(persons))
 }
 
-/// Gives dear unowned objects to owners of objects at the floor, from whom tight pairs lead to them, as
-/// far as a search in depth finds them and looks are left.
+/// Serves owners of objects at the floor by tight pairs that lead to dear unowned objects, as far as a
+/// search in depth finds these and looks are left.
 pub fn match_dear(
     alloc: Global,
     scaled: Scaled<'_>,
