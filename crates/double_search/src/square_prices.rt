@@ -9,8 +9,8 @@ use std::simd::prelude::*;
 // By how many margins other pairs are to be worse: the checker takes two, and rounds sums.
 const MARGINS: f64 = 16.0;
 
-// Sums stay exact where all costs are multiples of a part of the greatest one, about its 2^41st: the
-// sum with 2^13 times the greatest cost rounds to one.
+// Sums stay exact where all costs are multiples of about 2^-40 of the greatest one. The sum with
+// 2^13 times the greatest one rounds to a multiple of that.
 const GREATER: f64 = 8192.0;
 
 // 2^-60: the checker compares exact sums of numbers that differ less in size.
