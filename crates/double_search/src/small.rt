@@ -22,8 +22,8 @@ const PLANS: [[usize; PERSONS]; 6] = [
 // 2^-47: a plan must be better by this part of a dear cost than rounding can make it.
 const PART: f64 = 0.000000000000007105427357601002;
 
-// A dear pair costs so many times the greatest cost. With more, prices would be too great for a margin
-// to count.
+// A dear pair costs so many times the greatest cost. With more, prices would be too great for a
+// margin to count.
 pub const DEAR: f64 = 2.0;
 
 // A plan, the price of each person's object, and by how much other pairs are worse.

@@ -63,25 +63,37 @@ impl Ends {
     }
 }
 
-// Reads a row into lanes.
 #[inline(always)]
-fn read_row(row: &[f64], to: &mut [f64], sign: f64, ends: Ends) -> Ends {
+fn read_parts(parts: &[[f64; LANES]], to: &mut [[f64; LANES]], sign: f64, ends: Ends) -> Ends {
     let mut ends = ends;
-    let (parts, rest) = row.as_chunks::<LANES>();
-    let begin = row.len().wrapping_sub(rest.len()).min(to.len());
-    let (to_parts, to_rest) = to.split_at_mut(begin);
-    let (to_parts, _) = to_parts.as_chunks_mut::<LANES>();
-    for (part, to) in parts.iter().zip(to_parts.iter_mut()) {
+    for (part, to) in parts.iter().zip(to.iter_mut()) {
         let turned = f64x4::from_array(*part) * f64x4::splat(sign);
         ends = ends.with(turned);
         *to = turned.to_array();
     }
-    for (cost, to) in rest.iter().zip(to_rest.iter_mut()) {
+    ends
+}
+
+#[inline(always)]
+fn read_rest(rest: &[f64], to: &mut [f64], sign: f64, ends: Ends) -> Ends {
+    let mut ends = ends;
+    for (cost, to) in rest.iter().zip(to.iter_mut()) {
         let turned = *cost * sign;
         ends = ends.with(f64x4::splat(turned));
         *to = turned;
     }
     ends
+}
+
+// Reads a row into lanes.
+#[inline(always)]
+fn read_row(row: &[f64], to: &mut [f64], sign: f64, ends: Ends) -> Ends {
+    let (parts, rest) = row.as_chunks::<LANES>();
+    let begin = row.len().wrapping_sub(rest.len()).min(to.len());
+    let (to_parts, to_rest) = to.split_at_mut(begin);
+    let (to_parts, _) = to_parts.as_chunks_mut::<LANES>();
+    let ends = read_parts(parts, to_parts, sign, ends);
+    read_rest(rest, to_rest, sign, ends)
 }
 
 // The greatest absolute value of a finite number.
@@ -190,13 +202,17 @@ impl<'a> Square<'a> {
         }
     }
 
-    fn write(&self, objects: &mut [u32], prices: &mut [f64])
-        ensures objects { length objects.new ≡ length objects.old }
-        ensures prices { length prices.new ≡ length prices.old }
+    fn write_objects(&self, objects: &mut [u32])
+        ensures { length objects.new ≡ length objects.old }
     {
         for (object, place) in objects.iter_mut().zip(self.objects.iter()) {
             *object = as_number(*place);
         }
+    }
+
+    fn write_prices(&self, prices: &mut [f64])
+        ensures { length prices.new ≡ length prices.old }
+    {
         for (price, own) in prices.iter_mut().zip(self.prices.iter()) {
             *price = *own;
         }
@@ -212,7 +228,8 @@ impl<'a> Square<'a> {
             return false;
         }
         self.reduce_columns::<W>();
-        self.complete::<W>();
+        self.bid_all::<W>();
+        self.augment_all::<W>();
         self.take_own(W) && self.find_prices::<W>()
     }
 }
@@ -247,7 +264,8 @@ fn solve_in<const W: usize>(
     if !square.solve::<W>(problem) {
         return None;
     }
-    square.write(objects, prices);
+    square.write_objects(objects);
+    square.write_prices(prices);
     Some(Range::margin_at(square.size))
 }
 

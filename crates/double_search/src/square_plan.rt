@@ -2,7 +2,7 @@
 ghost use Rattle.std.specs.Prelude.{◌≤◌};
 
 use super::best::lowest;
-use super::lanes::{first_of, is_at, least_of, number_at, put_first};
+use super::lanes::{first_of, greater_of, is_at, least_of, number_at, put_first};
 use super::lists::place_of;
 use super::square::{NONE, Square};
 use std::simd::prelude::*;
@@ -33,8 +33,8 @@ impl<'a> Square<'a> {
         }
     }
 
-    // The person's best object goes to it, and gets so dear that the next best one is as good. Returns
-    // the person who had it, or nobody, also where the next best one is as good already.
+    // The person's best object goes to it, and gets so dear that the next best one is as good.
+    // Returns the person who had it, or nobody, also where the next best one is as good already.
     #[inline(always)]
     fn bid<const W: usize>(&mut self, person: usize) -> usize
         requires { W ≤ 16 }
@@ -62,8 +62,8 @@ impl<'a> Square<'a> {
         loser
     }
 
-    // At most so many bids of a person and of those who lose their objects in turn. Returns how many
-    // are left.
+    // At most so many bids of a person and of those who lose their objects in turn. Returns how
+    // many are left.
     #[inline(always)]
     fn bid_on<const W: usize>(&mut self, first: usize, most: usize) -> usize
         requires { W ≤ 16 }
@@ -115,9 +115,8 @@ impl<'a> Square<'a> {
             let nearest = distances.simd_eq(Simd::splat(level)).to_bitmask();
             let free = nearest & self.free;
             if free != 0 {
-                let more = Simd::splat(level) - levels;
-                let none = Simd::splat(0.0);
-                put_first(self.prices, prices + more.simd_gt(none).select(more, none));
+                let more = greater_of(Simd::splat(level) - levels, Simd::splat(0.0));
+                put_first(self.prices, prices + more);
                 self.walk_back(&from.to_array()[..], first, lowest(free));
                 return;
             }
@@ -131,9 +130,9 @@ impl<'a> Square<'a> {
         }
     }
 
-    // Gives each person an object.
+    // Bids of each person without an object.
     #[inline(always)]
-    pub fn complete<const W: usize>(&mut self)
+    pub fn bid_all<const W: usize>(&mut self)
         requires { W ≤ 16 }
     {
         let mut left = self.persons.saturating_mul(2);
@@ -142,6 +141,13 @@ impl<'a> Square<'a> {
                 left = self.bid_on::<W>(person, left);
             }
         }
+    }
+
+    // Gives each person an object.
+    #[inline(always)]
+    pub fn augment_all<const W: usize>(&mut self)
+        requires { W ≤ 16 }
+    {
         for person in 0..self.persons {
             if self.object_of(person) == NONE {
                 self.augment::<W>(person);

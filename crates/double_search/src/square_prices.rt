@@ -9,8 +9,8 @@ use std::simd::prelude::*;
 // By how many margins other pairs are to be worse: the checker takes two, and rounds sums.
 const MARGINS: f64 = 16.0;
 
-// Costs that are multiples of a 2^40th of the greatest one, or of a little less, keep sums exact. The
-// sum with 2^13 times the greatest cost rounds to such a multiple.
+// Sums stay exact where all costs are multiples of about 2^-40 of the greatest one. The sum with
+// 2^13 times the greatest one rounds to a multiple of that.
 const GREATER: f64 = 8192.0;
 
 // 2^-60: the checker compares exact sums of numbers that differ less in size.
@@ -66,7 +66,7 @@ impl<'a> Square<'a> {
         }
     }
 
-    // Which of a person's objects are worse than its own by the margin. With `may_tie` objects of the
+    // Which of a person's objects are worse than its own by the margin. With `may_tie` those of the
     // same cost may have the same price.
     #[inline(always)]
     fn worse_of<const W: usize>(
@@ -169,8 +169,8 @@ impl<'a> Square<'a> {
         has_tiny
     }
 
-    // Finds prices at which all other pairs are worse by a margin, or else those of another cost, or
-    // at least none is better.
+    // Finds prices at which all other pairs are worse by a margin, or those of another cost are, or
+    // none is better.
     #[inline(always)]
     pub fn find_prices<const W: usize>(&mut self) -> bool
         requires { W ≤ 16 }
