@@ -31,10 +31,10 @@ pub struct Square<'a> {
     pub dear: f64,
     // The objects without an owner, as bits.
     pub free: u64,
-    // The cost of each pair, to be minimised, in rows of as many numbers as there are lanes; behind
+    // The cost of each pair, to be minimised, in rows of as many numbers as there are lanes; after
     // the last object 0.
     pub rows: &'a mut [f64],
-    // The price of each object; behind the last one infinity.
+    // The price of each object; after the last one infinity.
     pub prices: &'a mut [f64],
     pub objects: &'a mut [usize],
     pub owners: &'a mut [usize],

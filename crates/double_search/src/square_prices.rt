@@ -27,7 +27,7 @@ struct Own {
     price: f64,
 }
 
-// Whether doubles are such multiples that their sums are exact.
+// Whether doubles are multiples whose sums are exact.
 fn are_exact<const W: usize>(numbers: Simd<f64, W>, size: f64) -> Mask<i64, W> {
     let great = Simd::splat(size * GREATER);
     ((numbers + great) - great).simd_eq(numbers)
