@@ -7,7 +7,7 @@ use super::rows::two_best;
 use sparse_search::{NOBODY, place_at};
 use std::alloc::{AllocError, Global};
 
-// The part of all persons that tells what prices are worth.
+// The part of all persons by which first prices are judged.
 const FIRST_PART: usize = 16;
 
 // A person leaves an object that isn't best, and takes a best one that nobody owns.
