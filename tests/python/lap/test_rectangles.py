@@ -1,5 +1,6 @@
 """Problems of unequal numbers: what the library is asked, duals and prices either way round, and plans held against
 prices."""
+import random
 import unittest
 from unittest import mock
 
@@ -62,6 +63,33 @@ class Asked(unittest.TestCase):
             self.assertEqual(calls[0][1:3], (4, 9))
             self.assertEqual([call[:3] for call in calls[1:]], [("sparse", 4, 10), ("sparse", 4, 9)])
             self.assertEqual(len(nushbaret.solve(form, partial=True).rows), served)
+
+    def test_a_column_in_reserve_for_each_row(self):
+        draw, n_rows, shared = random.Random(7), 300, 270
+        costs = [[None] * (shared + n_rows) for _ in range(n_rows)]
+
+        def redraw(row):
+            costs[row][:shared] = [None] * shared
+            for column in draw.sample(range(shared), 8):
+                costs[row][column] = draw.randint(0, 1000)
+            costs[row][shared + row] = 2000
+
+        def listed(**words):
+            rows, columns, values = zip(*((row, column, cost) for row, line in enumerate(costs)
+                                          for column, cost in enumerate(line) if cost is not None))
+            return nushbaret.solve_sparse(n_rows, shared + n_rows, rows, columns, values, **words)
+
+        for row in range(n_rows):
+            redraw(row)
+        result = listed()
+        self.assertEqual(result.cost, nushbaret.solve(costs).cost)
+        for changed in 1, 5, 100:
+            for row in draw.sample(range(n_rows), changed):
+                redraw(row)
+            wanted = nushbaret.solve(costs).cost
+            result = listed(start=result)
+            self.assertEqual((result.cost, bool(result.verify())), (wanted, True))
+            self.assertEqual(listed(timeout=60).cost, wanted)
 
     def test_longest_sides(self):
         most = 70000
