@@ -376,11 +376,12 @@ impl<'a> Run<'a> {
             return Ok(None);
         }
         let scaled = self.scaled();
+        let mut are_together = true;
         for _object in 0..self.problem.objects {
             if self.record.place > 1 {
                 return Ok(self.finish());
             }
-            self.bring_some_down(scaled)?;
+            are_together = self.bring_some_down(scaled, are_together)?;
             if self.looks.is_spent() {
                 return Ok(None);
             }
@@ -388,16 +389,23 @@ impl<'a> Run<'a> {
         Ok(self.finish())
     }
 
-    // A dear unowned object, or many at once.
-    fn bring_some_down(&mut self, scaled: Scaled<'_>) -> Result<(), AllocError> {
+    // Brings down many dear unowned objects, or a single one. Returns whether to go on with many: if
+    // most of them stay dear, single ones are faster.
+    fn bring_some_down(
+        &mut self,
+        scaled: Scaled<'_>,
+        are_together: bool,
+    ) -> Result<bool, AllocError> {
         let (search, market, looks) = (&mut self.search, &mut self.market, &mut self.looks);
-        if market.count_dear() > MANY_DEAR {
-            return bring_down_many(self.alloc, search, scaled, market, looks);
+        let dear = market.count_dear();
+        if are_together && dear > MANY_DEAR {
+            bring_down_many(self.alloc, search, scaled, market, looks)?;
+            return Ok(market.count_dear() < dear.saturating_sub(dear / MANY_DEAR));
         }
         if !bring_down(search, scaled, market, looks)? {
             self.record.place = 2;
         }
-        Ok(())
+        Ok(false)
     }
 
     fn first_paths(&mut self) -> Result<Option<RunEnd>, AllocError> {
