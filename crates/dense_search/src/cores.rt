@@ -162,16 +162,12 @@ fn grow<R: Reading<i64>>(
     merge(alloc, &grown, &others, matrix.persons)
 }
 
-// Whether many persons have better pairs.
-fn are_many<R: Reading<i64>>(matrix: &Matrix<'_, i64, R>, better: &Better) -> bool {
-    better.persons > matrix.persons as u64 / 4
-}
-
+// Whether most persons have better pairs.
 fn are_most<R: Reading<i64>>(matrix: &Matrix<'_, i64, R>, better: &Better) -> bool {
     better.persons > matrix.persons as u64 / 2
 }
 
-// Whether cores aren't worth going on with: many persons have better pairs after two, or three
+// Whether cores aren't worth going on with: most persons have better pairs after two, or three
 // quarters of them after one, where searches over a copy can follow.
 fn are_too_many<R: Reading<i64>>(
     matrix: &Matrix<'_, i64, R>,
@@ -180,13 +176,14 @@ fn are_too_many<R: Reading<i64>>(
     may_copy: bool,
 ) -> bool {
     if solved > 1 {
-        return are_many(matrix, better);
+        return are_most(matrix, better);
     }
     may_copy && better.persons / 3 > matrix.persons as u64 / 4
 }
 
-// Solves a core, and larger ones, until no pair beats the prices. `Long` if passes don't converge;
-// the record then has the mean of what persons would gain by the better pairs.
+// Solves a core, and larger ones, until no pair beats the prices. `Long` if most persons have better
+// pairs, and `Near` if about as many as before have some; the record then has the mean of what they
+// would gain by them.
 fn solve_from<R: Reading<i64>>(
     alloc: Global,
     matrix: &Matrix<'_, i64, R>,
@@ -197,6 +194,7 @@ fn solve_from<R: Reading<i64>>(
     may_copy: bool,
 ) -> Result<Ended, AllocError> {
     let mut core = first;
+    let mut before = 0u64;
     for _ in 0..PASSES {
         record.passes = record.passes.saturating_add(1);
         match solve_core(alloc, matrix, market, &core, looks)? {
@@ -212,9 +210,14 @@ fn solve_from<R: Reading<i64>>(
             return Ok(Ended::Served);
         }
         record.slackness = better.mean_gain();
-        if are_too_many(matrix, &better, record.passes, may_copy) {
+        let are_falling = better.persons < before / 5 * 3;
+        if !are_falling && are_too_many(matrix, &better, record.passes, may_copy) {
             return Ok(Ended::Long);
         }
+        if !are_falling && before > 0 {
+            return Ok(Ended::Near);
+        }
+        before = better.persons;
         core = grow(alloc, matrix, &core, &better, looks)?;
     }
     Ok(Ended::Long)

@@ -112,6 +112,8 @@ pub enum Ended {
     Served,
     // It takes too long; another stage is to go on.
     Long,
+    // Some persons have a better object than their own: searches serve them.
+    Near,
     // The budget of looks is spent.
     Stopped,
     // A person reached no object: sums left the range.

@@ -100,6 +100,7 @@ fn after(ended: Ended, served: Step, long: Stage) -> Step {
     match ended {
         Ended::Served => served,
         Ended::Long => Step::To(long),
+        Ended::Near => Step::To(Stage::Retry),
         Ended::Stopped => Step::End(Outcome::Stopped),
         Ended::Blocked => Step::End(Outcome::Lost),
     }
@@ -216,7 +217,7 @@ impl<'a> Work<'a> {
         match ended {
             Ended::Served => Ok(Some(self.lower(alloc, matrix)?)),
             Ended::Stopped => Ok(Some(Step::End(Outcome::Stopped))),
-            Ended::Long | Ended::Blocked => {
+            Ended::Long | Ended::Near | Ended::Blocked => {
                 self.record = before;
                 Ok(None)
             }
@@ -416,7 +417,17 @@ impl<'a> Work<'a> {
         if let Ended::Long = ended {
             self.record.passes = 0;
         }
+        if let Ended::Near = ended {
+            self.leave_core();
+        }
         Ok(after(ended, Step::End(Outcome::Best), Stage::Retry))
+    }
+
+    // Lets searches go on from the prices of a core.
+    fn leave_core(&mut self) {
+        self.record.passes = 0;
+        self.kept = None;
+        self.may_copy = false;
     }
 
     // Goes on where an earlier call stopped after a core. A pass that finds no better pair confirms
@@ -428,8 +439,10 @@ impl<'a> Work<'a> {
     ) -> Result<Step, AllocError> {
         let (record, looks) = (&mut self.record, &mut self.looks);
         let ended = resume_cores(alloc, matrix, &mut self.market, record, looks)?;
-        if !matches!(ended, Ended::Stopped) {
-            self.record.passes = 0;
+        match ended {
+            Ended::Stopped => {}
+            Ended::Near => self.leave_core(),
+            Ended::Served | Ended::Long | Ended::Blocked => self.record.passes = 0,
         }
         Ok(match ended {
             Ended::Served => {
@@ -437,6 +450,7 @@ impl<'a> Work<'a> {
                 Step::End(Outcome::Best)
             }
             Ended::Long => Step::To(Stage::Auction),
+            Ended::Near => Step::To(Stage::Retry),
             Ended::Stopped => Step::End(Outcome::Stopped),
             Ended::Blocked => Step::To(Stage::Retry),
         })
@@ -484,7 +498,7 @@ impl<'a> Work<'a> {
                 self.market.enter_objects();
                 return Ok(Step::To(Stage::Finish));
             }
-            Ended::Served | Ended::Stopped => {}
+            Ended::Served | Ended::Near | Ended::Stopped => {}
         }
         self.after_searches(alloc, matrix, ended, Stage::Auction)
     }
