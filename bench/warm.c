@@ -3,9 +3,9 @@
    three calls; shares of the call from nothing.
      warm N M EACH MOST ROWS [fallback]   N persons, M objects, EACH pairs a person (0: all), costs 1..MOST, so many rows
                             drawn again; with the word fallback the last N objects are each for one person alone, at 2 MOST
-   Build: cc -O2 -Ic -o warm bench/warm.c c/out/libnushbaret.a */
+   Build: cc -O2 -o warm bench/warm.c c/out/libnushbaret.a */
 #define _DEFAULT_SOURCE
-#include "nushbaret.h"
+#include "../c/nushbaret.h"
 #include <stdio.h>
 #include <stdlib.h>
 #include <string.h>
