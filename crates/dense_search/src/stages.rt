@@ -77,11 +77,11 @@ fn is_middle<R: Reading<i64>>(matrix: &Matrix<'_, i64, R>) -> bool {
 }
 
 // How many persons first prices may leave without an object. A search without these prices is faster
-// for more.
-fn most_left<R: Reading<i64>>(matrix: &Matrix<'_, i64, R>) -> usize {
+// for more. Without a plan some are left whose best object somebody else took.
+fn most_left<R: Reading<i64>>(matrix: &Matrix<'_, i64, R>, has_plan: bool) -> usize {
     if matrix.persons < matrix.objects {
         FEW_UNSERVED
-    } else if matrix.pairs() < MIDDLE {
+    } else if has_plan && matrix.pairs() < MIDDLE {
         (matrix.persons / 32).max(FEW_UNSERVED)
     } else {
         matrix.persons / 2
@@ -233,6 +233,7 @@ impl<'a> Work<'a> {
         if matrix.pairs() <= MOST_IN_PLACE {
             let (record, looks) = (&mut self.record, &mut self.looks);
             let ended = search_market(alloc, matrix, &mut self.market, record, looks)?;
+            self.market.enter_objects();
             return Ok(Some(ended));
         }
         match narrow_costs(alloc, matrix)? {
@@ -286,7 +287,8 @@ impl<'a> Work<'a> {
         }
         begin_at_zero(self.market.prices);
         cut(self.market.prices);
-        let (looks, are_settled) = settle_up_to(matrix, &mut self.market, most_left(matrix));
+        let most = most_left(matrix, self.market.unserved() < matrix.persons);
+        let (looks, are_settled) = settle_up_to(matrix, &mut self.market, most);
         self.looks.add(looks);
         if !are_settled {
             return Ok(Step::To(Stage::Cold));
