@@ -9,6 +9,31 @@ use super::reading::Reading;
 use super::rows::{two_best, unowned_below};
 use sparse_search::{NOBODY, place_at};
 
+// A chain without slackness, of persons who lose their objects in turn, has at most this part of all
+// persons as bids. A longer one is a war of a few, which a search ends sooner.
+const CHAIN_PART: usize = 16;
+
+const SHORT_CHAIN: usize = 16;
+
+// How bids go: by which slackness, and how many at most, in all and in a chain.
+#[derive(Clone, Copy)]
+pub struct Terms<K> {
+    pub slackness: K,
+    pub most: usize,
+    pub chain: usize,
+}
+
+impl<K: Number> Terms<K> {
+    // Without slackness, for so many persons.
+    pub fn exact(persons: usize, most: usize) -> Terms<K> {
+        Terms {
+            slackness: K::zero(),
+            most,
+            chain: (persons / CHAIN_PART).max(SHORT_CHAIN),
+        }
+    }
+}
+
 // An object that nobody owns and that is as good as a person's best one; nobody if there is none.
 fn unowned_best<K: Number, R: Reading<K>>(
     matrix: &Matrix<'_, K, R>,
@@ -32,6 +57,19 @@ pub fn give_unowned<K: Number, R: Reading<K>>(
     if object != NOBODY {
         market.give(object, person);
     }
+}
+
+// Gives each person an unowned object whose least cost is the person's, if there is one, where prices
+// are these least costs, negated: the column reduction of Jonker and Volgenant. Returns the looks at
+// pairs.
+pub fn give_least<K: Number, R: Reading<K>>(
+    matrix: &Matrix<'_, K, R>,
+    market: &mut Market<'_, K>,
+) -> usize {
+    for k in 0..matrix.persons {
+        give_unowned(matrix, market, place_at(k), K::zero());
+    }
+    matrix.pairs()
 }
 
 // One bid: the person who lost its object by it, or nobody.
@@ -76,20 +114,19 @@ fn bid_on<K: Number, R: Reading<K>>(
     most
 }
 
-// Bids of each person without an object, and of those who lose theirs, at most `most` in all.
-// Returns their number.
+// Bids of each person without an object, and of those who lose theirs. Returns their number.
 pub fn bid_all<K: Number, R: Reading<K>>(
     matrix: &Matrix<'_, K, R>,
     market: &mut Market<'_, K>,
-    slackness: K,
-    most: usize,
+    terms: Terms<K>,
 ) -> usize {
-    let mut left = most;
+    let mut left = terms.most;
     for k in 0..matrix.persons {
         let person = place_at(k);
         if market.object(person) == NOBODY && left > 0 {
-            left = left.saturating_sub(bid_on(matrix, market, person, slackness, left));
+            let most = left.min(terms.chain);
+            left = left.saturating_sub(bid_on(matrix, market, person, terms.slackness, most));
         }
     }
-    most.saturating_sub(left)
+    terms.most.saturating_sub(left)
 }

@@ -1,5 +1,4 @@
 // First objects where all prices are equal: a person takes its cheapest object, if nobody has it.
-use super::gather::scatter;
 use super::market::Market;
 use super::matrix::Matrix;
 use super::reading::Reading;
@@ -85,7 +84,7 @@ pub fn take_cheapest<R: Reading<i64>>(
 ) -> usize {
     for k in 0..matrix.persons {
         let person = place_at(k);
-        let from = scatter(k) % matrix.objects.max(1);
+        let from = matrix.first_place(person);
         let object = cheapest_of(&matrix.reading, matrix.row(person), from);
         if market.owner(object) == NOBODY {
             market.give(object, person);

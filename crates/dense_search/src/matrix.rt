@@ -1,4 +1,6 @@
 // A dense problem: each person lists each object.
+use super::gather::scatter;
+use super::market::Market;
 use super::number::Number;
 use super::reading::{AsCosts, Magnified, Reading};
 use assign_core::Sense;
@@ -45,6 +47,17 @@ impl<'a, K: Number, R: Reading<K>> Matrix<'a, K, R> {
     pub fn value(&self, person: u32, object: u32) -> K {
         let cost = self.row(person).get(object as usize).copied();
         self.reading.value(cost.unwrap_or(K::zero()))
+    }
+
+    // The value of a person's own object.
+    pub fn own_value(&self, market: &Market<'_, K>, person: u32) -> K {
+        let object = market.object(person);
+        self.value(person, object).plus(market.price(object))
+    }
+
+    // The place in a row at which to begin, so that rows with many equal values give different objects.
+    pub fn first_place(&self, person: u32) -> usize {
+        scatter(person as usize) % self.objects.max(1)
     }
 
     // The number of pairs.

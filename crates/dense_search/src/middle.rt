@@ -1,6 +1,6 @@
 // Bids and searches over a copy of the costs, for problems of middle size, or over the costs of small
 // ones.
-use super::bids::bid_all;
+use super::bids::{Terms, bid_all, give_least};
 use super::market::Market;
 use super::matrix::Matrix;
 use super::number::{Number, greater, lesser};
@@ -13,6 +13,12 @@ use std::alloc::{AllocError, Global};
 
 // The bids of each person before the searches, without slackness.
 const BIDS: usize = 4;
+
+// The first ones are this part of the persons. If at most one in so many serves a person, bids begin
+// again, after each object went to a person with its least cost.
+const TRIAL: usize = 4;
+
+const POOR: usize = 8;
 
 // The bids of an auction for each person in each phase.
 const BIDS_A_PHASE: usize = 32;
@@ -56,18 +62,30 @@ fn begin_paths<K: Number, R: Reading<K>>(
 ) {
     market.release_all();
     looks.add(begin(matrix, market.prices));
-    bid(matrix, market, looks);
+    let made = bid(matrix, market, matrix.persons / TRIAL, looks);
+    let served = matrix.persons.saturating_sub(market.unserved());
+    if matrix.persons == matrix.objects && served < made / POOR {
+        market.release_all();
+        looks.add(begin(matrix, market.prices));
+        looks.add(give_least(matrix, market));
+    }
+    let _ = bid(matrix, market, matrix.persons.saturating_mul(BIDS), looks);
+    record.passes = 0;
+    record.bids = 0;
     record.stage = Stage::CopyPaths;
 }
 
+// At most so many bids without slackness, as far as the looks allow. Returns their number.
 fn bid<K: Number, R: Reading<K>>(
     matrix: &Matrix<'_, K, R>,
     market: &mut Market<'_, K>,
+    most: usize,
     looks: &mut Looks,
-) {
-    let most = bids_within(matrix, matrix.persons.saturating_mul(BIDS), looks);
-    let made = bid_all(matrix, market, K::zero(), most);
+) -> usize {
+    let most = bids_within(matrix, most, looks);
+    let made = bid_all(matrix, market, Terms::exact(matrix.persons, most));
     looks.add(made.saturating_mul(matrix.objects));
+    made
 }
 
 fn begin_auction<K: Number, R: Reading<K>>(
@@ -89,11 +107,18 @@ fn is_phase_over<K: Number, R: Reading<K>>(
     record: &mut Record,
     looks: &mut Looks,
 ) -> bool {
-    market.release_all();
+    if record.bids == 0 {
+        market.release_all();
+    }
     let all = matrix.persons.saturating_mul(BIDS_A_PHASE) as u64;
     let left = all.saturating_sub(record.bids) as usize;
     let most = bids_within(matrix, left, looks);
-    let made = bid_all(matrix, market, K::from_wide(record.slackness), most);
+    let terms = Terms {
+        slackness: K::from_wide(record.slackness),
+        most,
+        chain: most,
+    };
+    let made = bid_all(matrix, market, terms);
     record.bids = record.bids.saturating_add(made as u64);
     looks.add(made.saturating_mul(matrix.objects));
     made < most || most == left
@@ -129,6 +154,34 @@ fn most_looks<K: Number, R: Reading<K>>(matrix: &Matrix<'_, K, R>) -> u64 {
     (matrix.pairs() as u64).saturating_mul(PASSES)
 }
 
+// Whether all searches take more than these looks at the pace of earlier calls, whose searches the
+// record counts as bids.
+fn were_slow(record: &Record, left: usize, most: u64, pairs: usize) -> bool {
+    let spent = record.passes.saturating_mul(pairs as u64);
+    let rest = spent.checked_div(record.bids).unwrap_or(0);
+    spent.saturating_add(rest.saturating_mul(left as u64)) > most
+}
+
+// The first searches, as long as an auction isn't expected to be faster.
+fn serve_first<K: Number, R: Reading<K>>(
+    alloc: Global,
+    matrix: &Matrix<'_, K, R>,
+    market: &mut Market<'_, K>,
+    record: &mut Record,
+    looks: &mut Looks,
+) -> Result<Ended, AllocError> {
+    let (before, left, pairs) = (looks.done, market.unserved(), matrix.pairs());
+    let most = most_looks(matrix);
+    if were_slow(record, left, most, pairs) {
+        return Ok(Ended::Long);
+    }
+    let ended = serve_by_rows(alloc, matrix, market, record.left_of(most, pairs), looks)?;
+    record.count_passes(ended, looks.done.saturating_sub(before), pairs);
+    let served = left.saturating_sub(market.unserved()) as u64;
+    record.bids = record.bids.saturating_add(served);
+    Ok(ended)
+}
+
 // Searches, and once more from the prices of an auction where these take too long, from the stage of
 // the record on.
 fn search_from<K: Number, R: Reading<K>>(
@@ -139,7 +192,7 @@ fn search_from<K: Number, R: Reading<K>>(
     looks: &mut Looks,
 ) -> Result<Ended, AllocError> {
     if let Stage::CopyPaths = record.stage {
-        let ended = serve_by_rows(alloc, matrix, market, most_looks(matrix), looks)?;
+        let ended = serve_first(alloc, matrix, market, record, looks)?;
         let Ended::Long = ended else {
             return Ok(ended);
         };
@@ -149,7 +202,7 @@ fn search_from<K: Number, R: Reading<K>>(
         if !auction(matrix, market, record, looks) {
             return Ok(Ended::Stopped);
         }
-        bid(matrix, market, looks);
+        let _ = bid(matrix, market, matrix.persons.saturating_mul(BIDS), looks);
         record.stage = Stage::CopyFinish;
     }
     serve_by_rows(alloc, matrix, market, u64::MAX, looks)

@@ -1,5 +1,5 @@
 // The core of a problem: the cheapest pairs of each person, by one measure or by two.
-use super::gather::{Candidate, Wanted, gather, scatter};
+use super::gather::{Candidate, Wanted, gather};
 use super::market::Market;
 use super::matrix::Matrix;
 use super::reading::Reading;
@@ -167,11 +167,6 @@ fn none_picked(alloc: Global, objects: usize) -> Result<Picked, AllocError> {
     })
 }
 
-// A place in a row to begin at, so that rows with many equal values give different objects.
-fn begin_at<R: Reading<i64>>(matrix: &Matrix<'_, i64, R>, person: usize) -> usize {
-    scatter(person) % matrix.objects.max(1)
-}
-
 // The cheapest pairs of each person by the prices; its own pair, which is a best one; and one of
 // the diagonal, so that there is an assignment.
 pub fn pick_by_prices<R: Reading<i64>>(
@@ -184,14 +179,12 @@ pub fn pick_by_prices<R: Reading<i64>>(
     for k in 0..matrix.persons {
         let person = place_at(k);
         let row = matrix.row(person);
-        let (object, from) = (market.object(person), begin_at(matrix, k));
+        let (object, from) = (market.object(person), matrix.first_place(person));
         picked.add(row, person, diagonal(matrix, k))?;
         if object == NOBODY || measure.width == 0 {
             measure.look(&matrix.reading, row, from)?;
         } else {
-            let own = matrix
-                .value(person, object)
-                .wrapping_add(market.price(object));
+            let own = matrix.own_value(market, person);
             measure.gather(&matrix.reading, row, from, own)?;
         }
         picked.add(row, person, object)?;
@@ -212,7 +205,7 @@ pub fn pick_by_means<R: Reading<i64>>(
     for k in 0..matrix.persons {
         let person = place_at(k);
         let row = matrix.row(person);
-        measure.look(&matrix.reading, row, begin_at(matrix, k))?;
+        measure.look(&matrix.reading, row, matrix.first_place(person))?;
         picked.add_all(row, person, measure.found.as_slice())?;
         picked.close()?;
     }

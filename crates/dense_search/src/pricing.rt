@@ -1,6 +1,6 @@
 // Passes over all pairs of the caller's list: pairs that are better at these prices than the one
 // that their person has join the core.
-use super::gather::{Candidate, Wanted, gather, scatter};
+use super::gather::{Candidate, Wanted, gather};
 use super::market::Market;
 use super::matrix::Matrix;
 use super::pick::{Core, GAPS};
@@ -114,15 +114,12 @@ pub fn better_pairs<R: Reading<i64>>(
     for k in 0..matrix.persons {
         let person = place_at(k);
         let row = matrix.row(person);
-        let object = market.object(person);
-        let own = matrix
-            .value(person, object)
-            .wrapping_add(market.price(object));
+        let own = matrix.own_value(market, person);
         let wanted = Wanted {
             limit: own,
             most: MOST_GATHERED,
         };
-        let from = scatter(k) % matrix.objects.max(1);
+        let from = matrix.first_place(person);
         gather(
             &matrix.reading,
             row,
@@ -185,7 +182,7 @@ impl Around {
         own: i64,
     ) -> Result<(), AllocError> {
         let (row, prices) = (matrix.row(person), &*market.prices);
-        let from = scatter(person as usize) % matrix.objects.max(1);
+        let from = matrix.first_place(person);
         let near = Wanted {
             limit: own.saturating_add(self.width),
             most: MOST_JOINING,
@@ -219,13 +216,10 @@ pub fn pairs_around<R: Reading<i64>>(
     };
     for k in 0..matrix.persons {
         let (person, row) = (place_at(k), matrix.row(place_at(k)));
-        let object = market.object(person);
-        let own = matrix
-            .value(person, object)
-            .wrapping_add(market.price(object));
+        let own = matrix.own_value(market, person);
         let most = own.saturating_add(around.width);
         around.look(matrix, market, person, own)?;
-        better.add(row, object)?;
+        better.add(row, market.object(person))?;
         better.count(least_of(around.found.as_slice()), own);
         better.join(row, around.found.as_slice(), most)?;
         better.core.starts.push(better.core.pairs.len())?;

@@ -75,6 +75,21 @@ impl Record {
         }
     }
 
+    // What is left of so many looks of searches, which count in all calls of a stage.
+    pub fn left_of(&self, most: u64, pairs: usize) -> u64 {
+        most.saturating_sub(self.passes.saturating_mul(pairs as u64))
+    }
+
+    // Counts the passes over all pairs that these looks of searches were, if the next call goes on with
+    // them.
+    pub fn count_passes(&mut self, ended: Ended, looks: u64, pairs: usize) {
+        let passes = looks / (pairs as u64).max(1);
+        self.passes = match ended {
+            Ended::Stopped => self.passes.saturating_add(passes.saturating_add(1)),
+            _ => 0,
+        };
+    }
+
     // Whether another call left it.
     pub fn is_begun(&self) -> bool {
         !matches!(self.stage, Stage::Cold | Stage::Warm)

@@ -13,12 +13,8 @@ const FIRST_PART: usize = 16;
 // A person leaves an object that isn't best, and takes a best one that nobody owns.
 fn settle<R: Reading<i64>>(matrix: &Matrix<'_, i64, R>, market: &mut Market<'_, i64>, person: u32) {
     let two = two_best(&matrix.reading, matrix.row(person), market.prices);
-    let object = market.object(person);
-    if object != NOBODY {
-        let own = matrix
-            .value(person, object)
-            .wrapping_add(market.price(object));
-        if own <= two.best {
+    if market.object(person) != NOBODY {
+        if matrix.own_value(market, person) <= two.best {
             return;
         }
         market.release(person);
@@ -35,10 +31,7 @@ pub fn settle_all<R: Reading<i64>>(
     matrix: &Matrix<'_, i64, R>,
     market: &mut Market<'_, i64>,
 ) -> usize {
-    for k in 0..matrix.persons {
-        settle(matrix, market, place_at(k));
-    }
-    matrix.pairs()
+    settle_while(matrix, market, usize::MAX, usize::MAX).0
 }
 
 // Settles all persons, unless more than `most` find no object, or three quarters of the first ones.
@@ -48,7 +41,15 @@ pub fn settle_up_to<R: Reading<i64>>(
     market: &mut Market<'_, i64>,
     most: usize,
 ) -> (usize, bool) {
-    let first = matrix.persons / FIRST_PART;
+    settle_while(matrix, market, most, matrix.persons / FIRST_PART)
+}
+
+fn settle_while<R: Reading<i64>>(
+    matrix: &Matrix<'_, i64, R>,
+    market: &mut Market<'_, i64>,
+    most: usize,
+    first: usize,
+) -> (usize, bool) {
     let mut unserved = 0usize;
     for k in 0..matrix.persons {
         let person = place_at(k);
@@ -81,10 +82,7 @@ pub fn lower_prices<R: Reading<i64>>(
     let mut bounds = vec![in alloc; market.least_price(); matrix.objects]?;
     for k in 0..matrix.persons {
         let person = place_at(k);
-        let object = market.object(person);
-        let value = matrix
-            .value(person, object)
-            .wrapping_add(market.price(object));
+        let value = matrix.own_value(market, person);
         let row = matrix.row(person);
         raise_bounds(&matrix.reading, row, value, bounds.as_mut_slice());
     }

@@ -1,6 +1,6 @@
 // The whole search, stage by stage.
 use super::auction::auction;
-use super::bids::bid_all;
+use super::bids::{Terms, bid_all, give_least};
 use super::cheapest::take_cheapest;
 use super::cores::{resume_cores, solve_by_cores};
 use super::market::Market;
@@ -39,7 +39,7 @@ const MIDDLE: usize = 1 << 19;
 
 // A call copies if its budget allows so many passes over all pairs, since a copy takes as long as one
 // or two.
-const COPY_PASSES: u64 = 8;
+const COPY_PASSES: u64 = 2;
 
 // A core's work apart from its passes, in looks at pairs a person; and the passes.
 const CORE_LOOKS: u64 = 4000;
@@ -167,7 +167,8 @@ impl<'a> Work<'a> {
         let left = all.saturating_sub(self.record.bids) as usize;
         let room = self.looks.limit.saturating_sub(self.looks.done) as usize;
         let most = left.min(room / matrix.objects.max(1));
-        let made = bid_all(matrix, &mut self.market, 0, most);
+        let terms = Terms::exact(matrix.persons, most);
+        let made = bid_all(matrix, &mut self.market, terms);
         self.record.bids = self.record.bids.saturating_add(made as u64);
         self.looks.add(made.saturating_mul(matrix.objects));
         made > 0 && made == most && most < left
@@ -186,6 +187,10 @@ impl<'a> Work<'a> {
         self.market.release_all();
         let looks = begin(matrix, self.market.prices);
         self.looks.add(looks);
+        if matrix.persons == matrix.objects {
+            let looks = give_least(matrix, &mut self.market);
+            self.looks.add(looks);
+        }
         if matrix.persons < matrix.objects / 8 {
             let looks = take_cheapest(matrix, &mut self.market);
             self.looks.add(looks);
@@ -310,26 +315,13 @@ impl<'a> Work<'a> {
             return Ok(Step::To(Stage::Core));
         }
         if are_narrow(self.market.prices) {
+            let _ = self.begin_paths();
             self.record.stage = Stage::CopyPaths;
             if let Some(step) = self.search_copied(alloc, matrix)? {
                 return Ok(step);
             }
         }
         Ok(self.begin_paths())
-    }
-
-    // What is left of so many looks of searches, which count in all calls of the stage.
-    fn left_of(&self, most: u64, pairs: usize) -> u64 {
-        most.saturating_sub(self.record.passes.saturating_mul(pairs as u64))
-    }
-
-    // Counts the passes over all pairs that searches took, if these are to go on in the next call.
-    fn count_passes(&mut self, ended: Ended, before: u64, pairs: usize) {
-        let passes = self.looks.done.saturating_sub(before) / (pairs as u64).max(1);
-        self.record.passes = match ended {
-            Ended::Stopped => self.record.passes.saturating_add(passes.saturating_add(1)),
-            _ => 0,
-        };
     }
 
     // Searches for all persons from the first bids, as far as a core isn't as fast.
@@ -340,11 +332,12 @@ impl<'a> Work<'a> {
     ) -> Result<Ended, AllocError> {
         let before = self.looks.done;
         let allowed = Allowance {
-            most: self.left_of(most_looks(matrix), matrix.pairs()),
+            most: self.record.left_of(most_looks(matrix), matrix.pairs()),
             is_growing: true,
         };
         let ended = serve_all(alloc, matrix, &mut self.market, allowed, &mut self.looks)?;
-        self.count_passes(ended, before, matrix.pairs());
+        let looks = self.looks.done.saturating_sub(before);
+        self.record.count_passes(ended, looks, matrix.pairs());
         Ok(ended)
     }
 
@@ -356,9 +349,10 @@ impl<'a> Work<'a> {
     ) -> Result<Ended, AllocError> {
         let before = self.looks.done;
         let most = (matrix.pairs() as u64).saturating_mul(RETRY_PASSES);
-        let most = self.left_of(most, matrix.pairs());
+        let most = self.record.left_of(most, matrix.pairs());
         let ended = serve_by_rows(alloc, matrix, &mut self.market, most, &mut self.looks)?;
-        self.count_passes(ended, before, matrix.pairs());
+        let looks = self.looks.done.saturating_sub(before);
+        self.record.count_passes(ended, looks, matrix.pairs());
         Ok(ended)
     }
 
@@ -530,7 +524,8 @@ impl<'a> Work<'a> {
         let looks = settle_all(matrix, &mut self.market);
         self.looks.add(looks);
         let unserved = self.market.unserved();
-        let made = bid_all(matrix, &mut self.market, 0, unserved);
+        let terms = Terms::exact(matrix.persons, unserved);
+        let made = bid_all(matrix, &mut self.market, terms);
         self.looks.add(made.saturating_mul(matrix.objects));
         self.record.passes = 1;
     }

@@ -12,8 +12,8 @@ use cost_lists::{Object, Pairs, Person, Price};
 use sparse_search::{Outcome, Record as SparseRecord, SparseProblem, search};
 use std::alloc::{AllocError, Global};
 
-// Whether far more objects are dear than there are persons. At exact prices no unowned object is,
-// and each that is has to be brought down by a search of its own.
+// Whether far more objects are dear than there are persons. At exact prices no unowned object is, and
+// to bring so many down takes longer than a search without prices.
 fn are_far_off(prices: &[Price], persons: usize) -> bool {
     let least = prices.iter().copied().min().unwrap_or(0);
     let dear = prices.iter().filter(|price| **price > least).count();

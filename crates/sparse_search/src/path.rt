@@ -45,8 +45,10 @@ pub struct Level {
     pub nearest: i64,
     pub object: u32,
     pub distance: i64,
-    // Unowned objects at this price or below don't end a search.
+    // Unowned objects at this price or below aren't reached.
     pub floor: i64,
+    // Whether another unowned object ends a search; else it is passed like an owned one.
+    pub ends: bool,
 }
 
 impl Level {
@@ -56,6 +58,7 @@ impl Level {
             object: NOBODY,
             distance: 0,
             floor: i64::MIN,
+            ends: true,
         }
     }
 
@@ -111,7 +114,7 @@ impl PathSearch {
         }
     }
 
-    // An owned object that was reached: it is passed at once, or waits in the heap.
+    // An object that was reached and doesn't end the search: it is passed at once, or waits in the heap.
     pub fn keep(&mut self, reached: Reached, from: u32, level: Level) -> Result<(), AllocError> {
         let is_passed = reached.distance == level.distance;
         self.set_label(reached.object, reached.distance, from, is_passed);
@@ -134,12 +137,13 @@ impl PathSearch {
         if reached.distance >= level.nearest || !self.is_nearer(reached.object, reached.distance) {
             return Ok(level);
         }
-        if at(market.owners.as_slice(), reached.object) != NOBODY {
-            self.keep(reached, from, level)?;
+        let is_owned = at(market.owners.as_slice(), reached.object) != NOBODY;
+        let price = market.prices.get(reached.object as usize).copied();
+        if !is_owned && price.unwrap_or(0) <= level.floor {
             return Ok(level);
         }
-        let price = market.prices.get(reached.object as usize).copied();
-        if price.unwrap_or(0) <= level.floor {
+        if is_owned || !level.ends {
+            self.keep(reached, from, level)?;
             return Ok(level);
         }
         self.set_label(reached.object, reached.distance, from, false);

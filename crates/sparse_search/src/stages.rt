@@ -227,16 +227,8 @@ impl<'a> Run<'a> {
         self.record.shift = 0;
         let scaled = self.scaled();
         let is_easy = self.is_easy();
-        if is_easy && count_slack(scaled, &self.market, SAMPLE, &mut self.looks) > 0 {
-            self.record = self.record.with_stage(Stage::Cold);
-            return Ok(());
-        }
-        let spread = self.spread();
-        let sum = settle(scaled, &mut self.market, spread / 25, &mut self.looks);
-        let persons = (self.persons() & 0xffff_ffff) as i64;
-        let mean = sum.checked_div(persons).unwrap_or(0);
-        self.record.slackness = if mean < spread / 50 { mean.max(1) } else { 0 };
-        if is_easy && self.market.count_unserved() > 0 {
+        let is_far = is_easy && count_slack(scaled, &self.market, SAMPLE, &mut self.looks) > 0;
+        if is_far || (self.settle_first(scaled) > 0 && is_easy) {
             self.record = self.record.with_stage(Stage::Cold);
             return Ok(());
         }
@@ -244,6 +236,17 @@ impl<'a> Run<'a> {
         self.record = self.record.with_stage(Stage::WarmTight);
         self.record.place = 1;
         Ok(())
+    }
+
+    // Keeps tight pairs alone, and notes the mean slack, or 0 if prices fit too few persons. Returns how
+    // many persons have no object.
+    fn settle_first(&mut self, scaled: Scaled<'_>) -> usize {
+        let spread = self.spread();
+        let sum = settle(scaled, &mut self.market, spread / 25, &mut self.looks);
+        let persons = (self.persons() & 0xffff_ffff) as i64;
+        let mean = sum.checked_div(persons).unwrap_or(0);
+        self.record.slackness = if mean < spread / 50 { mean.max(1) } else { 0 };
+        self.market.count_unserved()
     }
 
     // Whether there are far more objects than persons, and they are cheap. A search without first prices
@@ -397,8 +400,8 @@ impl<'a> Run<'a> {
         are_together: bool,
     ) -> Result<bool, AllocError> {
         let (search, market, looks) = (&mut self.search, &mut self.market, &mut self.looks);
-        let dear = market.count_dear();
-        if are_together && dear > MANY_DEAR {
+        let dear = if are_together { market.count_dear() } else { 0 };
+        if dear > MANY_DEAR {
             bring_down_many(self.alloc, search, scaled, market, looks)?;
             return Ok(market.count_dear() < dear.saturating_sub(dear / MANY_DEAR));
         }

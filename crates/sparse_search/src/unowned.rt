@@ -7,7 +7,7 @@ use super::market::Market;
 use super::path::{Level, PathSearch};
 use super::place::{NOBODY, at, place_at};
 use super::problem::{Pair, Scaled};
-use super::row::{FAR, least_value, value};
+use super::row::{FAR, least_value};
 use super::tight::match_dear;
 use std::alloc::{AllocError, Global};
 
@@ -159,49 +159,6 @@ fn dear_prices(alloc: Global, market: &Market, floor: i64) -> Result<Vec<i64>, A
     Ok(dear)
 }
 
-// One pair of a person: an owned or a dear object is reached.
-#[inline(always)]
-fn reach(
-    search: &mut PathSearch,
-    market: &Market,
-    reached: Reached,
-    from: u32,
-    level: Level,
-) -> Result<(), AllocError> {
-    if reached.distance >= level.nearest || !search.is_nearer(reached.object, reached.distance) {
-        return Ok(());
-    }
-    let place = reached.object as usize;
-    let is_dear = market.prices.get(place).copied().unwrap_or(0) > level.floor;
-    if is_dear || at(market.owners.as_slice(), reached.object) != NOBODY {
-        search.keep(reached, from, level)?;
-    }
-    Ok(())
-}
-
-// The pairs of a person at some distance.
-fn scan_all(
-    search: &mut PathSearch,
-    scaled: Scaled<'_>,
-    market: &Market,
-    person: u32,
-    level: Level,
-) -> Result<(), AllocError> {
-    let row = scaled.problem.row(person);
-    let prices = market.prices.as_slice();
-    let base = level
-        .distance
-        .wrapping_sub(least_value(row, prices, scaled.shift));
-    for pair in row {
-        let reached = Reached {
-            distance: base.wrapping_add(value(*pair, prices, scaled.shift)),
-            object: pair.object,
-        };
-        reach(search, market, reached, person, level)?;
-    }
-    Ok(())
-}
-
 // Passes all objects nearer than the level's nearest.
 fn pass_all(
     search: &mut PathSearch,
@@ -218,8 +175,7 @@ fn pass_all(
         }
         let person = search.next_person(market, turn);
         if person != NOBODY {
-            looks.add(scaled.problem.row(person).len());
-            scan_all(search, scaled, market, person, level)?;
+            level = search.scan(scaled, market, person, level, looks)?;
         }
     }
     Ok(())
@@ -252,6 +208,7 @@ pub fn bring_down_many(
     let level = Level {
         floor,
         nearest: price.wrapping_sub(floor),
+        ends: false,
         ..Level::begin()
     };
     search.begin();

@@ -2,6 +2,7 @@
 use super::lists::{Finding, Lists};
 use crate::sparse::drawn::{SPANS, draw_cost};
 use crate::sparse::judged::nobody;
+use assign_core::Sense;
 use dense_search::{Record, Stage};
 use std::alloc::{AllocError, Global};
 use std::test::Fail;
@@ -208,6 +209,84 @@ fn larger_problems_end_at_exact_prices(rt: HostRuntime) -> Result<(), Fail> {
     Ok(())
 }
 
+// A problem of persons and as many objects, whose costs follow from their places.
+fn square_of(
+    alloc: Global,
+    persons: usize,
+    cost: fn(usize, usize) -> i64,
+) -> Result<Lists, AllocError> {
+    let mut costs = Vec::new(alloc);
+    for k in 0..persons.wrapping_mul(persons) {
+        costs.push(cost(k / persons.max(1), k % persons.max(1)))?;
+    }
+    Ok(Lists {
+        sense: Sense::Min,
+        persons,
+        objects: persons,
+        costs,
+    })
+}
+
+// The looks at pairs of a search from nothing by calls of a budget each (0: one call).
+fn looks_of(alloc: Global, lists: &Lists, budget: u64) -> Result<u64, AllocError> {
+    let mut prices = vec![in alloc; 0i64; lists.objects]?;
+    let mut objects = nobody(alloc, lists.persons)?;
+    let mut record = Record::cold();
+    for _piece in 0..2000 {
+        let (prices, objects) = (prices.as_mut_slice(), objects.as_mut_slice());
+        match lists.call(alloc, prices, objects, &mut record, budget)? {
+            Finding::Stopped => {}
+            Finding::Best(_) => return Ok(record.looks),
+            _ => return Ok(u64::MAX),
+        }
+    }
+    Ok(u64::MAX)
+}
+
+// Own objects are dear, those of the person before cheap, and all but three nearly out of reach.
+fn cost_in_band(person: usize, object: usize) -> i64 {
+    if person == object {
+        1000
+    } else if person == object.wrapping_add(1) {
+        1
+    } else if object == person.wrapping_add(1) {
+        2000
+    } else {
+        10_000_000
+    }
+}
+
+fn product(person: usize, object: usize) -> i64 {
+    small(person).wrapping_mul(small(object))
+}
+
+// Bids alone would be a war in which each person takes the next one's object.
+#[test]
+fn a_band_among_dear_pairs_takes_few_passes(rt: HostRuntime) -> Result<(), Fail> {
+    let lists = square_of(rt.alloc(), 120, cost_in_band)?;
+    let pairs = lists.costs.len() as u64;
+    let looks = looks_of(rt.alloc(), &lists, 0)?;
+    assert!(rt;
+        looks <= pairs.saturating_mul(6),
+        "{looks} looks at {pairs} pairs"
+    );
+    Ok(())
+}
+
+// Searches that are too long are left for an auction in pieces too.
+#[test]
+fn pieces_look_at_few_more_pairs(rt: HostRuntime) -> Result<(), Fail> {
+    let lists = square_of(rt.alloc(), 120, product)?;
+    let budget = (lists.costs.len() as u64).saturating_mul(3);
+    let whole = looks_of(rt.alloc(), &lists, 0)?;
+    let pieces = looks_of(rt.alloc(), &lists, budget)?;
+    assert!(rt;
+        pieces <= whole.saturating_mul(2),
+        "{pieces} looks, in one call {whole}"
+    );
+    Ok(())
+}
+
 // Pieces of so many passes copy the costs where they fit 32 bits.
 #[test]
 fn copies_are_stopped_and_taken_up_again(rt: HostRuntime) -> Result<(), Fail> {
@@ -219,7 +298,7 @@ fn copies_are_stopped_and_taken_up_again(rt: HostRuntime) -> Result<(), Fail> {
         } else {
             draw_record(&mut seed)
         };
-        let budget = (lists.costs.len() as u64).saturating_mul(8);
+        let budget = (lists.costs.len() as u64).saturating_mul(3);
         let found = in_pieces(rt.alloc(), &mut seed, &lists, record, budget)?;
         assert!(rt; matches!(found, Finding::Best(_)), "problem {turn}");
     }
