@@ -72,7 +72,8 @@ pub fn give_least<K: Number, R: Reading<K>>(
     matrix.pairs()
 }
 
-// One bid: the person who lost its object by it, or nobody.
+// One bid: the person who is to bid next, since it lost its object, or nobody. Where another object is
+// as good an unowned one is taken; if there is none, the owner loses the object and waits.
 fn bid<K: Number, R: Reading<K>>(
     matrix: &Matrix<'_, K, R>,
     market: &mut Market<'_, K>,
@@ -83,6 +84,10 @@ fn bid<K: Number, R: Reading<K>>(
     let (gap, owner) = (two.gap().plus(slackness), market.owner(two.object));
     if !K::zero().is_below(gap) && owner != NOBODY {
         give_unowned(matrix, market, person, two.best);
+        if market.object(person) == NOBODY {
+            market.release(owner);
+            market.give(two.object, person);
+        }
         return NOBODY;
     }
     if !market.price(two.object).plus(gap).is_below(K::limit()) {

@@ -16,6 +16,9 @@ const PASSES: u64 = 20;
 // where a call stops.
 const PASSES_A_CORE: u64 = 8;
 
+// So many persons, as a part of all, are many.
+const MANY: u64 = 8;
+
 // What is taken from all costs of a core, and the factor that the rest has in common.
 #[derive(Clone, Copy)]
 struct Unit {
@@ -167,18 +170,29 @@ fn are_most<R: Reading<i64>>(matrix: &Matrix<'_, i64, R>, better: &Better) -> bo
     better.persons > matrix.persons as u64 / 2
 }
 
-// Whether cores aren't worth going on with: most persons have better pairs after two, or three
-// quarters of them after one, where searches over a copy can follow.
-fn are_too_many<R: Reading<i64>>(
+// How cores end, where not much fewer persons have better pairs than before. Searches over a copy, if
+// they can follow, are faster for many persons, and an auction for most; few are served at the prices
+// of the core.
+fn end_of_cores<R: Reading<i64>>(
     matrix: &Matrix<'_, i64, R>,
     better: &Better,
-    solved: u64,
+    before: u64,
     may_copy: bool,
-) -> bool {
-    if solved > 1 {
-        return are_most(matrix, better);
+) -> Option<Ended> {
+    let is_first = before == 0;
+    if better.persons < before / 5 * 3 {
+        return None;
     }
-    may_copy && better.persons / 3 > matrix.persons as u64 / 4
+    let are_many = better.persons > matrix.persons as u64 / MANY;
+    let is_long = if may_copy && !is_first {
+        are_many
+    } else {
+        are_most(matrix, better)
+    };
+    if is_long && (may_copy || !is_first) {
+        return Some(Ended::Long);
+    }
+    if is_first { None } else { Some(Ended::Near) }
 }
 
 // Solves a core, and larger ones, until no pair beats the prices. `Long` if most persons have better
@@ -210,12 +224,8 @@ fn solve_from<R: Reading<i64>>(
             return Ok(Ended::Served);
         }
         record.slackness = better.mean_gain();
-        let are_falling = better.persons < before / 5 * 3;
-        if !are_falling && are_too_many(matrix, &better, record.passes, may_copy) {
-            return Ok(Ended::Long);
-        }
-        if !are_falling && before > 0 {
-            return Ok(Ended::Near);
+        if let Some(ended) = end_of_cores(matrix, &better, before, may_copy) {
+            return Ok(ended);
         }
         before = better.persons;
         core = grow(alloc, matrix, &core, &better, looks)?;
@@ -255,7 +265,7 @@ pub fn resume_cores<R: Reading<i64>>(
     if around.persons == 0 {
         return Ok(Ended::Served);
     }
-    if are_too_many(matrix, &around, record.passes, false) {
+    if record.passes > 1 && are_most(matrix, &around) {
         return Ok(Ended::Long);
     }
     solve_from(alloc, matrix, market, record, looks, around.core, false)
