@@ -15,23 +15,9 @@ const CHAIN_PART: usize = 16;
 
 const SHORT_CHAIN: usize = 16;
 
-// How bids go: by which slackness, and how many at most, in all and in a chain.
-#[derive(Clone, Copy)]
-pub struct Terms<K> {
-    pub slackness: K,
-    pub most: usize,
-    pub chain: usize,
-}
-
-impl<K: Number> Terms<K> {
-    // Without slackness, for so many persons.
-    pub fn exact(persons: usize, most: usize) -> Terms<K> {
-        Terms {
-            slackness: K::zero(),
-            most,
-            chain: (persons / CHAIN_PART).max(SHORT_CHAIN),
-        }
-    }
+// The most bids of a chain without slackness.
+pub fn longest_chain(persons: usize) -> usize {
+    (persons / CHAIN_PART).max(SHORT_CHAIN)
 }
 
 // An object that nobody owns and that is as good as a person's best one; nobody if there is none.
@@ -119,19 +105,22 @@ fn bid_on<K: Number, R: Reading<K>>(
     most
 }
 
-// Bids of each person without an object, and of those who lose theirs. Returns their number.
+// Bids of each person without an object, and of those who lose theirs, at most `most` in all and
+// `chain` from one person on. Returns their number.
 pub fn bid_all<K: Number, R: Reading<K>>(
     matrix: &Matrix<'_, K, R>,
     market: &mut Market<'_, K>,
-    terms: Terms<K>,
+    slackness: K,
+    most: usize,
+    chain: usize,
 ) -> usize {
-    let mut left = terms.most;
+    let mut left = most;
     for k in 0..matrix.persons {
         let person = place_at(k);
         if market.object(person) == NOBODY && left > 0 {
-            let most = left.min(terms.chain);
-            left = left.saturating_sub(bid_on(matrix, market, person, terms.slackness, most));
+            let made = bid_on(matrix, market, person, slackness, left.min(chain));
+            left = left.saturating_sub(made);
         }
     }
-    terms.most.saturating_sub(left)
+    most.saturating_sub(left)
 }

@@ -1,6 +1,6 @@
 // Bids and searches over a copy of the costs, for problems of middle size, or over the costs of small
 // ones.
-use super::bids::{Terms, bid_all, give_least};
+use super::bids::{bid_all, give_least, longest_chain};
 use super::market::Market;
 use super::matrix::Matrix;
 use super::number::{Number, greater, lesser};
@@ -83,7 +83,8 @@ fn bid<K: Number, R: Reading<K>>(
     looks: &mut Looks,
 ) -> usize {
     let most = bids_within(matrix, most, looks);
-    let made = bid_all(matrix, market, Terms::exact(matrix.persons, most));
+    let chain = longest_chain(matrix.persons);
+    let made = bid_all(matrix, market, K::zero(), most, chain);
     looks.add(made.saturating_mul(matrix.objects));
     made
 }
@@ -113,12 +114,8 @@ fn is_phase_over<K: Number, R: Reading<K>>(
     let all = matrix.persons.saturating_mul(BIDS_A_PHASE) as u64;
     let left = all.saturating_sub(record.bids) as usize;
     let most = bids_within(matrix, left, looks);
-    let terms = Terms {
-        slackness: K::from_wide(record.slackness),
-        most,
-        chain: most,
-    };
-    let made = bid_all(matrix, market, terms);
+    let slackness = K::from_wide(record.slackness);
+    let made = bid_all(matrix, market, slackness, most, most);
     record.bids = record.bids.saturating_add(made as u64);
     looks.add(made.saturating_mul(matrix.objects));
     made < most || most == left

@@ -1,6 +1,6 @@
 // The whole search, stage by stage.
 use super::auction::auction;
-use super::bids::{Terms, bid_all, give_least};
+use super::bids::{bid_all, give_least, longest_chain};
 use super::cheapest::take_cheapest;
 use super::cores::{resume_cores, solve_by_cores};
 use super::market::Market;
@@ -167,8 +167,8 @@ impl<'a> Work<'a> {
         let left = all.saturating_sub(self.record.bids) as usize;
         let room = self.looks.limit.saturating_sub(self.looks.done) as usize;
         let most = left.min(room / matrix.objects.max(1));
-        let terms = Terms::exact(matrix.persons, most);
-        let made = bid_all(matrix, &mut self.market, terms);
+        let chain = longest_chain(matrix.persons);
+        let made = bid_all(matrix, &mut self.market, 0, most, chain);
         self.record.bids = self.record.bids.saturating_add(made as u64);
         self.looks.add(made.saturating_mul(matrix.objects));
         made > 0 && made == most && most < left
@@ -524,8 +524,8 @@ impl<'a> Work<'a> {
         let looks = settle_all(matrix, &mut self.market);
         self.looks.add(looks);
         let unserved = self.market.unserved();
-        let terms = Terms::exact(matrix.persons, unserved);
-        let made = bid_all(matrix, &mut self.market, terms);
+        let chain = longest_chain(matrix.persons);
+        let made = bid_all(matrix, &mut self.market, 0, unserved, chain);
         self.looks.add(made.saturating_mul(matrix.objects));
         self.record.passes = 1;
     }
