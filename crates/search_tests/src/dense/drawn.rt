@@ -17,6 +17,8 @@ enum Kind {
     Products,
     // Few cheap pairs among dear ones.
     Band,
+    // The objects of the neighbours and the own one, by very different costs.
+    Neighbours,
 }
 
 fn draw_kind(seed: &mut u64) -> Kind {
@@ -49,6 +51,19 @@ fn cost_at(seed: &mut u64, kind: Kind, span: u64, person: usize, object: usize) 
                 1_000_000_000_000
             }
         }
+        Kind::Neighbours => cost_near(person, object),
+    }
+}
+
+fn cost_near(person: usize, object: usize) -> i64 {
+    if person == object {
+        1000
+    } else if person == object.wrapping_add(1) {
+        1
+    } else if object == person.wrapping_add(1) {
+        2000
+    } else {
+        10_000_000
     }
 }
 
@@ -209,15 +224,13 @@ fn larger_problems_end_at_exact_prices(rt: HostRuntime) -> Result<(), Fail> {
     Ok(())
 }
 
-// A problem of persons and as many objects, whose costs follow from their places.
-fn square_of(
-    alloc: Global,
-    persons: usize,
-    cost: fn(usize, usize) -> i64,
-) -> Result<Lists, AllocError> {
+// A problem of persons and as many objects.
+fn square_of(alloc: Global, persons: usize, kind: Kind) -> Result<Lists, AllocError> {
+    let mut seed = 7u64;
     let mut costs = Vec::new(alloc);
     for k in 0..persons.wrapping_mul(persons) {
-        costs.push(cost(k / persons.max(1), k % persons.max(1)))?;
+        let (person, object) = (k / persons.max(1), k % persons.max(1));
+        costs.push(cost_at(&mut seed, kind, 2, person, object))?;
     }
     Ok(Lists {
         sense: Sense::Min,
@@ -243,27 +256,10 @@ fn looks_of(alloc: Global, lists: &Lists, budget: u64) -> Result<u64, AllocError
     Ok(u64::MAX)
 }
 
-// Own objects are dear, those of the person before cheap, and all but three nearly out of reach.
-fn cost_in_band(person: usize, object: usize) -> i64 {
-    if person == object {
-        1000
-    } else if person == object.wrapping_add(1) {
-        1
-    } else if object == person.wrapping_add(1) {
-        2000
-    } else {
-        10_000_000
-    }
-}
-
-fn product(person: usize, object: usize) -> i64 {
-    small(person).wrapping_mul(small(object))
-}
-
 // Bids alone would be a war in which each person takes the next one's object.
 #[test]
 fn a_band_among_dear_pairs_takes_few_passes(rt: HostRuntime) -> Result<(), Fail> {
-    let lists = square_of(rt.alloc(), 120, cost_in_band)?;
+    let lists = square_of(rt.alloc(), 120, Kind::Neighbours)?;
     let pairs = lists.costs.len() as u64;
     let looks = looks_of(rt.alloc(), &lists, 0)?;
     assert!(rt;
@@ -276,7 +272,7 @@ fn a_band_among_dear_pairs_takes_few_passes(rt: HostRuntime) -> Result<(), Fail>
 // Searches that are too long are left for an auction in pieces too.
 #[test]
 fn pieces_look_at_few_more_pairs(rt: HostRuntime) -> Result<(), Fail> {
-    let lists = square_of(rt.alloc(), 120, product)?;
+    let lists = square_of(rt.alloc(), 120, Kind::Products)?;
     let budget = (lists.costs.len() as u64).saturating_mul(3);
     let whole = looks_of(rt.alloc(), &lists, 0)?;
     let pieces = looks_of(rt.alloc(), &lists, budget)?;
