@@ -67,6 +67,23 @@ fn cost_near(person: usize, object: usize) -> i64 {
     }
 }
 
+// The cost of each person and each object, person by person.
+fn costs_of(
+    alloc: Global,
+    seed: &mut u64,
+    kind: Kind,
+    span: u64,
+    persons: usize,
+    objects: usize,
+) -> Result<Vec<i64>, AllocError> {
+    let mut costs = Vec::new(alloc);
+    for k in 0..persons.wrapping_mul(objects) {
+        let (person, object) = (k / objects.max(1), k % objects.max(1));
+        costs.push(cost_at(seed, kind, span, person, object))?;
+    }
+    Ok(costs)
+}
+
 // A problem of at most `most` objects.
 fn draw_lists(alloc: Global, seed: &mut u64, most: u64) -> Result<Lists, AllocError> {
     let objects = (draw_wide(seed, most) & 0xff) as usize + 1;
@@ -79,11 +96,7 @@ fn draw_lists(alloc: Global, seed: &mut u64, most: u64) -> Result<Lists, AllocEr
     };
     let span = SPANS[(draw_wide(seed, 6) % 6) as usize];
     let kind = draw_kind(seed);
-    let mut costs = Vec::new(alloc);
-    for k in 0..persons.wrapping_mul(objects) {
-        let (person, object) = (k / objects.max(1), k % objects.max(1));
-        costs.push(cost_at(seed, kind, span, person, object))?;
-    }
+    let costs = costs_of(alloc, seed, kind, span, persons, objects)?;
     Ok(Lists {
         sense: drawn_sense(seed),
         persons,
@@ -137,7 +150,25 @@ fn draw_record(seed: &mut u64) -> Record {
     }
 }
 
-// Calls of a budget each, up to the end.
+// Calls of a budget each from these prices and objects, up to the end.
+fn call_on(
+    alloc: Global,
+    lists: &Lists,
+    prices: &mut [i64],
+    objects: &mut [u32],
+    record: &mut Record,
+    budget: u64,
+) -> Result<Finding, AllocError> {
+    for _piece in 0..2000 {
+        let found = lists.call(alloc, prices, objects, record, budget)?;
+        if found != Finding::Stopped {
+            return Ok(found);
+        }
+    }
+    Ok(Finding::Stopped)
+}
+
+// Calls of a budget each from anywhere, up to the end.
 fn in_pieces(
     alloc: Global,
     seed: &mut u64,
@@ -147,14 +178,8 @@ fn in_pieces(
 ) -> Result<Finding, AllocError> {
     let (mut prices, mut objects) = draw_start(alloc, seed, lists)?;
     let mut record = record;
-    for _piece in 0..2000 {
-        let (prices, objects) = (prices.as_mut_slice(), objects.as_mut_slice());
-        let found = lists.call(alloc, prices, objects, &mut record, budget)?;
-        if found != Finding::Stopped {
-            return Ok(found);
-        }
-    }
-    Ok(Finding::Stopped)
+    let (prices, objects) = (prices.as_mut_slice(), objects.as_mut_slice());
+    call_on(alloc, lists, prices, objects, &mut record, budget)
 }
 
 #[test]
@@ -226,12 +251,7 @@ fn larger_problems_end_at_exact_prices(rt: HostRuntime) -> Result<(), Fail> {
 
 // A problem of persons and as many objects.
 fn square_of(alloc: Global, persons: usize, kind: Kind) -> Result<Lists, AllocError> {
-    let mut seed = 7u64;
-    let mut costs = Vec::new(alloc);
-    for k in 0..persons.wrapping_mul(persons) {
-        let (person, object) = (k / persons.max(1), k % persons.max(1));
-        costs.push(cost_at(&mut seed, kind, 2, person, object))?;
-    }
+    let costs = costs_of(alloc, &mut 7u64, kind, 2, persons, persons)?;
     Ok(Lists {
         sense: Sense::Min,
         persons,
@@ -245,15 +265,12 @@ fn looks_of(alloc: Global, lists: &Lists, budget: u64) -> Result<u64, AllocError
     let mut prices = vec![in alloc; 0i64; lists.objects]?;
     let mut objects = nobody(alloc, lists.persons)?;
     let mut record = Record::cold();
-    for _piece in 0..2000 {
-        let (prices, objects) = (prices.as_mut_slice(), objects.as_mut_slice());
-        match lists.call(alloc, prices, objects, &mut record, budget)? {
-            Finding::Stopped => {}
-            Finding::Best(_) => return Ok(record.looks),
-            _ => return Ok(u64::MAX),
-        }
-    }
-    Ok(u64::MAX)
+    let (prices, objects) = (prices.as_mut_slice(), objects.as_mut_slice());
+    let found = call_on(alloc, lists, prices, objects, &mut record, budget)?;
+    Ok(match found {
+        Finding::Best(_) => record.looks,
+        _ => u64::MAX,
+    })
 }
 
 // Bids alone would be a war in which each person takes the next one's object.
