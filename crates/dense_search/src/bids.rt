@@ -7,7 +7,7 @@ use super::matrix::Matrix;
 use super::number::Number;
 use super::reading::Reading;
 use super::rows::{two_best, unowned_below};
-use sparse_search::{NOBODY, place_at};
+use sparse_search::{Looks, NOBODY, place_at};
 
 // A chain without slackness, of persons who lose their objects in turn, has at most this part of all
 // persons as bids. A longer one is a war of a few, which a search ends sooner.
@@ -16,7 +16,7 @@ const CHAIN_PART: usize = 16;
 const SHORT_CHAIN: usize = 16;
 
 // The most bids of a chain without slackness.
-pub fn longest_chain(persons: usize) -> usize {
+fn longest_chain(persons: usize) -> usize {
     (persons / CHAIN_PART).max(SHORT_CHAIN)
 }
 
@@ -32,17 +32,20 @@ fn unowned_best<K: Number, R: Reading<K>>(
     unowned_below(&matrix.reading, row, market.prices, owners, limit)
 }
 
-// Gives a person an object that nobody owns and that is as good as its best one, if there is one.
+// Gives a person an object that nobody owns and that is as good as its best one. Returns whether there
+// was one.
 pub fn give_unowned<K: Number, R: Reading<K>>(
     matrix: &Matrix<'_, K, R>,
     market: &mut Market<'_, K>,
     person: u32,
     best: K,
-) {
+) -> bool {
     let object = unowned_best(matrix, market, person, best);
-    if object != NOBODY {
-        market.give(object, person);
+    if object == NOBODY {
+        return false;
     }
+    market.give(object, person);
+    true
 }
 
 // Gives each person an unowned object whose least cost is the person's, if there is one, where prices
@@ -53,7 +56,7 @@ pub fn give_least<K: Number, R: Reading<K>>(
     market: &mut Market<'_, K>,
 ) -> usize {
     for k in 0..matrix.persons {
-        give_unowned(matrix, market, place_at(k), K::zero());
+        let _ = give_unowned(matrix, market, place_at(k), K::zero());
     }
     matrix.pairs()
 }
@@ -69,8 +72,7 @@ fn bid<K: Number, R: Reading<K>>(
     let two = two_best(&matrix.reading, matrix.row(person), market.prices);
     let (gap, owner) = (two.gap().plus(slackness), market.owner(two.object));
     if !K::zero().is_below(gap) && owner != NOBODY {
-        give_unowned(matrix, market, person, two.best);
-        if market.object(person) == NOBODY {
+        if !give_unowned(matrix, market, person, two.best) {
             market.release(owner);
             market.give(two.object, person);
         }
@@ -123,4 +125,28 @@ pub fn bid_all<K: Number, R: Reading<K>>(
         }
     }
     most.saturating_sub(left)
+}
+
+// As many bids as the looks allow, and no more than these.
+pub fn bids_within<K: Number, R: Reading<K>>(
+    matrix: &Matrix<'_, K, R>,
+    most: usize,
+    looks: &Looks,
+) -> usize {
+    let room = looks.limit.saturating_sub(looks.done) as usize;
+    most.min(room / matrix.objects.max(1))
+}
+
+// At most so many bids without slackness, as far as the looks allow. Returns their number.
+pub fn bid_without_slackness<K: Number, R: Reading<K>>(
+    matrix: &Matrix<'_, K, R>,
+    market: &mut Market<'_, K>,
+    most: usize,
+    looks: &mut Looks,
+) -> usize {
+    let most = bids_within(matrix, most, looks);
+    let chain = longest_chain(matrix.persons);
+    let made = bid_all(matrix, market, K::zero(), most, chain);
+    looks.add(made.saturating_mul(matrix.objects));
+    made
 }

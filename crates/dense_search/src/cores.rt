@@ -16,7 +16,9 @@ const PASSES: u64 = 20;
 // where a call stops.
 const PASSES_A_CORE: u64 = 8;
 
-// So many persons, as a part of all, are many.
+// More persons than a half are most, and more than this part are many.
+const MOST: u64 = 2;
+
 const MANY: u64 = 8;
 
 // What is taken from all costs of a core, and the factor that the rest has in common.
@@ -157,7 +159,7 @@ fn grow<R: Reading<i64>>(
     looks: &mut Looks,
 ) -> Result<Core, AllocError> {
     let grown = merge(alloc, core, &better.core, matrix.persons)?;
-    if !are_most(matrix, better) || matrix.persons < matrix.objects {
+    if !has_over(matrix, better, MOST) || matrix.persons < matrix.objects {
         return Ok(grown);
     }
     let others = pick_by_means(alloc, matrix)?;
@@ -165,9 +167,9 @@ fn grow<R: Reading<i64>>(
     merge(alloc, &grown, &others, matrix.persons)
 }
 
-// Whether most persons have better pairs.
-fn are_most<R: Reading<i64>>(matrix: &Matrix<'_, i64, R>, better: &Better) -> bool {
-    better.persons > matrix.persons as u64 / 2
+// Whether more persons than this part of all have better pairs.
+fn has_over<R: Reading<i64>>(matrix: &Matrix<'_, i64, R>, better: &Better, part: u64) -> bool {
+    better.persons > (matrix.persons as u64).checked_div(part).unwrap_or(0)
 }
 
 // How cores end, where not much fewer persons have better pairs than before. Searches over a copy, if
@@ -179,20 +181,19 @@ fn end_of_cores<R: Reading<i64>>(
     before: u64,
     may_copy: bool,
 ) -> Option<Ended> {
-    let is_first = before == 0;
+    if before == 0 {
+        let is_long = may_copy && has_over(matrix, better, MOST);
+        return is_long.then_some(Ended::Long);
+    }
     if better.persons < before / 5 * 3 {
         return None;
     }
-    let are_many = better.persons > matrix.persons as u64 / MANY;
-    let is_long = if may_copy && !is_first {
-        are_many
+    let part = if may_copy { MANY } else { MOST };
+    Some(if has_over(matrix, better, part) {
+        Ended::Long
     } else {
-        are_most(matrix, better)
-    };
-    if is_long && (may_copy || !is_first) {
-        return Some(Ended::Long);
-    }
-    if is_first { None } else { Some(Ended::Near) }
+        Ended::Near
+    })
 }
 
 // Solves a core, and larger ones, until no pair beats the prices. `Long` if most persons have better
@@ -265,7 +266,7 @@ pub fn resume_cores<R: Reading<i64>>(
     if around.persons == 0 {
         return Ok(Ended::Served);
     }
-    if record.passes > 1 && are_most(matrix, &around) {
+    if record.passes > 1 && has_over(matrix, &around, MOST) {
         return Ok(Ended::Long);
     }
     solve_from(alloc, matrix, market, record, looks, around.core, false)

@@ -1,6 +1,6 @@
 // Bids and searches over a copy of the costs, for problems of middle size, or over the costs of small
 // ones.
-use super::bids::{bid_all, give_least, longest_chain};
+use super::bids::{bid_all, bid_without_slackness, bids_within, give_least};
 use super::market::Market;
 use super::matrix::Matrix;
 use super::number::{Number, greater, lesser};
@@ -43,16 +43,6 @@ fn spread_of<K: Number, R: Reading<K>>(matrix: &Matrix<'_, K, R>) -> i64 {
     greatest.minus(least).wide()
 }
 
-// As many bids as the looks allow, and no more than these.
-fn bids_within<K: Number, R: Reading<K>>(
-    matrix: &Matrix<'_, K, R>,
-    most: usize,
-    looks: &Looks,
-) -> usize {
-    let room = looks.limit.saturating_sub(looks.done) as usize;
-    most.min(room / matrix.objects.max(1))
-}
-
 // First prices, and bids without slackness.
 fn begin_paths<K: Number, R: Reading<K>>(
     matrix: &Matrix<'_, K, R>,
@@ -62,31 +52,18 @@ fn begin_paths<K: Number, R: Reading<K>>(
 ) {
     market.release_all();
     looks.add(begin(matrix, market.prices));
-    let made = bid(matrix, market, matrix.persons / TRIAL, looks);
+    let made = bid_without_slackness(matrix, market, matrix.persons / TRIAL, looks);
     let served = matrix.persons.saturating_sub(market.unserved());
     if matrix.persons == matrix.objects && served < made / POOR {
         market.release_all();
         looks.add(begin(matrix, market.prices));
         looks.add(give_least(matrix, market));
     }
-    let _ = bid(matrix, market, matrix.persons.saturating_mul(BIDS), looks);
+    let most = matrix.persons.saturating_mul(BIDS);
+    let _ = bid_without_slackness(matrix, market, most, looks);
     record.passes = 0;
     record.bids = 0;
     record.stage = Stage::CopyPaths;
-}
-
-// At most so many bids without slackness, as far as the looks allow. Returns their number.
-fn bid<K: Number, R: Reading<K>>(
-    matrix: &Matrix<'_, K, R>,
-    market: &mut Market<'_, K>,
-    most: usize,
-    looks: &mut Looks,
-) -> usize {
-    let most = bids_within(matrix, most, looks);
-    let chain = longest_chain(matrix.persons);
-    let made = bid_all(matrix, market, K::zero(), most, chain);
-    looks.add(made.saturating_mul(matrix.objects));
-    made
 }
 
 fn begin_auction<K: Number, R: Reading<K>>(
@@ -199,7 +176,8 @@ fn search_from<K: Number, R: Reading<K>>(
         if !auction(matrix, market, record, looks) {
             return Ok(Ended::Stopped);
         }
-        let _ = bid(matrix, market, matrix.persons.saturating_mul(BIDS), looks);
+        let most = matrix.persons.saturating_mul(BIDS);
+        let _ = bid_without_slackness(matrix, market, most, looks);
         record.stage = Stage::CopyFinish;
     }
     serve_by_rows(alloc, matrix, market, u64::MAX, looks)

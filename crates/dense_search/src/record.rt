@@ -46,7 +46,8 @@ pub struct Record {
     /// Costs count two to this power, and prices are in this unit.
     pub shift: u32,
     pub slackness: i64,
-    /// The bids of this phase of the auction.
+    /// The bids of this phase of the auction; before an auction over a copy, the searches of earlier
+    /// calls.
     pub bids: u64,
     /// How often a core was solved; of searches, the passes over all pairs that they took so far.
     pub passes: u64,

@@ -22,7 +22,7 @@ fn settle<R: Reading<i64>>(matrix: &Matrix<'_, i64, R>, market: &mut Market<'_, 
     if market.owner(two.object) == NOBODY {
         market.give(two.object, person);
     } else if two.gap() == 0 {
-        give_unowned(matrix, market, person, two.best);
+        let _ = give_unowned(matrix, market, person, two.best);
     }
 }
 

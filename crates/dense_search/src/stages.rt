@@ -1,6 +1,6 @@
 // The whole search, stage by stage.
 use super::auction::auction;
-use super::bids::{bid_all, give_least, longest_chain};
+use super::bids::{bid_without_slackness, bids_within, give_least};
 use super::cheapest::take_cheapest;
 use super::cores::{resume_cores, solve_by_cores};
 use super::market::Market;
@@ -61,13 +61,30 @@ fn first_bids<R: Reading<i64>>(matrix: &Matrix<'_, i64, R>) -> usize {
 }
 
 // The looks after which a core is as fast as searches.
-fn most_looks<R: Reading<i64>>(matrix: &Matrix<'_, i64, R>) -> u64 {
+fn looks_of_core<R: Reading<i64>>(matrix: &Matrix<'_, i64, R>) -> u64 {
     if matrix.pairs() < SMALL {
         return u64::MAX;
     }
     let persons = (matrix.persons as u64).saturating_mul(CORE_LOOKS);
     let passes = (matrix.pairs() as u64).saturating_mul(CORE_PASSES);
     persons.saturating_add(passes)
+}
+
+// Searches before a core, and from its prices.
+#[derive(Clone, Copy)]
+enum Searches {
+    First,
+    AfterCore,
+}
+
+impl Searches {
+    // The looks that they may take in all calls.
+    fn most_looks<R: Reading<i64>>(self, matrix: &Matrix<'_, i64, R>) -> u64 {
+        match self {
+            Searches::First => looks_of_core(matrix),
+            Searches::AfterCore => (matrix.pairs() as u64).saturating_mul(RETRY_PASSES),
+        }
+    }
 }
 
 // Whether searches over a copy in 32 bits are fastest. With many more objects than persons few pairs
@@ -165,13 +182,9 @@ impl<'a> Work<'a> {
     fn bid_first<R: Reading<i64>>(&mut self, matrix: &Matrix<'_, i64, R>) -> bool {
         let all = matrix.persons.saturating_mul(first_bids(matrix)) as u64;
         let left = all.saturating_sub(self.record.bids) as usize;
-        let room = self.looks.limit.saturating_sub(self.looks.done) as usize;
-        let most = left.min(room / matrix.objects.max(1));
-        let chain = longest_chain(matrix.persons);
-        let made = bid_all(matrix, &mut self.market, 0, most, chain);
+        let made = bid_without_slackness(matrix, &mut self.market, left, &mut self.looks);
         self.record.bids = self.record.bids.saturating_add(made as u64);
-        self.looks.add(made.saturating_mul(matrix.objects));
-        made > 0 && made == most && most < left
+        made > 0 && made < left && bids_within(matrix, 1, &self.looks) == 0
     }
 
     fn begin_cold<R: Reading<i64>>(
@@ -185,15 +198,11 @@ impl<'a> Work<'a> {
             }
         }
         self.market.release_all();
-        let looks = begin(matrix, self.market.prices);
-        self.looks.add(looks);
+        self.looks.add(begin(matrix, self.market.prices));
         if matrix.persons == matrix.objects {
-            let looks = give_least(matrix, &mut self.market);
-            self.looks.add(looks);
-        }
-        if matrix.persons < matrix.objects / 8 {
-            let looks = take_cheapest(matrix, &mut self.market);
-            self.looks.add(looks);
+            self.looks.add(give_least(matrix, &mut self.market));
+        } else if matrix.persons < matrix.objects / 8 {
+            self.looks.add(take_cheapest(matrix, &mut self.market));
         }
         Ok(self.begin_paths())
     }
@@ -324,35 +333,26 @@ impl<'a> Work<'a> {
         Ok(self.begin_paths())
     }
 
-    // Searches for all persons from the first bids, as far as a core isn't as fast.
-    fn serve_first<R: Reading<i64>>(
+    // Searches for all persons: first from the bids, as far as a core isn't as fast; then from a core,
+    // by scans of whole rows, since they reach most objects.
+    fn serve<R: Reading<i64>>(
         &mut self,
         alloc: Global,
         matrix: &Matrix<'_, i64, R>,
+        searches: Searches,
     ) -> Result<Ended, AllocError> {
-        let before = self.looks.done;
-        let allowed = Allowance {
-            most: self.record.left_of(most_looks(matrix), matrix.pairs()),
-            is_growing: true,
+        let (before, pairs) = (self.looks.done, matrix.pairs());
+        let most = self.record.left_of(searches.most_looks(matrix), pairs);
+        let (market, looks) = (&mut self.market, &mut self.looks);
+        let ended = match searches {
+            Searches::First => {
+                let is_growing = true;
+                serve_all(alloc, matrix, market, Allowance { most, is_growing }, looks)?
+            }
+            Searches::AfterCore => serve_by_rows(alloc, matrix, market, most, looks)?,
         };
-        let ended = serve_all(alloc, matrix, &mut self.market, allowed, &mut self.looks)?;
-        let looks = self.looks.done.saturating_sub(before);
-        self.record.count_passes(ended, looks, matrix.pairs());
-        Ok(ended)
-    }
-
-    // Searches for all persons after a core. They reach most objects, so they scan whole rows.
-    fn serve_again<R: Reading<i64>>(
-        &mut self,
-        alloc: Global,
-        matrix: &Matrix<'_, i64, R>,
-    ) -> Result<Ended, AllocError> {
-        let before = self.looks.done;
-        let most = (matrix.pairs() as u64).saturating_mul(RETRY_PASSES);
-        let most = self.record.left_of(most, matrix.pairs());
-        let ended = serve_by_rows(alloc, matrix, &mut self.market, most, &mut self.looks)?;
-        let looks = self.looks.done.saturating_sub(before);
-        self.record.count_passes(ended, looks, matrix.pairs());
+        let taken = self.looks.done.saturating_sub(before);
+        self.record.count_passes(ended, taken, pairs);
         Ok(ended)
     }
 
@@ -391,7 +391,7 @@ impl<'a> Work<'a> {
         if self.bid_first(matrix) {
             return Ok(Step::End(Outcome::Stopped));
         }
-        let ended = self.serve_first(alloc, matrix)?;
+        let ended = self.serve(alloc, matrix, Searches::First)?;
         if let Ended::Long = ended {
             self.kept = Some(Kept::of(alloc, &self.market)?);
         }
@@ -481,10 +481,9 @@ impl<'a> Work<'a> {
             }
         }
         if !self.swap_kept() && self.record.passes == 0 {
-            let looks = settle_all(matrix, &mut self.market);
-            self.looks.add(looks);
+            self.looks.add(settle_all(matrix, &mut self.market));
         }
-        let ended = self.serve_again(alloc, matrix)?;
+        let ended = self.serve(alloc, matrix, Searches::AfterCore)?;
         match ended {
             Ended::Long => {
                 let _ = self.swap_kept();
@@ -521,12 +520,9 @@ impl<'a> Work<'a> {
 
     // Who keeps or takes a best object, in the unit of the prices, and bids of the others.
     fn begin_finish<R: Reading<i64>>(&mut self, matrix: &Matrix<'_, i64, R>) {
-        let looks = settle_all(matrix, &mut self.market);
-        self.looks.add(looks);
+        self.looks.add(settle_all(matrix, &mut self.market));
         let unserved = self.market.unserved();
-        let chain = longest_chain(matrix.persons);
-        let made = bid_all(matrix, &mut self.market, 0, unserved, chain);
-        self.looks.add(made.saturating_mul(matrix.objects));
+        let _ = bid_without_slackness(matrix, &mut self.market, unserved, &mut self.looks);
         self.record.passes = 1;
     }
 
@@ -587,8 +583,7 @@ impl<'a> Work<'a> {
         }
         self.is_resumed = false;
         self.market.enter_objects();
-        let looks = settle_all(matrix, &mut self.market);
-        self.looks.add(looks);
+        self.looks.add(settle_all(matrix, &mut self.market));
         self.market.unserved() == 0 && !self.market.has_dear_unowned()
     }
 

@@ -4,9 +4,11 @@ use super::looks::Looks;
 use super::record::Record;
 
 // The numbers come from measurements; no answer depends on them. They are looks for each pair.
-// The most looks in all where searches grow longer, as in random problems, or begin from prices.
+// The most looks in all where searches grow longer, as in random problems.
 const GROWING: u64 = 5;
-// The most looks in all where they don't, as among neighbours, where a few long ones come first.
+// The most looks in all where they don't, but begin from prices.
+const WARM: u64 = 16;
+// The most looks in all where neither is so, as among neighbours, where a few long ones come first.
 const STEADY: u64 = 40;
 // The looks before which steady searches go on with a forecast up to this one.
 const GRACE: u64 = 4;
@@ -117,7 +119,7 @@ impl Forecast {
         let expected = spent.saturating_add(self.all.looks_of(left));
         let is_early = spent <= GRACE.saturating_mul(self.pairs);
         let most = match (self.is_warm, is_early) {
-            (true, _) => GROWING,
+            (true, _) => WARM,
             (false, true) => GRACE_FORECAST,
             (false, false) => STEADY,
         };

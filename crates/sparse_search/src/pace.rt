@@ -1,6 +1,9 @@
 // Whether searches are worth going on with: their pace so far says how many looks all will take.
 use super::looks::Looks;
 
+// A part has at least so many searches, since a few long ones say little of the others.
+const FEWEST: u64 = 32;
+
 /// The pace of a run of searches.
 #[derive(Clone, Copy)]
 pub struct Pace {
@@ -18,7 +21,7 @@ impl Pace {
         Pace {
             first: looks.done,
             part: looks.done,
-            width: (searches as u64 / 16).max(16),
+            width: (searches as u64 / 16).max(FEWEST),
             ended: 0,
             most,
         }
