@@ -1,11 +1,11 @@
 """The files that the command writes: each whole, or not at all."""
-import contextlib
 import os
-import signal
 import stat
 import sys
 import tempfile
-from typing import BinaryIO, Iterator, NamedTuple, Sequence, Tuple, Union
+from typing import BinaryIO, NamedTuple, Sequence, Tuple, Union
+
+from .interrupts import interrupts_raise
 
 KINDS = ("csv", "json", "html", "xlsx")
 STANDARD_OUTPUT = ("/dev/stdout", "/dev/fd/1", "/proc/self/fd/1")
@@ -49,22 +49,9 @@ def make_folder(path: str) -> None:
 
 def write_files(contents: Sequence[Tuple[str, bytes]], force: bool) -> None:
     """Writes files, one after the other. While it does Ctrl-C raises, so that what is half written is removed."""
-    with _interrupts_raise():
+    with interrupts_raise():
         for path, content in contents:
             write_file(path, content, force)
-
-
-@contextlib.contextmanager
-def _interrupts_raise() -> Iterator[None]:
-    before = signal.getsignal(signal.SIGINT)
-    if before is not signal.SIG_DFL:
-        yield
-        return
-    signal.signal(signal.SIGINT, signal.default_int_handler)
-    try:
-        yield
-    finally:
-        signal.signal(signal.SIGINT, before)
 
 
 def write_file(path: str, content: bytes, force: bool) -> None:

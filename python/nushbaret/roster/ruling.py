@@ -1,13 +1,12 @@
 """The command with rules: what is read, and what is shown while a plan is found."""
 import contextlib
-import signal
 import sys
-import threading
 from typing import Callable, Iterator, List, NamedTuple, Optional, Sequence, Tuple
 
 from .answer import Answer, Request, counted, listed
 from .by_rules import COSTS, Progress, Proved, Task, answer_by_rules
 from .groups import Broken, Paired
+from .interrupts import interrupts_raise
 from .month import Before, Month, month_of, undated
 from .output.rule_texts import halves
 from .roster import Roster, named_pairs
@@ -64,25 +63,11 @@ def answered_by(ruling: Ruling, roster: Roster, request: Request, options: Optio
     Raises `WordsFault` where SciPy isn't installed.
     """
     seconds = DEFAULT_SECONDS if options.time is None else options.time
-    with _interruptible(), _shown(roster, options) as progress:
+    with interrupts_raise(), _shown(roster, options) as progress:
         try:
             return answer_by_rules(Task(roster, ruling.month, ruling.rules, request, seconds, (), progress))
         except ImportError as fault:
             raise WordsFault(str(fault)) from fault
-
-
-@contextlib.contextmanager
-def _interruptible() -> Iterator[None]:
-    """Lets Ctrl-C raise, so that what finds in a process of its own is ended too."""
-    is_main = threading.current_thread() is threading.main_thread()
-    if not is_main or signal.getsignal(signal.SIGINT) is not signal.SIG_DFL:
-        yield
-        return
-    signal.signal(signal.SIGINT, signal.default_int_handler)
-    try:
-        yield
-    finally:
-        signal.signal(signal.SIGINT, signal.SIG_DFL)
 
 
 @contextlib.contextmanager
