@@ -22,7 +22,7 @@ enum Start {
 // A record that no search wrote, mostly.
 fn drawn_record(seed: &mut u64) -> Record {
     Record {
-        stage: draw(seed, 10),
+        stage: draw(seed, 19),
         shift: draw(seed, 70),
         slackness: drawn_cost(seed, 3),
         bids: u64::from(draw(seed, 100)),
