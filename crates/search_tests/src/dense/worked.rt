@@ -1,7 +1,18 @@
 // Problems worked by hand, and lists that don't fit.
 use assign_core::Sense;
 use dense_search::{DenseProblem, NOBODY, Outcome, Record, search};
+use std::alloc::{AllocError, Global};
 use std::test::Fail;
+
+// How a search from nothing ends.
+fn search_cold(
+    alloc: Global,
+    problem: DenseProblem<'_>,
+    prices: &mut [i64],
+    objects: &mut [u32],
+) -> Result<Outcome, AllocError> {
+    search(alloc, problem, prices, objects, &mut Record::cold(), 0)
+}
 
 // Both persons like object 0 best. Person 0 pays 4 more elsewhere and person 1 pays 7 more, so
 // person 0 gives way: 5 + 2. Object 2 is nobody's.
@@ -14,15 +25,7 @@ fn two_persons_and_three_objects(rt: HostRuntime) -> Result<(), Fail> {
         costs: &[1, 5, 6, 2, 9, 20],
     };
     let (mut prices, mut objects) = ([0i64; 3], [NOBODY; 2]);
-    let mut record = Record::cold();
-    let outcome = search(
-        rt.alloc(),
-        problem,
-        &mut prices,
-        &mut objects,
-        &mut record,
-        0,
-    )?;
+    let outcome = search_cold(rt.alloc(), problem, &mut prices, &mut objects)?;
     assert!(rt; matches!(outcome, Outcome::Best));
     assert_eq!(rt; objects, [1, 0]);
     assert_eq!(rt; prices[2], 0);
@@ -39,15 +42,7 @@ fn the_greatest_total(rt: HostRuntime) -> Result<(), Fail> {
         costs: &[4, 7, 5, 6],
     };
     let (mut prices, mut objects) = ([0i64; 2], [NOBODY; 2]);
-    let mut record = Record::cold();
-    let outcome = search(
-        rt.alloc(),
-        problem,
-        &mut prices,
-        &mut objects,
-        &mut record,
-        0,
-    )?;
+    let outcome = search_cold(rt.alloc(), problem, &mut prices, &mut objects)?;
     assert!(rt; matches!(outcome, Outcome::Best));
     assert_eq!(rt; objects, [1, 0]);
     Ok(())
@@ -63,22 +58,14 @@ fn lists_that_do_not_fit(rt: HostRuntime) -> Result<(), Fail> {
         costs: &[4, 7, 5],
     };
     let (mut prices, mut objects) = ([0i64; 2], [NOBODY; 2]);
-    let mut record = Record::cold();
-    let outcome = search(
-        rt.alloc(),
-        problem,
-        &mut prices,
-        &mut objects,
-        &mut record,
-        0,
-    )?;
+    let outcome = search_cold(rt.alloc(), problem, &mut prices, &mut objects)?;
     assert!(rt; matches!(outcome, Outcome::Lost));
     let whole = DenseProblem {
         costs: &[4, 7, 5, 6],
         ..problem
     };
     let mut more = [0i64; 3];
-    let outcome = search(rt.alloc(), whole, &mut more, &mut objects, &mut record, 0)?;
+    let outcome = search_cold(rt.alloc(), whole, &mut more, &mut objects)?;
     assert!(rt; matches!(outcome, Outcome::Lost));
     Ok(())
 }

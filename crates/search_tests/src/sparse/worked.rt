@@ -1,10 +1,34 @@
 // Problems worked by hand, and lists that don't fit.
 use super::judged::judge;
-use sparse_search::{NOBODY, Outcome, Pair, Record, SparseProblem, search};
+use sparse_search::{HallSet, NOBODY, Outcome, Pair, Record, SparseProblem, search};
+use std::alloc::{AllocError, Global};
 use std::test::Fail;
 
 fn pair(object: u32, cost: i64) -> Pair {
     Pair { object, cost }
+}
+
+// How a search from nothing ends.
+fn search_cold(
+    alloc: Global,
+    problem: SparseProblem<'_>,
+    prices: &mut [i64],
+    objects: &mut [u32],
+) -> Result<Outcome, AllocError> {
+    search(alloc, problem, prices, objects, &mut Record::cold(), 0)
+}
+
+// The Hall set that it ends with.
+fn hall_set(
+    alloc: Global,
+    problem: SparseProblem<'_>,
+    prices: &mut [i64],
+    objects: &mut [u32],
+) -> Result<Option<HallSet>, AllocError> {
+    match search_cold(alloc, problem, prices, objects)? {
+        Outcome::Hall(set) => Ok(Some(set)),
+        Outcome::Best | Outcome::Stopped | Outcome::Lost => Ok(None),
+    }
 }
 
 // Two persons want object 0 (costs 1 and 2; the others 5 and 9): the first gives way, 5 + 2.
@@ -18,14 +42,7 @@ fn two_persons_and_three_objects(rt: HostRuntime) -> Result<(), Fail> {
     };
     let mut prices = [0i64; 3];
     let mut objects = [NOBODY; 2];
-    let outcome = search(
-        rt.alloc(),
-        problem,
-        &mut prices,
-        &mut objects,
-        &mut Record::cold(),
-        0,
-    )?;
+    let outcome = search_cold(rt.alloc(), problem, &mut prices, &mut objects)?;
     assert!(rt; matches!(outcome, Outcome::Best));
     assert_eq!(rt; objects, [1, 0]);
     assert_eq!(rt; judge(rt.alloc(), problem, &prices, &objects)?, Some(7));
@@ -51,20 +68,11 @@ fn three_persons_for_two_objects(rt: HostRuntime) -> Result<(), Fail> {
     };
     let mut prices = [0i64; 4];
     let mut objects = [NOBODY; 4];
-    match search(
-        rt.alloc(),
-        problem,
-        &mut prices,
-        &mut objects,
-        &mut Record::cold(),
-        0,
-    )? {
-        Outcome::Hall(set) => {
-            assert_eq!(rt; set.persons.as_slice(), [0, 1, 3].as_slice());
-            assert_eq!(rt; set.objects.as_slice(), [1, 2].as_slice());
-        }
-        Outcome::Best | Outcome::Stopped | Outcome::Lost => assert!(rt; false),
-    }
+    let Some(set) = hall_set(rt.alloc(), problem, &mut prices, &mut objects)? else {
+        return Err("no Hall set".into());
+    };
+    assert_eq!(rt; set.persons.as_slice(), [0, 1, 3].as_slice());
+    assert_eq!(rt; set.objects.as_slice(), [1, 2].as_slice());
     Ok(())
 }
 
@@ -78,20 +86,11 @@ fn a_person_without_pairs_is_a_hall_set(rt: HostRuntime) -> Result<(), Fail> {
     };
     let mut prices = [0i64; 2];
     let mut objects = [NOBODY; 2];
-    match search(
-        rt.alloc(),
-        problem,
-        &mut prices,
-        &mut objects,
-        &mut Record::cold(),
-        0,
-    )? {
-        Outcome::Hall(set) => {
-            assert_eq!(rt; set.persons.as_slice(), [1].as_slice());
-            assert!(rt; set.objects.is_empty());
-        }
-        Outcome::Best | Outcome::Stopped | Outcome::Lost => assert!(rt; false),
-    }
+    let Some(set) = hall_set(rt.alloc(), problem, &mut prices, &mut objects)? else {
+        return Err("no Hall set".into());
+    };
+    assert_eq!(rt; set.persons.as_slice(), [1].as_slice());
+    assert!(rt; set.objects.is_empty());
     Ok(())
 }
 
@@ -106,36 +105,15 @@ fn lists_that_do_not_fit(rt: HostRuntime) -> Result<(), Fail> {
     };
     let mut prices = [0i64; 2];
     let mut objects = [NOBODY; 2];
-    let short = search(
-        rt.alloc(),
-        problem,
-        &mut prices,
-        &mut objects[..1],
-        &mut Record::cold(),
-        0,
-    )?;
+    let short = search_cold(rt.alloc(), problem, &mut prices, &mut objects[..1])?;
     assert!(rt; matches!(short, Outcome::Lost));
-    let beyond = search(
-        rt.alloc(),
-        problem,
-        &mut prices,
-        &mut objects,
-        &mut Record::cold(),
-        0,
-    )?;
+    let beyond = search_cold(rt.alloc(), problem, &mut prices, &mut objects)?;
     assert!(rt; !matches!(beyond, Outcome::Best));
     let torn = SparseProblem {
         starts: &[0, 9, 1],
         ..problem
     };
-    let torn = search(
-        rt.alloc(),
-        torn,
-        &mut prices,
-        &mut objects,
-        &mut Record::cold(),
-        0,
-    )?;
+    let torn = search_cold(rt.alloc(), torn, &mut prices, &mut objects)?;
     assert!(rt; !matches!(torn, Outcome::Best));
     Ok(())
 }
