@@ -1,9 +1,10 @@
 // Whether a listed object is better than the own one, in rows of costs.
-ghost use Rattle.std.specs.Prelude.{◌≡◌, ◌<◌, ◌≤◌, ◌≤ℤ◌, ◌<ℤ◌, ℕ, length, All, MatchOption};
+ghost use Rattle.std.specs.Prelude.{◌≡◌, ◌↔◌, ◌<◌, ◌≤◌, ◌≤ℤ◌, ◌<ℤ◌, ◌+ℤ◌, ℕ, IsTrue, length, All, MatchOption};
 ghost use Rattle.assign_core.specs.Dense.{rows_cut};
 ghost use Rattle.assign_core.specs.Rows.{IsCost};
 ghost use Rattle.dual_checker.specs.Faults.{IsFirst};
 ghost use Rattle.cost_lists.specs.Exact.{IsPriceInLimits};
+ghost use Rattle.cost_lists.specs.Own.{minimised};
 ghost use Rattle.cost_lists.specs.Source.{AreCosts};
 ghost use Rattle.exact_checker.specs.inside.Sums.{HasUnder, IsUnder, sum_at};
 
@@ -11,18 +12,29 @@ use super::values::sum_of;
 use assign_core::{Cost, Sense};
 use cost_lists::{GREATEST_NUMBER, Object, Person, Price, part};
 
-// A value that no sum of cost and price in a row is below.
-fn least_sum(costs: &[Cost], prices: &[Price], sense: Sense) -> Cost
+// Whether the sum of a cost and a price is at least a value.
+fn reaches(sense: Sense, cost: Cost, price: Price, value: Cost) -> bool
+    requires cost { IsCost cost }
+    requires price { IsPriceInLimits price }
+    ensures { IsTrue result ↔ (value ≤ℤ (minimised sense cost +ℤ price)) }
+{
+    value <= sum_of(sense, cost, price)
+}
+
+// Whether each sum of cost and price in a row is at least a value. It reads on after one that isn't,
+// so that several are looked at in one step.
+fn all_reach(costs: &[Cost], prices: &[Price], sense: Sense, value: Cost) -> bool
     requires long { length costs.now ≡ length prices.now }
     requires costs { All IsCost costs.now }
     requires in_range { All IsPriceInLimits prices.now }
-    ensures { (j : ℕ) → j < length costs.now → result ≤ℤ sum_at sense costs.now prices.now j }
+    ensures { IsTrue result → (j : ℕ) → j < length costs.now
+        → value ≤ℤ sum_at sense costs.now prices.now j }
 {
-    let mut least = i64::MAX;
+    let mut all = true;
     for j in 0..costs.len() {
-        least = least.min(sum_of(sense, costs[j], prices[j]));
+        all = reaches(sense, costs[j], prices[j], value) & all;
     }
-    least
+    all
 }
 
 // The lowest place of a row at which the sum of cost and price is below a value.
@@ -35,11 +47,11 @@ fn first_under(costs: &[Cost], prices: &[Price], sense: Sense, value: Cost) -> O
         (λ k. (k < length costs.now) × (sum_at sense costs.now prices.now k <ℤ value)
         × ((j : ℕ) → j < k → value ≤ℤ sum_at sense costs.now prices.now j)) }
 {
-    if least_sum(costs, prices, sense) >= value {
+    if all_reach(costs, prices, sense, value) {
         return None;
     }
     for j in 0..costs.len() {
-        if sum_of(sense, costs[j], prices[j]) < value {
+        if !reaches(sense, costs[j], prices[j], value) {
             return Some(j);
         }
     }
