@@ -198,7 +198,8 @@ impl<'a> Work<'a> {
             }
         }
         self.market.release_all();
-        self.looks.add(begin(matrix, self.market.prices));
+        let looks = begin(matrix, self.market.prices);
+        self.looks.add(looks);
         if matrix.persons == matrix.objects {
             self.looks.add(give_least(matrix, &mut self.market));
         } else if matrix.persons < matrix.objects / 8 {
