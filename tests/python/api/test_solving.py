@@ -1,12 +1,12 @@
 """Drawn problems compared with a slow search, and what results and proofs are made of."""
 import pickle
-import threading
 import unittest
 from array import array
 from decimal import Decimal
 from fractions import Fraction
 
 import nushbaret
+from at_once import in_eight_threads
 from drawn import best, drawing, matrix, proves
 
 
@@ -235,11 +235,7 @@ class Results(unittest.TestCase):
             if [nushbaret.solve(costs).cost for costs in problems] != wanted:
                 wrong.append(True)
 
-        threads = [threading.Thread(target=work) for _ in range(8)]
-        for thread in threads:
-            thread.start()
-        for thread in threads:
-            thread.join()
+        in_eight_threads(work)
         self.assertFalse(wrong)
 
 

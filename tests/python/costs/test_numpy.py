@@ -1,10 +1,10 @@
 """Costs in NumPy's arrays: kinds, layouts, what comes back; and, where SciPy is there, drawn problems compared with its
 solver."""
-import threading
 import unittest
 from decimal import Decimal
 
 import nushbaret
+from at_once import in_eight_threads
 from optional import np, optimize, sparse
 
 
@@ -69,11 +69,7 @@ class Arrays(unittest.TestCase):
                                                                                for rows, _ in found):
                     wrong.append(True)
 
-        threads = [threading.Thread(target=work) for _ in range(8)]
-        for thread in threads:
-            thread.start()
-        for thread in threads:
-            thread.join()
+        in_eight_threads(work)
         self.assertFalse(wrong)
 
     def test_what_is_not_whole_goes_the_longer_way(self):
