@@ -109,7 +109,7 @@ fn bid_on<K: Number, R: Reading<K>>(
 
 // Bids of each person without an object, and of those who lose theirs, at most `most` in all and
 // `chain` from one person on. Returns their number.
-pub fn bid_all<K: Number, R: Reading<K>>(
+fn bid_all<K: Number, R: Reading<K>>(
     matrix: &Matrix<'_, K, R>,
     market: &mut Market<'_, K>,
     slackness: K,
@@ -127,14 +127,30 @@ pub fn bid_all<K: Number, R: Reading<K>>(
     most.saturating_sub(left)
 }
 
-// As many bids as the looks allow, and no more than these.
-pub fn bids_within<K: Number, R: Reading<K>>(
+// As many bids as the looks allow.
+fn bids_within<K: Number, R: Reading<K>>(matrix: &Matrix<'_, K, R>, looks: &Looks) -> usize {
+    looks.left() as usize / matrix.objects.max(1)
+}
+
+// At most so many bids of a slackness, as far as the looks allow; a chain without slackness has few.
+// Returns whether the looks ended them, and their number.
+pub fn bid_within<K: Number, R: Reading<K>>(
     matrix: &Matrix<'_, K, R>,
+    market: &mut Market<'_, K>,
+    slackness: K,
     most: usize,
-    looks: &Looks,
-) -> usize {
-    let room = looks.limit.saturating_sub(looks.done) as usize;
-    most.min(room / matrix.objects.max(1))
+    looks: &mut Looks,
+) -> (bool, usize) {
+    let allowed = most.min(bids_within(matrix, looks));
+    let has_slackness = K::zero().is_below(slackness);
+    let chain = if has_slackness {
+        allowed
+    } else {
+        longest_chain(matrix.persons)
+    };
+    let made = bid_all(matrix, market, slackness, allowed, chain);
+    looks.add(made.saturating_mul(matrix.objects));
+    (made == allowed && made < most, made)
 }
 
 // At most so many bids without slackness, as far as the looks allow. Returns their number.
@@ -144,9 +160,6 @@ pub fn bid_without_slackness<K: Number, R: Reading<K>>(
     most: usize,
     looks: &mut Looks,
 ) -> usize {
-    let most = bids_within(matrix, most, looks);
-    let chain = longest_chain(matrix.persons);
-    let made = bid_all(matrix, market, K::zero(), most, chain);
-    looks.add(made.saturating_mul(matrix.objects));
+    let (_, made) = bid_within(matrix, market, K::zero(), most, looks);
     made
 }

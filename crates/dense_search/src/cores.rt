@@ -100,17 +100,12 @@ fn multiply(prices: &mut [i64], factor: i64) {
     }
 }
 
-// The looks up to the limit.
-fn left_in(looks: Looks) -> u64 {
-    looks.limit.saturating_sub(looks.done)
-}
-
 // The most looks of a step that takes at least so many, or 0 if there is no bound.
 fn left_for(looks: Looks, least: u64) -> u64 {
     if looks.limit == u64::MAX {
         0
     } else {
-        left_in(looks).max(least)
+        looks.left().max(least)
     }
 }
 
@@ -169,7 +164,7 @@ fn grow<R: Reading<i64>>(
 
 // Whether more persons than this part of all have better pairs.
 fn has_over<R: Reading<i64>>(matrix: &Matrix<'_, i64, R>, better: &Better, part: u64) -> bool {
-    better.persons > (matrix.persons as u64).checked_div(part).unwrap_or(0)
+    better.persons.saturating_mul(part) > matrix.persons as u64
 }
 
 // How cores end, where not much fewer persons have better pairs than before. Searches over a copy, if
@@ -216,7 +211,7 @@ fn solve_from<R: Reading<i64>>(
             Ended::Served => {}
             ended => return Ok(ended),
         }
-        if left_in(*looks) < matrix.pairs() as u64 {
+        if looks.left() < matrix.pairs() as u64 {
             return Ok(Ended::Stopped);
         }
         let better = better_pairs(alloc, matrix, market)?;

@@ -1,6 +1,6 @@
 // Bids and searches over a copy of the costs, for problems of middle size, or over the costs of small
 // ones.
-use super::bids::{bid_all, bid_without_slackness, bids_within, give_least};
+use super::bids::{bid_within, bid_without_slackness, give_least};
 use super::market::Market;
 use super::matrix::Matrix;
 use super::number::{Number, greater, lesser};
@@ -90,12 +90,10 @@ fn is_phase_over<K: Number, R: Reading<K>>(
     }
     let all = matrix.persons.saturating_mul(BIDS_A_PHASE) as u64;
     let left = all.saturating_sub(record.bids) as usize;
-    let most = bids_within(matrix, left, looks);
     let slackness = K::from_wide(record.slackness);
-    let made = bid_all(matrix, market, slackness, most, most);
+    let (is_cut, made) = bid_within(matrix, market, slackness, left, looks);
     record.bids = record.bids.saturating_add(made as u64);
-    looks.add(made.saturating_mul(matrix.objects));
-    made < most || most == left
+    !is_cut
 }
 
 // Bids of falling slackness, as far as the looks allow. Returns whether they ended; no object is
@@ -150,7 +148,7 @@ fn serve_first<K: Number, R: Reading<K>>(
         return Ok(Ended::Long);
     }
     let ended = serve_by_rows(alloc, matrix, market, record.left_of(most, pairs), looks)?;
-    record.count_passes(ended, looks.done.saturating_sub(before), pairs);
+    record.count_passes(ended, looks.since(before), pairs);
     let served = left.saturating_sub(market.unserved()) as u64;
     record.bids = record.bids.saturating_add(served);
     Ok(ended)

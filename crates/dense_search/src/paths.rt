@@ -20,12 +20,14 @@ pub struct Allowance {
 }
 
 impl Allowance {
-    // As how many searches of the pace so far those for the persons left count.
-    fn searches_for(self, left: usize) -> usize {
+    // As how many searches of the pace so far those for the persons left count, if so many objects stay
+    // unowned.
+    fn searches_for(self, left: usize, spare: usize) -> usize {
         if !self.is_growing {
             return left;
         }
-        let doublings = left.checked_ilog2().unwrap_or(0) as usize;
+        let times = left.saturating_add(spare) / spare.max(1);
+        let doublings = times.checked_ilog2().unwrap_or(0) as usize;
         left.saturating_mul(doublings.wrapping_add(1)) / 4 * 3
     }
 }
@@ -46,6 +48,7 @@ pub fn serve_all<K: Number, R: Reading<K>>(
     }
     let mut search = Search::new(alloc, market)?;
     let first = looks.done;
+    let spare = matrix.objects.saturating_sub(matrix.persons);
     let mut pace = Pace::begin(left, *looks, allowed.most);
     for k in 0..matrix.persons {
         let person = place_at(k);
@@ -60,8 +63,9 @@ pub fn serve_all<K: Number, R: Reading<K>>(
             if search.is_beyond {
                 return Ok(Ended::Blocked);
             }
-            let is_over = looks.done.saturating_sub(first) > allowed.most;
-            if left > few && (is_over || !pace.goes_on(*looks, allowed.searches_for(left))) {
+            let is_over = looks.since(first) > allowed.most;
+            let searches = allowed.searches_for(left, spare);
+            if left > few && (is_over || !pace.goes_on(*looks, searches)) {
                 return Ok(Ended::Long);
             }
             if looks.is_spent() {

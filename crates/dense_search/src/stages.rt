@@ -1,6 +1,6 @@
 // The whole search, stage by stage.
 use super::auction::auction;
-use super::bids::{bid_without_slackness, bids_within, give_least};
+use super::bids::{bid_within, bid_without_slackness, give_least};
 use super::cheapest::take_cheapest;
 use super::cores::{resume_cores, solve_by_cores};
 use super::market::Market;
@@ -68,23 +68,6 @@ fn looks_of_core<R: Reading<i64>>(matrix: &Matrix<'_, i64, R>) -> u64 {
     let persons = (matrix.persons as u64).saturating_mul(CORE_LOOKS);
     let passes = (matrix.pairs() as u64).saturating_mul(CORE_PASSES);
     persons.saturating_add(passes)
-}
-
-// Searches before a core, and from its prices.
-#[derive(Clone, Copy)]
-enum Searches {
-    First,
-    AfterCore,
-}
-
-impl Searches {
-    // The looks that they may take in all calls.
-    fn most_looks<R: Reading<i64>>(self, matrix: &Matrix<'_, i64, R>) -> u64 {
-        match self {
-            Searches::First => looks_of_core(matrix),
-            Searches::AfterCore => (matrix.pairs() as u64).saturating_mul(RETRY_PASSES),
-        }
-    }
 }
 
 // Whether searches over a copy in 32 bits are fastest. With many more objects than persons few pairs
@@ -182,9 +165,9 @@ impl<'a> Work<'a> {
     fn bid_first<R: Reading<i64>>(&mut self, matrix: &Matrix<'_, i64, R>) -> bool {
         let all = matrix.persons.saturating_mul(first_bids(matrix)) as u64;
         let left = all.saturating_sub(self.record.bids) as usize;
-        let made = bid_without_slackness(matrix, &mut self.market, left, &mut self.looks);
+        let (is_cut, made) = bid_within(matrix, &mut self.market, 0, left, &mut self.looks);
         self.record.bids = self.record.bids.saturating_add(made as u64);
-        made > 0 && made < left && bids_within(matrix, 1, &self.looks) == 0
+        made > 0 && is_cut
     }
 
     fn begin_cold<R: Reading<i64>>(
@@ -334,25 +317,35 @@ impl<'a> Work<'a> {
         Ok(self.begin_paths())
     }
 
-    // Searches for all persons: first from the bids, as far as a core isn't as fast; then from a core,
-    // by scans of whole rows, since they reach most objects.
-    fn serve<R: Reading<i64>>(
+    // Searches for all persons from the bids, as far as a core isn't as fast.
+    fn serve_first<R: Reading<i64>>(
         &mut self,
         alloc: Global,
         matrix: &Matrix<'_, i64, R>,
-        searches: Searches,
     ) -> Result<Ended, AllocError> {
         let (before, pairs) = (self.looks.done, matrix.pairs());
-        let most = self.record.left_of(searches.most_looks(matrix), pairs);
-        let (market, looks) = (&mut self.market, &mut self.looks);
-        let ended = match searches {
-            Searches::First => {
-                let is_growing = true;
-                serve_all(alloc, matrix, market, Allowance { most, is_growing }, looks)?
-            }
-            Searches::AfterCore => serve_by_rows(alloc, matrix, market, most, looks)?,
+        let allowed = Allowance {
+            most: self.record.left_of(looks_of_core(matrix), pairs),
+            is_growing: true,
         };
-        let taken = self.looks.done.saturating_sub(before);
+        let ended = serve_all(alloc, matrix, &mut self.market, allowed, &mut self.looks)?;
+        let taken = self.looks.since(before);
+        self.record.count_passes(ended, taken, pairs);
+        Ok(ended)
+    }
+
+    // Searches for all persons from the prices of a core, by scans of whole rows, since they reach most
+    // objects.
+    fn serve_again<R: Reading<i64>>(
+        &mut self,
+        alloc: Global,
+        matrix: &Matrix<'_, i64, R>,
+    ) -> Result<Ended, AllocError> {
+        let (before, pairs) = (self.looks.done, matrix.pairs());
+        let all = (pairs as u64).saturating_mul(RETRY_PASSES);
+        let most = self.record.left_of(all, pairs);
+        let ended = serve_by_rows(alloc, matrix, &mut self.market, most, &mut self.looks)?;
+        let taken = self.looks.since(before);
         self.record.count_passes(ended, taken, pairs);
         Ok(ended)
     }
@@ -392,7 +385,7 @@ impl<'a> Work<'a> {
         if self.bid_first(matrix) {
             return Ok(Step::End(Outcome::Stopped));
         }
-        let ended = self.serve(alloc, matrix, Searches::First)?;
+        let ended = self.serve_first(alloc, matrix)?;
         if let Ended::Long = ended {
             self.kept = Some(Kept::of(alloc, &self.market)?);
         }
@@ -484,7 +477,7 @@ impl<'a> Work<'a> {
         if !self.swap_kept() && self.record.passes == 0 {
             self.looks.add(settle_all(matrix, &mut self.market));
         }
-        let ended = self.serve(alloc, matrix, Searches::AfterCore)?;
+        let ended = self.serve_again(alloc, matrix)?;
         match ended {
             Ended::Long => {
                 let _ = self.swap_kept();
@@ -590,12 +583,11 @@ impl<'a> Work<'a> {
 
     // Whether the budget is spent, or what is left of it is too little for a core.
     fn is_ending<R: Reading<i64>>(&self, matrix: &Matrix<'_, i64, R>) -> bool {
-        let left = self.looks.limit.saturating_sub(self.looks.done);
         let least = match self.record.stage {
             Stage::Core => (matrix.pairs() as u64).saturating_mul(CORE_PASSES),
             _ => 1,
         };
-        left < least
+        self.looks.left() < least
     }
 
     // Stage by stage up to an end.

@@ -94,7 +94,7 @@ impl Forecast {
     }
 
     fn count(&mut self, looks: Looks) {
-        let taken = looks.done.saturating_sub(self.before);
+        let taken = looks.since(self.before);
         self.before = looks.done;
         self.all = self.all.with(taken.min(self.pairs / SHORT));
         self.part = self.part.with(taken);
@@ -130,7 +130,7 @@ impl Forecast {
     pub fn goes_on(&mut self, looks: Looks, left: usize) -> bool {
         self.count(looks);
         let part = PART.saturating_mul(self.pairs);
-        let is_last = looks.is_spent() && looks.done.saturating_sub(self.begun) >= part;
+        let is_last = looks.is_spent() && looks.since(self.begun) >= part;
         if self.part.searches < self.width && self.part.looks < part && !is_last {
             return true;
         }

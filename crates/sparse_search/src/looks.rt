@@ -18,6 +18,16 @@ impl Looks {
         self.done >= self.limit
     }
 
+    /// The looks that are done since so many were.
+    pub fn since(&self, before: u64) -> u64 {
+        self.done.saturating_sub(before)
+    }
+
+    /// The looks up to the limit.
+    pub fn left(&self) -> u64 {
+        self.limit.saturating_sub(self.done)
+    }
+
     /// The looks from here on, with a limit of their own that is no later.
     pub fn within(self, most: u64) -> Looks {
         Looks {

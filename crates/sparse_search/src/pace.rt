@@ -33,8 +33,8 @@ impl Pace {
         if self.ended < self.width {
             return true;
         }
-        let spent = looks.done.saturating_sub(self.first);
-        let rest = looks.done.saturating_sub(self.part) / self.width.max(1);
+        let spent = looks.since(self.first);
+        let rest = looks.since(self.part) / self.width.max(1);
         self.part = looks.done;
         self.ended = 0;
         spent.saturating_add(rest.saturating_mul(left as u64)) <= self.most

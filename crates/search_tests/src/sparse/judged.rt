@@ -1,5 +1,5 @@
 // A plain checker and a slow search.
-use sparse_search::{HallSet, NOBODY, Pair, SparseProblem};
+use sparse_search::{HallSet, NOBODY, Outcome, Pair, Record, SparseProblem, search};
 use std::alloc::{AllocError, Global};
 
 // Greater than the total of any small problem.
@@ -120,4 +120,14 @@ pub fn least_total(alloc: Global, problem: SparseProblem<'_>) -> Result<Option<i
 /// Nobody's objects, as a search is given them.
 pub fn nobody(alloc: Global, persons: usize) -> Result<Vec<u32>, AllocError> {
     vec![in alloc; NOBODY; persons]
+}
+
+/// How a search from nothing ends.
+pub fn search_cold(
+    alloc: Global,
+    problem: SparseProblem<'_>,
+    prices: &mut [i64],
+    objects: &mut [u32],
+) -> Result<Outcome, AllocError> {
+    search(alloc, problem, prices, objects, &mut Record::cold(), 0)
 }

@@ -1,6 +1,6 @@
 // Large problems: 100,000 persons.
-use super::judged::{is_hall_set, judge, nobody};
-use sparse_search::{Outcome, Pair, Record, SparseProblem, search};
+use super::judged::{is_hall_set, judge, nobody, search_cold};
+use sparse_search::{Outcome, Pair, SparseProblem};
 use std::alloc::{AllocError, Global};
 use std::test::Fail;
 use test_helpers::draw_wide;
@@ -62,7 +62,7 @@ fn a_hundred_thousand_persons(rt: HostRuntime) -> Result<(), Fail> {
     let mut prices = vec![in rt.alloc(); 0i64; problem.objects]?;
     let mut objects = nobody(rt.alloc(), problem.persons())?;
     let (prices, objects) = (prices.as_mut_slice(), objects.as_mut_slice());
-    let outcome = search(rt.alloc(), problem, prices, objects, &mut Record::cold(), 0)?;
+    let outcome = search_cold(rt.alloc(), problem, prices, objects)?;
     assert!(rt; matches!(outcome, Outcome::Best));
     assert!(rt; judge(rt.alloc(), problem, prices, objects)?.is_some());
     Ok(())
@@ -81,7 +81,7 @@ fn one_object_too_few(rt: HostRuntime) -> Result<(), Fail> {
     let mut prices = vec![in rt.alloc(); 0i64; problem.objects]?;
     let mut objects = nobody(rt.alloc(), problem.persons())?;
     let (prices, objects) = (prices.as_mut_slice(), objects.as_mut_slice());
-    match search(rt.alloc(), problem, prices, objects, &mut Record::cold(), 0)? {
+    match search_cold(rt.alloc(), problem, prices, objects)? {
         Outcome::Hall(set) => assert!(rt; is_hall_set(problem, &set)),
         Outcome::Best | Outcome::Stopped | Outcome::Lost => assert!(rt; false),
     }

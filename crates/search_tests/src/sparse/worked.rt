@@ -1,21 +1,11 @@
 // Problems worked by hand, and lists that don't fit.
-use super::judged::judge;
-use sparse_search::{HallSet, NOBODY, Outcome, Pair, Record, SparseProblem, search};
+use super::judged::{judge, search_cold};
+use sparse_search::{HallSet, NOBODY, Outcome, Pair, SparseProblem};
 use std::alloc::{AllocError, Global};
 use std::test::Fail;
 
 fn pair(object: u32, cost: i64) -> Pair {
     Pair { object, cost }
-}
-
-// How a search from nothing ends.
-fn search_cold(
-    alloc: Global,
-    problem: SparseProblem<'_>,
-    prices: &mut [i64],
-    objects: &mut [u32],
-) -> Result<Outcome, AllocError> {
-    search(alloc, problem, prices, objects, &mut Record::cold(), 0)
 }
 
 // The Hall set that it ends with.
