@@ -13,7 +13,7 @@ const WITH_POWER = /^([+-]?)([0-9]+)(?:[.,]([0-9]*))?[eE]([+-]?[0-9]{1,2})$/;
  * @returns {boolean}
  */
 export function looksLikeNumber(cell) {
-  return /^[+-]?[0-9., ']*[0-9][0-9., ']*$/.test(cell);
+  return /^[+-]?[0-9., ']*[0-9][0-9., ']*([eE][+-]?[0-9]{1,2})?$/.test(cell);
 }
 
 /**

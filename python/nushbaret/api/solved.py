@@ -141,7 +141,10 @@ class SolvedProblem:
         """Rows, columns and cost of the best plan of a part."""
         rows, columns = ranking.pairs(part)
         unit = self.shape.costs.unit_shown(ranking.unit)
-        cost = ranking.sign * part.cost * unit.denominator // ranking.unit.denominator
+        cost, rest = divmod(ranking.sign * part.cost * unit.denominator, ranking.unit.denominator)
+        if rest:
+            # Other costs are in a finer unit now than all were at the call.
+            unit, cost = ranking.unit, ranking.sign * part.cost
         return self._numbers(rows), self._numbers(columns), unit.shown(cost)
 
 

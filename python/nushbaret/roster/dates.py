@@ -2,7 +2,7 @@
 import re
 from bisect import bisect_left
 from datetime import date, timedelta
-from typing import Dict, FrozenSet, List, NamedTuple, Optional, Sequence, Set, Tuple
+from typing import Dict, FrozenSet, Iterable, List, NamedTuple, Optional, Sequence, Set, Tuple
 
 DAY_NAMES = ("Mon", "Tue", "Wed", "Thu", "Fri", "Sat", "Sun")
 SATURDAY = 5
@@ -17,6 +17,8 @@ WEEKS = (
     "lunedì martedì mercoledì giovedì venerdì sabato domenica",
     "maandag dinsdag woensdag donderdag vrijdag zaterdag zondag",
 )
+# Tuesday in three of these languages, and March in five.
+MARCH = "mar"
 WORD = r"[^\W\d_]{2,}"
 DATE = re.compile(
     rf"(?:(?P<before>{WORD})[.,]{{0,2}}\s*)?"
@@ -52,16 +54,32 @@ def weekdays_of(word: str) -> FrozenSet[int]:
     return frozenset(found)
 
 
+def _day_words(name: str) -> List[str]:
+    """The words of a name for days of the week. `Mar` may be March, and isn't there where another word is."""
+    words = [word.casefold() for word in re.findall(WORD, name) if weekdays_of(word)]
+    return [word for word in words if word != MARCH] or words
+
+
 def is_weekend_name(name: str) -> bool:
-    """Whether a name begins with a word for Saturday or Sunday."""
-    word = re.match(WORD, name)
-    days = weekdays_of(word[0]) if word else frozenset()
-    return bool(days) and min(days) >= SATURDAY
+    """Whether the first word of a name for a day of the week is one for Saturday or Sunday."""
+    words = _day_words(name)
+    return bool(words) and min(weekdays_of(words[0])) >= SATURDAY
 
 
 def has_weekday(name: str) -> bool:
     """Whether a name has a word for a day of the week."""
-    return any(map(weekdays_of, re.findall(WORD, name)))
+    return bool(_day_words(name))
+
+
+def are_weekdays(names: Iterable[str]) -> bool:
+    """Whether any name has a word that is surely one for a day of the week."""
+    return any(word != MARCH for name in names for word in _day_words(name))
+
+
+def has_year(name: str) -> bool:
+    """Whether a name is a date with a year, maybe one that no calendar has."""
+    written = _written(name)
+    return written is not None and written.year is not None
 
 
 def dates_of(names: Sequence[str]) -> Dates:

@@ -4,17 +4,19 @@ from datetime import date
 from typing import Dict, FrozenSet, List, NamedTuple, Optional, Sequence, Set, Tuple
 
 from .blocks import labels_of, without_group
-from .dates import SATURDAY, dates_of, has_weekday, is_weekend_name
+from .dates import SATURDAY, are_weekdays, dates_of, has_year, is_weekend_name
 from .names import quoted
 from .roster import Earlier, Groups, Roster
 from .sheets import RosterFault
 from .times import Times
 
 WEEK = 7
+# The kind of a shift that has none.
+NO_KIND = ""
 
 
 class Shift(NamedTuple):
-    """What a person may have on a day: its kind, empty where it has none, and its times, where they are known."""
+    """What a person may have on a day: its kind, or `NO_KIND`, and its times, where they are known."""
 
     day: int
     kind: str
@@ -60,6 +62,10 @@ class Month(NamedTuple):
     def is_past(self, day: int) -> bool:
         return day < self.start
 
+    def are_past(self, weekends: Sequence[Sequence[int]]) -> bool:
+        """Whether all weekends of the plan are past; where it has none, all of it."""
+        return self.is_past(weekends[-1][-1] if weekends else self.last)
+
     def is_weekend(self, day: int) -> bool:
         """Whether a day is a Saturday, a Sunday or a holiday. Days without dates or words for days of the week are
         seven to a week."""
@@ -67,7 +73,7 @@ class Month(NamedTuple):
             return True
         if self.are_dates:
             return date.fromordinal(day).weekday() >= SATURDAY
-        if any(map(has_weekday, self.names.values())):
+        if are_weekdays(self.names.values()):
             return is_weekend_name(self.names.get(day, ""))
         return day % WEEK >= SATURDAY
 
@@ -110,9 +116,10 @@ class Before(NamedTuple):
 def month_of(roster: Roster, groups: Groups, path: str, before: Optional[Before] = None) -> Month:
     """The calendar of a roster with groups.
 
-    Raises `RosterFault` where two groups are one day, or where an earlier object isn't before the first day.
+    Raises `RosterFault` where some groups are dates and others aren't, where two groups are one day, or where an earlier
+    object isn't before the first day.
     """
-    days, are_dates = _days_of(groups)
+    days, are_dates = _days_of(groups, path)
     _refuse_same_day(groups, days[:len(groups.names)], path)
     kinds = groups.kinds if groups.has_kinds else dict(enumerate(labels_of(roster)))
     shifts = {object_: Shift(days[group], kinds.get(object_, ""), groups.times.get(object_))
@@ -131,12 +138,14 @@ def _earlier_names(groups: Groups) -> List[str]:
     return list(dict.fromkeys(one.group for one in groups.earlier))
 
 
-def _days_of(groups: Groups) -> Tuple[List[int], bool]:
+def _days_of(groups: Groups, path: str) -> Tuple[List[int], bool]:
     """The days of the groups, and then of earlier ones; and whether they are dates."""
     names = _earlier_names(groups)
-    dates = dates_of([*groups.names, *names]).all
-    if dates is not None:
-        return [day.toordinal() for day in dates], True
+    dates = dates_of([*groups.names, *names])
+    if dates.all is not None:
+        return [day.toordinal() for day in dates.all], True
+    if any(map(has_year, [*groups.names, *names])):
+        raise RosterFault(path, f"{dates.why}: with rules each day is a date, or none is")
     return [*range(len(groups.names)), *range(-len(names), 0)], False
 
 

@@ -233,7 +233,7 @@ def decimal_text(units: int, decimals: int, point: str) -> str:
 
 def looks_like_number(cell: str) -> bool:
     """Whether a cell might be meant as a number, of any make."""
-    return re.fullmatch(r"[+-]?[0-9., ']*[0-9][0-9., ']*", cell) is not None
+    return re.fullmatch(r"[+-]?[0-9., ']*[0-9][0-9., ']*([eE][+-]?[0-9]{1,2})?", cell) is not None
 
 
 def form_of(sheet: Sheet) -> str:

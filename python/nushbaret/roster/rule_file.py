@@ -6,7 +6,7 @@ from fractions import Fraction
 from typing import Callable, Dict, FrozenSet, List, Match, NamedTuple, NoReturn, Optional, Sequence, Tuple
 
 from .dates import dates_of, spellings
-from .month import Month
+from .month import NO_KIND, Month
 from .names import quoted
 from .roster import Roster, like
 from .sheets import RosterFault, Sheet
@@ -148,17 +148,15 @@ class _RuleReader:
 
     def _kinds(self, line: RuleLine, column: int, text: str) -> Optional[FrozenSet[str]]:
         """The kinds that a text lists; None where it is all shifts."""
-        known = {kind.casefold(): kind for kind in self._month.kinds}
-        found = set()
+        kinds, found = self._month.kinds, set()
         for word in re.split(r"\s*,\s*", text.strip()):
-            bare = word.casefold()
-            kind = known.get(bare) or known.get(re.sub("s$", "", bare))
-            if kind is None and bare in ANY:
+            kind = _kind_of(word, kinds)
+            if kind is None and word.casefold() in ANY:
                 return None
             if kind is None:
-                near = like(word, list(known.values())) or get_close_matches(word, list(known.values()), 1, 0.6)
-                hint = (f": did you mean {quoted(near[0])}?" if near
-                        else f": the kinds are {', '.join(known.values()) or 'none'}")
+                near = like(word, kinds) or get_close_matches(word, kinds, 1, 0.6)
+                hint = (f": did you mean {' or '.join(map(quoted, near))}?" if near
+                        else f": the kinds are {', '.join(kinds) or 'none'}")
                 self._refuse(line, column, f"no kind of shift is {quoted(word)}{hint}")
             found.add(kind)
         return frozenset(found)
@@ -215,7 +213,8 @@ class _RuleReader:
         first, arrow, second = line.value.partition(">")
         if not (arrow and first.strip() and second.strip()):
             self._refuse(line, 2, f"{quoted(line.value)}, where two kinds are needed, such as Late > Early")
-        one, other = (self._kinds(line, 2, text) or frozenset(self._month.kinds) for text in (first, second))
+        every = frozenset([*self._month.kinds, NO_KIND])
+        one, other = (self._kinds(line, 2, text) or every for text in (first, second))
         self._add(line, Rule(REST, f"rest: {line.value}", self._persons(line), one, other))
 
     def _run(self, line: RuleLine, words: Match[str]) -> None:
@@ -278,7 +277,7 @@ class _RuleReader:
             self._refuse(line, 2, f"{quoted(line.value)}, where a kind and its hours are needed, such as Early 7.7")
         if line.names:
             self._refuse(line, 3, "hours of a kind are for everybody")
-        for kind in self._kinds(line, 2, found[1]) or self._month.kinds:
+        for kind in self._kinds(line, 2, found[1]) or [*self._month.kinds, NO_KIND]:
             if kind in self.hours:
                 self._refuse(line, 2, f"the hours of {quoted(kind)} a second time")
             self.hours[kind] = Fraction(found[2].replace(",", "."))
@@ -304,6 +303,19 @@ class _RuleReader:
                 named = f"of the kind {quoted(shift.kind)}" if shift.kind else "of shifts without a kind"
                 self._refuse(line, 1, f"the hours {named} aren't known: a rule 'hours of', or columns from and to in "
                              "the groups' file")
+
+
+def _kind_of(word: str, kinds: Sequence[str]) -> Optional[str]:
+    """The one kind that a word names: as it is written, else in any case, else in its plural. `days` and `shifts` are
+    no plurals, since they are shifts of any kind."""
+    if word in kinds:
+        return word
+    bare = word.casefold()
+    for one in (bare,) if bare in ANY else (bare, re.sub("s$", "", bare)):
+        same = [kind for kind in kinds if kind.casefold() == one]
+        if same:
+            return same[0] if len(same) == 1 else None
+    return None
 
 
 def _sentence(line: RuleLine) -> str:

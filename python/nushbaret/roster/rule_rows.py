@@ -3,7 +3,7 @@ from fractions import Fraction
 from typing import Callable, Dict, FrozenSet, Iterator, List, NamedTuple, Sequence, Set, Tuple
 
 from ..counts.nodes import Bounds
-from .month import Month, Shift
+from .month import NO_KIND, Month, Shift
 from .roster import Roster
 from .rule_file import APART, COUNT, EVEN, FREE, HOURS, REST, RUN, STAFF, TOGETHER, WEEKLY, WHOLE, Rule, Rules
 from .sums import Rows, Said, Sum, Work
@@ -62,11 +62,15 @@ def _rest(making: Making, rules: Sequence[Rule]) -> None:
     month = making.month
     for person, own in sorted(pairs.items()):
         for one, other in cliques[frozenset(own)]:
-            said = Said(f"rest: no {' or '.join(sorted(other))} the day after {' or '.join(sorted(one))}",
-                        making.roster.persons[person])
+            said = Said(f"rest: no {_named(other)} the day after {_named(one)}", making.roster.persons[person])
             for day in range(month.known, month.last):
                 both = making.work.sum(person, [day + 1], other, 1, making.work.sum(person, [day], one))
                 making.rows.add(both, None, 1, said, person)
+
+
+def _named(kinds: FrozenSet[str]) -> str:
+    """The kinds of a rule of rest; those with shifts of no kind are all."""
+    return "shift" if NO_KIND in kinds else " or ".join(sorted(kinds))
 
 
 def _cliques(pairs: Set[Tuple[str, str]]) -> List[Clique]:
@@ -108,40 +112,53 @@ def _shortest(making: Making, rule: Rule, person: int, least: int) -> None:
             making.rows.add(own, None, 0, making.said(rule, person), person)
 
 
-def spans_of(month: Month, rule: Rule) -> Iterator[Tuple[List[int], bool]]:
-    """The days in which a rule counts, and whether its least number is one there: not in a week of which days aren't
-    known."""
+class Span(NamedTuple):
+    """The days in which a rule counts, maybe none; whether its least number is one there: not in a week of which days
+    aren't known; and whether anything can still be planned there."""
+
+    days: List[int]
+    is_whole: bool
+    is_open: bool
+
+
+def spans_of(month: Month, rule: Rule) -> Iterator[Span]:
+    """The weeks, or the month, in which a rule counts."""
     if rule.per == WEEKLY:
         spans = [(week.days, week.is_whole) for week in month.weeks]
     else:
         spans = [(list(month.days), True)]
     for days, is_whole in spans:
-        yield [day for day in days if not rule.of_weekends or month.is_weekend(day)], is_whole
+        own = [day for day in days if not rule.of_weekends or month.is_weekend(day)]
+        yield Span(own, is_whole, not all(map(month.is_past, own or days)))
 
 
 def _count(making: Making, rule: Rule) -> None:
     """So many shifts in a week or in the month."""
     for person in rule.persons:
-        for days, is_whole in spans_of(making.month, rule):
-            own = making.work.sum(person, days, rule.kinds)
-            making.rows.add(own, rule.least if is_whole else None, rule.most, making.said(rule, person), person)
+        for span in spans_of(making.month, rule):
+            _bound(making, rule, person, span, making.work.sum(person, span.days, rule.kinds))
+
+
+def _bound(making: Making, rule: Rule, person: int, span: Span, own: Sum) -> None:
+    own.is_open = span.is_open
+    making.rows.add(own, rule.least if span.is_whole else None, rule.most, making.said(rule, person), person)
 
 
 def _hours(making: Making, rule: Rule) -> None:
     """So many hours in a week or in the month."""
     for person in rule.persons:
-        for days, is_whole in spans_of(making.month, rule):
-            own = making.work.sum(person, days, weight=making.hours)
-            making.rows.add(own, rule.least if is_whole else None, rule.most, making.said(rule, person), person)
+        for span in spans_of(making.month, rule):
+            _bound(making, rule, person, span, making.work.sum(person, span.days, weight=making.hours))
 
 
 def _free(making: Making, rule: Rule) -> None:
     """So many weekends without a shift: a variable for each that is free."""
     weekends = making.month.weekends
-    if all(making.month.is_past(days[-1]) for days in weekends):
+    if making.month.are_past(weekends):
         return
     for person in rule.persons:
         said, free = making.said(rule, person), Sum()
+        free.is_open = True
         for days in weekends:
             variable = making.rows.helper(person)
             free.add(variable)

@@ -143,9 +143,10 @@ def _bounded(plan: DailyPlan, rule: Rule, of: Callable[[Sequence[Had]], Fraction
     """Counts or hours outside of their bounds, in weeks or in the month."""
     month = plan.month
     for person in rule.persons:
-        for where, days, is_whole in _spans(plan, rule):
-            days = [day for day in days if not rule.of_weekends or month.is_weekend(day)]
-            own, still = plan.all_on(person, days, rule.kinds), [day for day in days if not month.is_past(day)]
+        for where, span, is_whole in _spans(plan, rule):
+            days = [day for day in span if not rule.of_weekends or month.is_weekend(day)]
+            own = plan.all_on(person, days, rule.kinds)
+            still = [day for day in days or span if not month.is_past(day)]
             total, planned = of(own), of(plan.all_on(person, still, rule.kinds))
             too_many = rule.most is not None and total > rule.most and planned > 0
             too_few = is_whole and rule.least is not None and total < rule.least and bool(still)
@@ -171,7 +172,7 @@ def _hours(plan: DailyPlan, rule: Rule) -> Iterator[Broken]:
 
 def _free(plan: DailyPlan, rule: Rule) -> Iterator[Broken]:
     weekends = plan.month.weekends
-    if all(plan.month.is_past(days[-1]) for days in weekends):
+    if plan.month.are_past(weekends):
         return
     for person in rule.persons:
         worked = [days for days in weekends if plan.all_on(person, days)]

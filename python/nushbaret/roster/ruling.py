@@ -8,7 +8,7 @@ from .by_rules import COSTS, Progress, Proved, Task, answer_by_rules
 from .groups import Broken, Paired
 from .interrupts import interrupts_raise
 from .month import Before, Month, month_of, undated
-from .output.rule_texts import halves
+from .output.texts import halves
 from .roster import Roster, named_pairs
 from .rule_file import Rules, read_rules
 from .rules_kept import broken_by, plan_of

@@ -105,6 +105,40 @@ class Rows(unittest.TestCase):
                 assigner.update(row, costs[row])
             self.assertEqual(assigner.result.cost, nushbaret.solve(costs).cost)
 
+    @unittest.skipUnless(np, "NumPy isn't there")
+    def test_rows_of_another_kind(self):
+        """A row keeps the numbers that it has, and so do the others."""
+        kinds = ("f2", "f4", "f8", "g", "i1", "i8", "u8", "O")
+        draw = drawing(406)
+        for first in kinds:
+            for second in kinds:
+                rows = [[abs(draw.choice([0.1, 0.3, 7, 100]) if kind[0] in "fgO" else draw.randint(0, 100))
+                         for _ in range(3)] for kind in (first, first, second)]
+                costs = np.array([*rows[:2], rows[0]], first)
+                assigner = nushbaret.Assigner(costs)
+                assigner.update(2, np.array(rows[2], second))
+                fresh = [*costs[:2], np.array(rows[2], second)]
+                self.assertEqual(assigner.result.cost, nushbaret.solve([list(row) for row in fresh]).cost, (first, second))
+        for kind, row in (("f4", [0.1, 0.300000005]), ("f8", [2**53 + 1, 2**60]), ("i1", [1000, -1000]),
+                          ("u8", [-1, 2**70]), ("?", [2, 3])):
+            costs = np.array([[1, 2], [3, 1]], kind)
+            assigner = nushbaret.Assigner(costs)
+            assigner.update(1, row)
+            self.assertEqual(assigner.result.cost, nushbaret.solve([list(costs[0]), row]).cost, kind)
+
+    @unittest.skipUnless(np, "NumPy isn't there")
+    def test_masks(self):
+        costs = np.ma.array([[1, 2], [3, 4]], mask=[[1, 0], [0, 0]])
+        with self.assertRaisesRegex(ValueError, "masked"):
+            nushbaret.Assigner(costs).result
+        for kind in "i8", "f8", "O":
+            assigner = nushbaret.Assigner(np.array([[1, 2], [3, 5]], kind))
+            assigner.update(0, np.ma.array([50, 60], mask=[True, False]))
+            with self.assertRaisesRegex(ValueError, "masked"):
+                assigner.result
+            assigner.update(0, [1, 2])
+            self.assertEqual(assigner.result.cost, 5)
+
     def test_refusals(self):
         assigner = nushbaret.Assigner([[1, 2], [3, 5]])
         for row in -1, 2:

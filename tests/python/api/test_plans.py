@@ -106,6 +106,12 @@ class Plans(unittest.TestCase):
             unique += result.is_unique
         self.assertGreater(min(unique, 500 - unique), 100)
 
+    def test_after_costs_became_finer(self):
+        costs = [[1, 2], [3, 1]]
+        result = nushbaret.solve(costs)
+        costs[0][1] = 1.5
+        self.assertEqual((result.next_best().cost, result.without(0, 0).cost), (Decimal("4.5"), Decimal("4.5")))
+
     def test_decimals_and_forms(self):
         plans = list(nushbaret.k_best([[0.5, 0.25], [0.125, 1]], 5))
         self.assertEqual(plans, [([0, 1], [1, 0], Decimal("0.375")), ([0, 1], [0, 1], Decimal("1.5"))])

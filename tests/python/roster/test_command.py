@@ -126,8 +126,11 @@ class Plans(Runs):
         self.file("old.csv", "a,b\nAda,z\nBen,x\nCleo,y\n")
         self.expect(0, "least cost: 2\nAda: y, 1\nBen: x, 1\nCleo: z, 0\nold.csv: 2 pairs come, 2 go\n  Ada: z goes; y "
                     "comes\n  Cleo: y goes; z comes\n", "", "r.csv", "--keep", "old.csv")
-        self.expect(0, "least cost: 3\nAda: z, 1\nBen: x, 1\nCleo: y, 1\nold.csv: no pair changes\n", "",
-                    "r.csv", "--keep", "old.csv", "--change-cost", "1")
+        self.expect(0, "cost: 3, the least with changes at 1 each\nAda: z, 1\nBen: x, 1\nCleo: y, 1\nold.csv: no pair "
+                    "changes\n", "", "r.csv", "--keep", "old.csv", "--change-cost", "1")
+        self.file("hand.csv", "a,b\nAda,y\nBen,x\nCleo,z\n")
+        self.assertIn("hand.csv: 2, 1 less than this plan\n", self.run_words(
+            "r.csv", "--keep", "old.csv", "--change-cost", "1", "--compare", "hand.csv")[1])
         self.run_words("r.csv", "--keep", "old.csv", "--change-cost", "1", "--output", "p.json")
         self.assertIn("p.json: no pair changes", self.run_words("r.csv", "--keep", "p.json", "--change-cost", "1")[1])
         self.refused(2, "--change-cost needs --keep", "r.csv", "--change-cost", "1")

@@ -66,6 +66,17 @@ class Week(Files):
         self.assertIn(f"missing: {lack['object']}: 1 of 2\n", out)
         self.assertIn('<em lang="en">1 of 2</em>', self.read("p.html"))
 
+    def test_rounded(self):
+        """With bounds another plan may have more pairs, each rounded by half a unit."""
+        self.file("m.csv", ",a,b,c,d\nx,-0.4,-0.4,-0.4,-0.4\ny,-0.4,-0.4,-0.4,-0.4\n")
+        self.file("t.csv", "n,at least,at most\nx,0,4\ny,0,4\n")
+        self.file("p.csv", "o,at least,at most\na,0,2\nb,0,2\nc,0,2\nd,0,2\n")
+        self.file("k.csv", "n,o\nx,a\n")
+        words = ("m.csv", "--tasks", "t.csv", "--places", "p.csv", "--round", "0", "--keep", "k.csv")
+        self.assertIn("for the exact ones, by 4.5 at most\n", self.run_words(*words)[1])
+        self.assertIn("for the exact ones with changes, by 4.5 at most\n",
+                      self.run_words(*words, "--change-cost", "1")[1])
+
     def test_keep_fixed_and_compare(self):
         self.file("k.csv", "a,b\nAda,late Mon\nBen,early Mon\nCleo,early Tue\n")
         self.assertIn("k.csv: 2 pairs come, 2 go\n  Ada: late Mon goes; early Mon comes\n  Ben: early Mon goes; late "

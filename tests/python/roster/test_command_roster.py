@@ -84,6 +84,7 @@ class Forms(Folder):
         self.assertEqual(self.pairs(self.roster(two, form="lines")), {("Ada", "1"): "2", ("Ben", "3"): "4"})
         self.refusal("nurse,early,late\nAda,x,2\nBen,3,4\n", 1, None, "Say --lines or --matrix")
         self.refusal("nurse,early,late\nAda,,2\nBen,,4\n", 1, None, "Say --lines or --matrix")
+        self.refusal("nurse,early,late\nAda,1.2E+03,5\nBen,3E+02,7\n", 1, None, "Say --lines or --matrix")
         self.assertEqual(form_of(Sheet(self.file("," + two[6:]))), "matrix")
         self.assertEqual(form_of(Sheet(self.file("nurse,shift,hours\nAda,1,2\nAda,2,4\n"))), "lines")
 

@@ -47,6 +47,30 @@ class Files(Runs):
         self.file("r.csv", "rule,value,for\n" + "".join(line + "\n" for line in lines))
 
 
+class NoWeekend(Files):
+    """A plan without a Saturday or Sunday can't keep a least number of weekends, and keeps each greatest one."""
+
+    DAYS = ("Mon", "Tue", "Wed", "Thu")
+
+    @unittest.skipUnless(optimize, "SciPy isn't there")
+    def test_least_numbers(self):
+        shifts = [f"Early {day}" for day in self.DAYS]
+        self.file("s.csv", "," + ",".join(shifts) + "\nAda,1,1,1,1\nBen,9,9,9,9\n")
+        self.file("d.csv", "shift,day\n" + "".join(f"{shift},{shift[6:]}\n" for shift in shifts))
+        self.file("t.csv", "person,at least,at most\nAda,0,4\nBen,0,4\n")
+        for rule, is_kept in (("free weekends,1,Ada", False), ("weekend shifts per month,1-,Ada", False),
+                              ("free weekends,0-1,Ada", True), ("weekend shifts per month,2,Ada", True)):
+            self.rules(rule)
+            status, out, _ = self.run_words(*WORDS)
+            self.assertEqual((status, out.splitlines()[0]), (0, "least cost: 4, proved: no plan that keeps the rules costs "
+                                                             "less") if is_kept else
+                             (1, "no plan keeps these rules, proved: together they can't hold:"), rule)
+            self.file("h.csv", "a,b\n" + "".join(f"Ada,{shift}\n" for shift in shifts))
+            self.rules("shifts per month,4,")
+            self.assertEqual(self.run_words(*WORDS, "--compare", "h.csv")[0], 0)
+            self.rules("shifts per month,4,", rule.replace("Ada", "Ben"))
+
+
 class Words(Files):
     def test_refused_words(self):
         for words, text in REFUSED:

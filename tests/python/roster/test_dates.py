@@ -47,9 +47,9 @@ class Reading(unittest.TestCase):
 
     def test_weekends(self):
         for name in ("Sat", "Sunday", "Sa 06.03.", "So", "Samstag", "Sonnabend", "sam.", "dimanche", "domingo",
-                     "zaterdag"):
+                     "zaterdag", "6 Sat", "Week 1 Sun", "6 Mar (Sat)"):
             self.assertTrue(is_weekend_name(name), name)
-        for name in ("Mon", "Fr", "Do", "Di", "S", "2027-03-06", "office", ""):
+        for name in ("Mon", "Fr", "Do", "Di", "S", "2027-03-06", "office", "", "7 Mar", "6 Mar (Mon)"):
             self.assertFalse(is_weekend_name(name), name)
         self.assertTrue(has_weekday("01.03. Mo"))
         self.assertFalse(has_weekday("2027-03-01"))

@@ -108,8 +108,9 @@ class Commands(Runs):
                 pairs = tuple((int(pair["person"][1:]), int(pair["object"][1:])) for pair in plan["pairs"])
                 self.assertIn((missed, cost, tuple(sorted(pairs))), plans)
                 self.assertEqual(plan["cost"], str(-cost if case.maximize else cost))
+                lacks = f" of {len(pairs)} pairs" + (" that miss least" if case.ranges else "")
                 self.assertIn(f"{'greatest' if case.maximize else 'least'} "
-                              f"cost{f' of {len(pairs)} pairs' if missed else ''}: {plan['cost']}", out.splitlines())
+                              f"cost{lacks if missed else ''}: {plan['cost']}", out.splitlines())
                 self.assertEqual(len(plan.get("short", [])) > 0, missed > 0)
                 if case.ranges:
                     self.assertEqual(sum(lack["least"] - lack["had"] for lack in plan["missing"]), missed)

@@ -18,7 +18,8 @@ READ = ((("rest", "Late > Early", ""), Rule("rest", "rest: Late > Early", ALL, f
                                             frozenset(["Early"]))),
         (("REST", "nights>early, late", "Ada"), Rule("rest", "rest: nights>early, late", (0,), frozenset(["Night"]),
                                                      frozenset(["Early", "Late"]))),
-        (("rest", "Night > shift", ""), Rule("rest", "rest: Night > shift", ALL, frozenset(["Night"]), KINDS)),
+        (("rest", "Night > shift", ""), Rule("rest", "rest: Night > shift", ALL, frozenset(["Night"]),
+                                            KINDS | {""})),
         (("days in a row", "5", ""), Rule("run", "days in a row: 5", ALL, most=Fraction(5))),
         (("Night in  a row", "2\u20134", "Ben, Ada"), Rule("run", "Night in a row: 2\u20134", (1, 0),
                                                            frozenset(["Night"]), None, Fraction(2), Fraction(4))),
@@ -109,6 +110,25 @@ class Files(unittest.TestCase):
         with self.assertRaisesRegex(RosterFault, "line 3, column 2: the hours of 'Early' a second time"):
             read(("hours of", "Early 7.7", ""), ("hours of", "Early 8", ""))
 
+    def test_kinds_of_like_names(self):
+        """A kind as it is written goes first, then one in another case or its plural; days and shifts are of any."""
+        roster = small()
+        kinds = {object_: ("Day", "N", "n")[object_ % 3] for object_ in roster.groups.kinds}
+        roster = roster._replace(groups=roster.groups._replace(kinds=kinds))
+        for text, wanted in (("days in a row", None), ("shifts in a row", None), ("Day in a row", {"Day"}),
+                             ("day in a row", {"Day"}), ("N in a row", {"N"}), ("n in a row", {"n"}),
+                             ("N, Day in a row", {"Day", "N"})):
+            rule, = read((text, "1", ""), roster=roster).rules
+            self.assertEqual(rule.kinds, wanted, text)
+        with self.assertRaisesRegex(RosterFault, "no kind of shift is 'ns': did you mean 'N' or 'n'"):
+            read(("ns in a row", "1", ""), roster=roster)
+
+    def test_shifts_without_a_kind(self):
+        roster = small()
+        roster = roster._replace(groups=roster.groups._replace(kinds={**roster.groups.kinds, 0: ""}))
+        rules = read(("rest", "Night > shift", ""), ("hours of", "shift 8", ""), roster=roster)
+        self.assertEqual((rules.rules[0].after, rules.hours[""]), (KINDS | {""}, 8))
+
     def test_unknown_hours(self):
         roster = small()
         roster = roster._replace(groups=roster.groups._replace(times={}))
@@ -137,6 +157,24 @@ class Calendar(unittest.TestCase):
         names = [f"{'Wed Thu Fri Sat Sun Mon Tue'.split()[day % 7]} {day}" for day in range(16)]
         named = roster._replace(groups=roster.groups._replace(names=names))
         self.assertEqual(month_of(named, named.groups, "g.csv").weekends, [[3, 4], [10, 11]])
+
+    def test_names_of_days(self):
+        roster = small(False, 16)
+        days = "Mon Tue Wed Thu Fri Sat Sun".split()
+        for names, wanted in (([f"{day + 1} {days[day % 7]}" for day in range(16)], [[5, 6], [12, 13]]),
+                              ([f"Week {day // 7 + 1} ({days[day % 7]})" for day in range(16)], [[5, 6], [12, 13]]),
+                              ([f"{day + 2} Mar ({days[(day + 1) % 7]})" for day in range(16)], [[4, 5], [11, 12]]),
+                              ([f"{day + 1} Mar" for day in range(16)], [[5, 6], [12, 13]])):
+            named = roster._replace(groups=roster.groups._replace(names=names))
+            self.assertEqual(month_of(named, named.groups, "g.csv").weekends, wanted, names)
+
+    def test_days_of_which_some_are_dates(self):
+        roster = small()
+        for name, text in (("2027-04-31", "2027-04-31 is no day of the calendar"), ("reserve", "reserve is no date"),
+                           ("Mon 2027-03-12", "Mon 2027-03-12 is a Fri")):
+            groups = roster.groups._replace(names=[*roster.groups.names[:-1], name])
+            with self.assertRaisesRegex(RosterFault, f"g.csv: {text}: with rules each day is a date, or none is"):
+                month_of(roster, groups, "g.csv")
 
     def test_earlier_days(self):
         roster = small()

@@ -4,7 +4,8 @@ from typing import Dict, List, Optional
 from ..answer import NamedPlan
 from ..by_rules import BEST, Proved, Reason
 from ..names import MOST_NAMES, joined
-from ..roster import Roster, decimal_text
+from ..roster import Roster
+from .texts import halves
 
 Content = Dict[str, object]
 
@@ -64,13 +65,6 @@ def better_text(roster: Roster, proved: Proved) -> str:
     """By how much another plan may be better at most."""
     better = proved.better or 0
     return roster.shown(better) if proved.with_changes is None else halves(roster, better)
-
-
-def halves(roster: Roster, count: int) -> str:
-    """So many halves of a unit, as the roster writes costs."""
-    if count % 2 == 0:
-        return roster.shown(count // 2)
-    return decimal_text(count * 5, roster.decimals + 1, "," if roster.comma else ".")
 
 
 def even_lines(roster: Roster, proved: Proved, maximize: bool) -> List[str]:

@@ -7,7 +7,8 @@ from ..answer import MOST_NAMES_SHOWN, PLURALS, Answer, Fair, NamedPlan, Pair, c
 from ..changes import Lost, OfPerson, by_person, changes_of
 from ..groups import Broken, Counts, order_of
 from ..names import joined, marked, quoted, with_names_marked
-from ..roster import CHANGE, COMES, GOES, NOT_POSSIBLE, TITLES, OldPlan, PlanLine, Roster, alike, like
+from ..roster import (CHANGE, COMES, GOES, NOT_POSSIBLE, TITLES, OldPlan, PlanLine, Roster, alike, decimal_text,
+    like)
 from ..sheets import SEPARATORS
 from ..words import Options
 
@@ -136,22 +137,57 @@ def gone_line(plan: OldPlan, roster: Roster) -> str:
 
 def first_lines(report: Report) -> List[str]:
     """A sentence for each group that is short, with marks around names, and the cost of the plan."""
-    roster, answer, fair = report.roster, report.answer, report.fair
+    roster, answer = report.roster, report.answer
     lines = [sentence(roster, short, bool(report.options.fixed)) for short in answer.groups]
     if report.proved is not None:
         from .rule_texts import first_lines as lines_with_rules
         lines = lines_with_rules(roster, answer.plan, report.proved, report.options.max)
     elif answer.plan is not None:
-        which = "greatest" if report.options.max else "least"
-        fullest = f" of {len(answer.plan.pairs)} pairs" if answer.groups else ""
-        bound = _bound(report, fair) if fair else ""
-        lines.append(f"{which} {roster.titles[2]}{fullest}{bound}: {roster.shown(answer.plan.cost)}")
-    if answer.plan is not None:
-        chosen = sum(not pair.fixed for pair in answer.plan.pairs)
-        if roster.rounded:
-            lines.append("costs were rounded: another plan may be better for the exact ones, by "
-                         f"{roster.shown(chosen)} at most")
+        lines.append(_cost_line(report, answer.plan))
+    if answer.plan is not None and roster.rounded:
+        lines.append(_rounding_line(report, answer.plan))
     return lines
+
+
+def _cost_line(report: Report, plan: NamedPlan) -> str:
+    """What the plan costs, and among which plans that is best."""
+    roster, options = report.roster, report.options
+    which, title, own = "greatest" if options.max else "least", roster.titles[2], roster.shown(plan.cost)
+    if report.answer.groups:
+        title += f" of {len(plan.pairs)} pairs" + ("" if roster.least is None else " that miss least")
+    title += _bound(report, report.fair) if report.fair else ""
+    if options.change_cost is not None:
+        return f"{title}: {own}, the {which} with changes at {options.change_cost} each"
+    return f"{which} {title}: {own}"
+
+
+def _rounding_line(report: Report, plan: NamedPlan) -> str:
+    """By how much another plan may be better for the costs before they were rounded: half a unit for each pair of both
+    plans that isn't given, and what isn't proved of the rounded costs."""
+    roster, proved = report.roster, report.proved
+    better = 0 if proved is None else proved.better
+    if better is None:
+        return "costs were rounded, and nothing is proved for the exact ones"
+    with_changes = report.options.change_cost is not None
+    fixed = sum(pair.fixed for pair in plan.pairs)
+    most = len(plan.pairs) if roster.least is None and proved is None else _most_pairs(roster)
+    half_units = len(plan.pairs) + most - 2 * fixed + (better if with_changes else 2 * better)
+    counted_in = " with changes" if with_changes else ""
+    return (f"costs were rounded: another plan may be better for the exact ones{counted_in}, by "
+            f"{halves(roster, half_units)} at most")
+
+
+def _most_pairs(roster: Roster) -> int:
+    """No plan has more pairs."""
+    return min(len(roster.of_persons), sum(map(roster.tasks_of, range(len(roster.persons)))),
+               sum(map(roster.capacity_of, range(len(roster.objects)))))
+
+
+def halves(roster: Roster, count: int) -> str:
+    """So many halves of a unit, as the roster writes costs."""
+    if count % 2 == 0:
+        return roster.shown(count // 2)
+    return decimal_text(count * 5, roster.decimals + 1, "," if roster.comma else ".")
 
 
 def _bound(report: Report, fair: Fair) -> str:
@@ -349,7 +385,8 @@ def compared(report: Report, plan: NamedPlan, hand: Hand) -> Note:
                 else "")
     rest = "" if hand.is_comparable or hand.best_lack else ", which breaks none"
     rest = ", which misses less" if hand.lack > hand.best_lack > 0 else rest
-    best = "the best" if report.proved is None or report.proved.better == 0 else "this plan"
+    is_best = report.options.change_cost is None if report.proved is None else report.proved.better == 0
+    best = "the best" if is_best else "this plan"
     return Note(f"{own.path}: {roster.shown(cost)}{of_pairs}, {size} {best}{rest}",
                 [f"there {roster.persons[pair.person]}: {roster.objects[pair.object]}, {roster.shown(pair.cost)}"
                  for pair in only_there(plan, own)])
