@@ -363,6 +363,9 @@ def _column(numpy: Any, column: Any, manner: Manner) -> Any:
     """The costs of a column; floats of fewer bits as doubles."""
     small = None if manner.doubles else _small_kind(column.dtype)
     values = column.to_numpy() if small is None else column.to_numpy(dtype=small, na_value=math.nan)
+    # As Python's numbers dates would be whole ones.
+    if values.dtype.kind in "mM":
+        _refuse_dtype(values.dtype)
     if values.dtype.kind != "f":
         return values
     if values.dtype.itemsize > 8:
@@ -389,8 +392,12 @@ def _of_values(numpy: Any, flat: Any, manner: Manner, where: Where) -> ReadCosts
     if kind in "Of":
         read = of_list([*flat], manner, where)
         return read._replace(costs=read.costs.in_array(numpy))
-    raise TypeError(f"Cannot cast array data from {flat.dtype!r} to dtype('float64') according to the rule 'safe': "
-                    "costs must be numbers")
+    return _refuse_dtype(flat.dtype)
+
+
+def _refuse_dtype(dtype: Any) -> NoReturn:
+    raise TypeError(f"Cannot cast array data from {dtype!r} to dtype('float64') according to the rule 'safe': costs "
+                    "must be numbers")
 
 
 def _of_whole_array(numpy: Any, flat: Any, manner: Manner, where: Where) -> ReadCosts:
