@@ -17,6 +17,7 @@ OF_OTHER_FOLDERS = {
     # They count or replace calls below the public one: of levels, checks, searches and the library.
     "api.test_forms": "costs.kinds costs.problem lap.levels",
     "api.test_plans": "lap.paths lap.ranking",
+    "api.test_solving": "lap.library",
     "api.test_time": "lap.levels lap.library",
     "roster.test_command": "lap.library",
     "roster.test_command_rules": "rows.finding rows.model",

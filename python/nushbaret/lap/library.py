@@ -79,6 +79,7 @@ def _load() -> None:
     found = bytes(text).split(b"\0")[0].decode()
     if found != VERSION:
         raise LibraryNotFound(f"the library is of version {found}, and {VERSION} is needed: {_MADE_BY} builds it again")
+    calls: Dict[str, Any] = {"library": library}
     for name, lists in _LISTS.items():
         call = getattr(library, f"nushbaret_{name}")
         sense = [] if name == "check_hall" else [ctypes.c_uint32]
@@ -86,10 +87,11 @@ def _load() -> None:
         call.argtypes = sense + [ctypes.c_size_t] * 2 + [ctypes.c_void_p,
                                                          ctypes.c_size_t] * lists + piece + [ctypes.c_void_p]
         call.restype = ctypes.c_int32
-        _calls[name] = call
+        calls[name] = call
     with contextlib.suppress(MemoryError):
         bytes(_KEPT)
-    _calls["library"] = library
+    # All at once: other threads don't wait where any call is there.
+    _calls.update(calls)
 
 
 _SPARE = array("Q", [0])
