@@ -312,12 +312,12 @@ def assign_counts(costs: Any, row_counts: Any = None, column_counts: Any = None,
     """
     if row_counts is None and column_counts is None:
         raise TypeError("row_counts and column_counts are both missing: give one, or call solve")
-    problem = in_whole_numbers(problem_of(lasting(costs), None, None, None, manner(maximize, decimals, missing)))
-    of_rows, of_columns = problem.labels or (None, None)
-    rows, columns = bounds_of(row_counts, "row", problem.n_rows, of_rows), bounds_of(column_counts, "column",
-                                                                                     problem.n_columns, of_columns)
-    counted = _counted(problem, rows, columns, groups_of(column_groups, problem.n_columns, of_columns))
     with library.limited(timeout):
+        problem = in_whole_numbers(problem_of(lasting(costs), None, None, None, manner(maximize, decimals, missing)))
+        of_rows, of_columns = problem.labels or (None, None)
+        rows, columns = bounds_of(row_counts, "row", problem.n_rows, of_rows), bounds_of(column_counts, "column",
+                                                                                         problem.n_columns, of_columns)
+        counted = _counted(problem, rows, columns, groups_of(column_groups, problem.n_columns, of_columns))
         lacks, pairs, _ = planned(counted, partial)
     if pairs is None:
         raise CountsInfeasible(shortages_of(counted, lacks), problem.labels)

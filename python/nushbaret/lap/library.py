@@ -272,7 +272,9 @@ class limited:
         if progress is not None and not callable(progress):
             raise TypeError(f"progress is {progress!r}: it must be a call of two numbers, how many are served and how "
                             "many there are")
-        self.timeout, self.progress = timeout, progress
+        # A whole number may be beyond all floats.
+        self.timeout = None if timeout is None else float(timeout) if timeout <= sys.float_info.max else math.inf
+        self.progress = progress
 
     def __enter__(self) -> None:
         before: Optional[_Alarm] = getattr(_limits, "alarm", None)
@@ -281,12 +283,11 @@ class limited:
         self.alarm: Optional[_Alarm] = None
         if self.timeout == 0:
             raise TimeoutError(_TIME_IS_OVER)
-        self.outer_progress, _limits.progress = getattr(_limits, "progress", None), self.progress
-        if self.timeout is None:
-            return
-        end = time.monotonic() + self.timeout
-        if self.before is None or end < self.before.end:
+        end = math.inf if self.timeout is None else time.monotonic() + self.timeout
+        if self.timeout is not None and (self.before is None or end < self.before.end):
             self.alarm = _Alarm(end)
+        self.outer_progress, _limits.progress = getattr(_limits, "progress", None), self.progress
+        if self.alarm is not None:
             try:
                 _limits.alarm = self.alarm
                 self.alarm.arm()
