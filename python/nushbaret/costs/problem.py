@@ -120,7 +120,8 @@ def _judge_size(n_rows: int, n_columns: int) -> None:
         raise TooLarge(f"{n_rows} rows and {n_columns} columns: at most {MOST_PERSONS} of each are possible")
 
 
-def _rows_of_any(costs: Any, manner: exact.Manner) -> List[Any]:
+def rows_of_any(costs: Any, manner: exact.Manner) -> List[Any]:
+    """The rows of a matrix that is no array, or what is wrong with it."""
     if manner.doubles and (not hasattr(costs, "__len__") or isinstance(costs, (dict, set, frozenset))
                            or hasattr(costs, "tocsr")):
         # SciPy takes a sparse matrix with items for a list.
@@ -147,7 +148,7 @@ def _rows_of(costs: Any, manner: exact.Manner) -> Tuple[List[Any], int]:
     if type(costs) is list and {list}.issuperset(map(type, costs)):
         rows = costs
     else:
-        rows = _rows_of_any(costs, manner)
+        rows = rows_of_any(costs, manner)
     if not rows and manner.doubles:
         raise ValueError("expected a matrix (2-D array), got a 1 array")
     lengths = set(map(len, rows))

@@ -346,7 +346,7 @@ def array_of_frame(numpy: Any, frame: Any, manner: Manner) -> Any:
     if len(kinds) < 2 and (manner.doubles or not any(map(_small_kind, kinds))):
         return costs
     columns = [_column(numpy, frame.iloc[:, place], manner) for place in range(frame.shape[1])]
-    kind = numpy.float64 if all(map(_fits_doubles, columns)) else object
+    kind = numpy.float64 if all(map(fits_doubles, columns)) else object
     joined = numpy.empty(frame.shape, kind)
     for place, column in enumerate(columns):
         joined[:, place] = column if kind is not object or column.dtype.kind == "O" else column.tolist()
@@ -376,11 +376,11 @@ def _column(numpy: Any, column: Any, manner: Manner) -> Any:
         return printing.of_array(numpy, values)
 
 
-def _fits_doubles(column: Any) -> bool:
-    """Whether a column's costs are doubles: floats are, and whole numbers that aren't too great."""
-    if column.dtype.kind not in "biu":
-        return bool(column.dtype.kind == "f")
-    return not column.size or -_MOST_WHOLE <= int(column.min()) and int(column.max()) <= _MOST_WHOLE
+def fits_doubles(values: Any) -> bool:
+    """Whether an array's costs are doubles: floats are, and whole numbers that aren't too great."""
+    if values.dtype.kind not in "biu":
+        return bool(values.dtype.kind == "f")
+    return not values.size or -_MOST_WHOLE <= int(values.min()) and int(values.max()) <= _MOST_WHOLE
 
 
 def _of_values(numpy: Any, flat: Any, manner: Manner, where: Where) -> ReadCosts:
