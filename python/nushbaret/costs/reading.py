@@ -94,6 +94,17 @@ def whole_number(value: Any, name: str) -> int:
         raise TypeError(f"{name} is {value!r}: it must be a whole number") from None
 
 
+def exact_ratio(value: Any) -> Ratio:
+    """A number of any kind as a ratio; a float of any size is the decimal that it prints as. A text is none."""
+    if isinstance(value, (str, bytes)):
+        raise TypeError("a text is no number")
+    if hasattr(value, "dtype") and value.dtype.kind == "f":
+        value = printing.of_scalar(value)
+    if hasattr(value, "as_integer_ratio") and not hasattr(value, "dtype"):
+        return ratio_of(value, False)
+    return (operator.index(value), 1) if hasattr(value, "__index__") else ratio_of(float(value), False)
+
+
 def refuse_invalid(where: str, value: Any) -> NoReturn:
     shown = str(value).lower()
     hint = (": None or an infinite cost forbids a pair, and missing=\"forbid\" takes nan so" if "nan" in shown
