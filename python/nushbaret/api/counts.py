@@ -7,7 +7,7 @@ from typing import Any, Dict, List, Optional, Tuple
 from ..costs import naming
 from ..costs.numbers import Number
 from ..costs.problem import AssignmentProblem, Labels, in_whole_numbers, lists_of
-from ..costs.reading import manner
+from ..costs.reading import is_nan, manner
 from ..costs.source import lasting, problem_of
 from ..counts.lack import Lack
 from ..counts.nodes import Bounds, Counted, Pair
@@ -239,12 +239,12 @@ def _of_lists(values: List[Any], given: List[Optional[int]]) -> int:
 
 
 def _of_labels(values: List[Any], given: List[Optional[int]]) -> int:
-    """None and NaN are no label."""
+    """None, NaN and what pandas has instead are no label."""
     if len(values) != len(given):
         raise ValueError(f"column_groups has {len(values)} labels, and there are {len(given)} columns")
     numbers: Dict[Any, int] = {}
     for column, label in enumerate(values):
-        if label is not None and label == label:
+        if label is not None and not is_nan(label) and label == label:
             given[column] = numbers.setdefault(label, len(numbers))
     return len(numbers)
 
