@@ -20,6 +20,7 @@ OF_OTHER_FOLDERS = {
     "api.test_solving": "lap.library",
     "api.test_time": "lap.levels lap.library",
     "roster.test_command": "lap.library",
+    "rows.test_certificates": "lap.library",
     "roster.test_command_rules": "rows.finding rows.model",
     # They compare or lower limits that aren't public.
     "api.test_refusals": "costs.limits lap.library lap.proved",
