@@ -2,7 +2,7 @@
 import re
 from bisect import bisect_left
 from datetime import date, timedelta
-from typing import Dict, FrozenSet, List, NamedTuple, Optional, Sequence, Set, Tuple
+from typing import FrozenSet, List, NamedTuple, Optional, Sequence, Set, Tuple
 
 DAY_NAMES = ("Mon", "Tue", "Wed", "Thu", "Fri", "Sat", "Sun")
 SATURDAY = 5
@@ -133,12 +133,6 @@ def _apart(one: date, anchors: Sequence[date]) -> timedelta:
 def monday_of(day: date) -> date:
     """The Monday of a day's week."""
     return day - timedelta(days=day.weekday())
-
-
-def order_by_date(names: Sequence[str]) -> List[int]:
-    """The numbers of names by date where they are dates, and otherwise as they stand."""
-    dates: Dict[int, date] = dict(enumerate(dates_of(names).all or []))
-    return sorted(range(len(names)), key=lambda number: (dates.get(number, date.min), number))
 
 
 def spellings(name: str) -> Tuple[str, ...]:

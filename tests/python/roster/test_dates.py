@@ -3,7 +3,7 @@ import random
 import unittest
 from datetime import date, timedelta
 
-from nushbaret.roster.dates import DAY_NAMES, dates_of, has_weekday, is_weekend_name, monday_of, order_by_date
+from nushbaret.roster.dates import DAY_NAMES, dates_of, has_weekday, is_weekend_name, monday_of
 
 
 class Reading(unittest.TestCase):
@@ -53,10 +53,6 @@ class Reading(unittest.TestCase):
             self.assertFalse(is_weekend_name(name), name)
         self.assertTrue(has_weekday("01.03. Mo"))
         self.assertFalse(has_weekday("2027-03-01"))
-
-    def test_order(self):
-        self.assertEqual(order_by_date(["02.03.2027", "01.03."]), [1, 0])
-        self.assertEqual(order_by_date(["Tue", "Mon"]), [0, 1])
 
 
 if __name__ == "__main__":
