@@ -7,6 +7,8 @@ from typing import FrozenSet, List, NamedTuple, Optional, Sequence, Set, Tuple
 DAY_NAMES = ("Mon", "Tue", "Wed", "Thu", "Fri", "Sat", "Sun")
 SATURDAY = 5
 HALF_A_YEAR = timedelta(days=183)
+# Files of calendars have years of four digits, and the week of a later day would end after the last day of Python's.
+FIRST, LAST = date(1000, 1, 1), date(9999, 12, 26)
 # The days of the week from Monday, in English, German, French, Spanish, Italian and Dutch.
 WEEKS = (
     "monday tuesday wednesday thursday friday saturday sunday",
@@ -111,9 +113,10 @@ def _dated(own: _Written, year: Optional[int] = None) -> Optional[date]:
     """The date, with its own year or a given one; None where the calendar has none."""
     year = own.year if year is None else year
     try:
-        return None if year is None else date(year, own.month, own.day)
+        found = None if year is None else date(year, own.month, own.day)
     except ValueError:
         return None
+    return found if found is not None and FIRST <= found <= LAST else None
 
 
 def _nearest(own: _Written, anchors: Sequence[date]) -> Optional[date]:

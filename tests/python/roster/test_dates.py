@@ -32,6 +32,8 @@ class Reading(unittest.TestCase):
         self.refused(["2027-02-29"], "2027-02-29 is no day of the calendar")
         self.refused(["2027-03-01", "29.02."], "29.02. is no day of the calendar")
         self.refused(["2027-03-01", "2027-13-01"], "2027-13-01 is no day of the calendar")
+        for far in "0999-12-31", "9999-12-27", "9999-12-31":
+            self.refused(["2027-03-01", far], f"{far} is no day of the calendar")
         self.refused(["2027-03-01", "Mo 02.03."], "Mo 02.03. is a Tue")
         self.refused([], "there are none")
 
