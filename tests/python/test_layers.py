@@ -17,8 +17,10 @@ OF_OTHER_FOLDERS = {
     # They count or replace calls below the public one: of levels, checks, searches and the library.
     "api.test_forms": "costs.kinds costs.problem lap.levels",
     "api.test_plans": "lap.paths lap.ranking",
+    "api.test_solving": "lap.library",
     "api.test_time": "lap.levels lap.library",
     "roster.test_command": "lap.library",
+    "rows.test_certificates": "lap.library",
     "roster.test_command_rules": "rows.finding rows.model",
     # They compare or lower limits that aren't public.
     "api.test_refusals": "costs.limits lap.library lap.proved",

@@ -3,16 +3,14 @@ begins."""
 from array import array
 from typing import Any, List, NamedTuple, Optional, Set
 
-from ..costs import kinds, reading
+from ..costs import kinds, printing, reading
 from ..costs.limits import GREATEST_COST, MOST_PERSONS
-from ..costs.problem import AssignmentProblem
+from ..costs.problem import AssignmentProblem, rows_of_any
 from ..costs.source import Source
 from ..lap import doubles, library, proved
 from .results import Result
 from .solve import solve
 
-# Floats with so few decimals are whole numbers of a decimal unit.
-MOST_DECIMALS = 6
 # Whole numbers up to this are doubles.
 _MOST_WHOLE = 2**53
 # From so many costs on an array is worth making.
@@ -48,8 +46,7 @@ class Assigner:
 
     def __init__(self, costs: Any, maximize: bool = False):
         self._maximize = bool(maximize)
-        numpy = reading.numpy_of(costs)
-        self._costs: Any = numpy.array(costs) if numpy else [list(row) for row in costs]
+        self._costs = copied(costs)
         self._changed: Set[int] = set()
         self._numbers: Optional[SquareCosts] = None
         self._state: Any = None
@@ -82,12 +79,17 @@ class Assigner:
     def _write(self, row: int, costs: Any) -> None:
         """Gives the copy this row. An array of numbers that can't hold others becomes one of objects."""
         if not hasattr(self._costs, "dtype"):
-            self._costs[row] = list(costs)
+            self._costs[row] = list(printing.of_buffer(costs))
             return
         numpy = reading.numpy_of(self._costs)
         kind = None if len(set(map(type, costs))) == 1 else object
-        own = costs if hasattr(costs, "dtype") else numpy.array(costs, kind)
-        if not numpy.can_cast(own.dtype, self._costs.dtype, "safe"):
+        own = as_printed(numpy, numpy.asanyarray(costs) if hasattr(costs, "dtype") else numpy.array(costs, kind))
+        if isinstance(own, numpy.ma.MaskedArray):
+            self._costs = numpy.ma.asarray(self._costs)
+        held = self._costs.dtype
+        is_exact = numpy.can_cast(own.dtype, held, "safe") and (held.kind != "f"
+                                                                or reading.fits_doubles(numpy.asarray(own)))
+        if not is_exact:
             self._costs = self._costs.astype(object)
         self._costs[row] = own
 
@@ -152,6 +154,20 @@ class Assigner:
         return proved.ResultParts(shape, answer, numpy.arange(n), chosen, own, True)
 
 
+def copied(costs: Any) -> Any:
+    """A matrix as an array, or as a list of lists, that the caller can't change."""
+    numpy = reading.numpy_of(costs)
+    if numpy is None:
+        return [list(row) for row in rows_of_any(costs, reading.Manner(False))]
+    return as_printed(numpy, numpy.array(costs, subok=isinstance(costs, numpy.ma.MaskedArray)))
+
+
+def as_printed(numpy: Any, costs: Any) -> Any:
+    """An array whose floats of fewer than 64 bits are the doubles that print as they do, unless it has a mask."""
+    is_short = costs.dtype.kind == "f" and costs.dtype.itemsize < 8 and not isinstance(costs, numpy.ma.MaskedArray)
+    return printing.of_shape(numpy, costs) if is_short else costs
+
+
 class SquareCosts(NamedTuple):
     """The costs of a square matrix: doubles, or whole numbers of a decimal unit of so many decimals."""
 
@@ -180,7 +196,7 @@ def numbers_of(costs: Any) -> Optional[SquareCosts]:
         if own is None:
             return None
         flat.extend(own)
-    for decimals in range(MOST_DECIMALS + 1):
+    for decimals in range(reading.MOST_UNIT_DECIMALS + 1):
         whole = in_decimal_units(flat, decimals)
         if whole is not None:
             return SquareCosts(n, decimals, whole)
@@ -188,8 +204,10 @@ def numbers_of(costs: Any) -> Optional[SquareCosts]:
 
 
 def doubles_of(row: Any) -> Optional[Any]:
-    """Floats and whole numbers as doubles that are exactly these; None where one isn't, or is NaN."""
+    """Floats and whole numbers as doubles that are exactly these; None where one isn't, or is NaN or masked."""
     if hasattr(row, "dtype"):
+        if hasattr(row, "mask") and row.mask.any():
+            return None
         if row.ndim != 1 or row.dtype.kind not in "iuO" and row.dtype.str[1:] != "f8":
             return None
         if row.dtype.kind == "f":

@@ -7,7 +7,7 @@ from typing import Any, Dict, List, Optional, Tuple
 from ..costs import naming
 from ..costs.numbers import Number
 from ..costs.problem import AssignmentProblem, Labels, in_whole_numbers, lists_of
-from ..costs.reading import manner
+from ..costs.reading import is_nan, manner
 from ..costs.source import lasting, problem_of
 from ..counts.lack import Lack
 from ..counts.nodes import Bounds, Counted, Pair
@@ -239,12 +239,12 @@ def _of_lists(values: List[Any], given: List[Optional[int]]) -> int:
 
 
 def _of_labels(values: List[Any], given: List[Optional[int]]) -> int:
-    """None and NaN are no label."""
+    """None, NaN and what pandas has instead are no label."""
     if len(values) != len(given):
         raise ValueError(f"column_groups has {len(values)} labels, and there are {len(given)} columns")
     numbers: Dict[Any, int] = {}
     for column, label in enumerate(values):
-        if label is not None and label == label:
+        if label is not None and not is_nan(label) and label == label:
             given[column] = numbers.setdefault(label, len(numbers))
     return len(numbers)
 
@@ -312,12 +312,12 @@ def assign_counts(costs: Any, row_counts: Any = None, column_counts: Any = None,
     """
     if row_counts is None and column_counts is None:
         raise TypeError("row_counts and column_counts are both missing: give one, or call solve")
-    problem = in_whole_numbers(problem_of(lasting(costs), None, None, None, manner(maximize, decimals, missing)))
-    of_rows, of_columns = problem.labels or (None, None)
-    rows, columns = bounds_of(row_counts, "row", problem.n_rows, of_rows), bounds_of(column_counts, "column",
-                                                                                     problem.n_columns, of_columns)
-    counted = _counted(problem, rows, columns, groups_of(column_groups, problem.n_columns, of_columns))
     with library.limited(timeout):
+        problem = in_whole_numbers(problem_of(lasting(costs), None, None, None, manner(maximize, decimals, missing)))
+        of_rows, of_columns = problem.labels or (None, None)
+        rows, columns = bounds_of(row_counts, "row", problem.n_rows, of_rows), bounds_of(column_counts, "column",
+                                                                                         problem.n_columns, of_columns)
+        counted = _counted(problem, rows, columns, groups_of(column_groups, problem.n_columns, of_columns))
         lacks, pairs, _ = planned(counted, partial)
     if pairs is None:
         raise CountsInfeasible(shortages_of(counted, lacks), problem.labels)

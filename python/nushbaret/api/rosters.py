@@ -1,9 +1,10 @@
 """Rosters with rules, from Python."""
 from array import array
-from datetime import date
+from datetime import date, datetime
 from typing import Any, Dict, Iterable, List, Mapping, NamedTuple, Optional, Sequence, Tuple, Union
 
-from ..costs.numbers import Number, Ratio, in_unit, ratio_of, unit_of
+from ..costs.numbers import Number, Ratio, in_unit, unit_of
+from ..costs.reading import exact_ratio
 from ..counts.nodes import Bounds
 from ..roster.answer import Request
 from ..roster.by_rules import Proved, Task, answer_by_rules
@@ -132,7 +133,7 @@ def plan_roster(costs: Mapping[Named, Any], days: Mapping[str, Union[str, date]]
     if any(abs(own) > MOST_UNITS for own in units):
         raise ValueError(f"a cost is more than {MOST_UNITS} times the unit that all costs have in common")
     roster = _roster(list(listed), units, days, kinds)
-    earlier = [(person, str(day), kind) for person, day, kind in before]
+    earlier = [(person, _day_name(day), kind) for person, day, kind in before]
     roster = _with_counts(roster, tasks or {}, places or {})
     groups = _groups(roster, earlier)
     month = month_of(roster, groups, "days", Before("before",
@@ -159,14 +160,19 @@ def _result(proved: Proved, pairs: Optional[List[Named]], cost: Optional[Number]
 def _ratio(pair: Named, cost: Any) -> Ratio:
     """A cost as a ratio."""
     try:
-        ratio = ratio_of(cost, False)
-    except (TypeError, AttributeError):
+        ratio = exact_ratio(cost)
+    except TypeError:
         raise TypeError(f"the cost of {pair!r} is {cost!r}, which is no number") from None
     except (ValueError, OverflowError):
         raise ValueError(f"the cost of {pair!r} is {cost!r}, which isn't finite") from None
     if abs(ratio[0]) > MOST_UNITS or ratio[1] > MOST_UNITS:
         raise ValueError(f"the cost of {pair!r} is {cost!r}, which has too many digits")
     return ratio
+
+
+def _day_name(day: Union[str, date]) -> str:
+    """A day's name; that of a date with a time is the date's."""
+    return str(day.date() if isinstance(day, datetime) else day)
 
 
 def _numbers(names: Iterable[str]) -> Dict[str, int]:
@@ -180,8 +186,8 @@ def _roster(pairs: List[Named], costs: List[int], days: Mapping[str, Union[str, 
     for name in kinds or {}:
         if name not in objects:
             raise ValueError(f"kinds: there is no object {name!r}")
-    names = _numbers(map(str, days.values()))
-    groups = Groups("day", list(names), {objects[name]: names[str(day)] for name, day in days.items()}, {},
+    names = _numbers(map(_day_name, days.values()))
+    groups = Groups("day", list(names), {objects[name]: names[_day_name(day)] for name, day in days.items()}, {},
                     {objects[name]: kind for name, kind in (kinds or {}).items()}, kinds is not None)
     order = sorted(range(len(pairs)), key=lambda place: (persons[pairs[place][0]], objects[pairs[place][1]]))
     return Roster(list(persons), list(objects), persons, objects,

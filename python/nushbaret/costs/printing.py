@@ -83,6 +83,11 @@ def of_array(numpy: Any, flat: Any) -> Any:
     return parts.filled(numpy, numpy.float64, len(flat), lambda part: _of_part(numpy, flat[part]))
 
 
+def of_shape(numpy: Any, values: Any) -> Any:
+    """The same for an array of any shape."""
+    return of_array(numpy, values.ravel()).reshape(values.shape)
+
+
 def _of_part(numpy: Any, floats: Any) -> Any:
     wide = floats.astype(numpy.float64)
     sizes = wide if len(wide) and wide.item(wide.argmin()) > 0 else numpy.abs(wide)

@@ -3,7 +3,7 @@ import operator
 import sys
 from array import array
 from fractions import Fraction
-from itertools import compress
+from itertools import compress, islice
 from typing import Any, Dict, Iterable, List, NamedTuple, Optional, Sequence, Tuple, Union
 
 from . import naming, parts, printing, reading as exact
@@ -120,7 +120,8 @@ def _judge_size(n_rows: int, n_columns: int) -> None:
         raise TooLarge(f"{n_rows} rows and {n_columns} columns: at most {MOST_PERSONS} of each are possible")
 
 
-def _rows_of_any(costs: Any, manner: exact.Manner) -> List[Any]:
+def rows_of_any(costs: Any, manner: exact.Manner) -> List[Any]:
+    """The rows of a matrix that is no array, or what is wrong with it."""
     if manner.doubles and (not hasattr(costs, "__len__") or isinstance(costs, (dict, set, frozenset))
                            or hasattr(costs, "tocsr")):
         # SciPy takes a sparse matrix with items for a list.
@@ -147,7 +148,7 @@ def _rows_of(costs: Any, manner: exact.Manner) -> Tuple[List[Any], int]:
     if type(costs) is list and {list}.issuperset(map(type, costs)):
         rows = costs
     else:
-        rows = _rows_of_any(costs, manner)
+        rows = rows_of_any(costs, manner)
     if not rows and manner.doubles:
         raise ValueError("expected a matrix (2-D array), got a 1 array")
     lengths = set(map(len, rows))
@@ -155,7 +156,7 @@ def _rows_of(costs: Any, manner: exact.Manner) -> Tuple[List[Any], int]:
         row = next(row for row, held in enumerate(rows) if len(held) != len(rows[0]))
         raise ValueError(f"expected a matrix (2-D array): row {row} has {len(rows[row])} costs, row 0 has "
                          f"{len(rows[0])}")
-    if manner.doubles and any(isinstance(value, (list, tuple)) for row in rows for value in row[:1]):
+    if manner.doubles and any(isinstance(value, (list, tuple)) for row in rows for value in islice(row, 1)):
         raise ValueError("expected a matrix (2-D array), got a 3 array")
     return rows, lengths.pop() if rows else 0
 
@@ -180,7 +181,10 @@ def _of_view(view: memoryview, manner: exact.Manner) -> AssignmentProblem:
     own = kind in ("q", "l") and view.itemsize == 8 and view.c_contiguous and not view.readonly
     if own and not manner.decimals and view.nbytes:
         return AssignmentProblem(n_rows, n_columns, manner.maximize, WholeNumbers(BorrowedNumbers(view)))
-    rows: Any = view.tolist()
+    try:
+        rows: Any = view.tolist()
+    except NotImplementedError:
+        raise TypeError(f"Cannot cast array data: Python doesn't read a buffer of the format {kind!r}") from None
     if kind in ("e", "f") and not manner.doubles:
         rows = [[printing.shortest(cost, kind) for cost in row] for row in rows]
     return _dense(n_rows, n_columns, manner, exact.of_rows(rows, n_columns, manner, _place_in(n_columns, None)))

@@ -94,6 +94,17 @@ def whole_number(value: Any, name: str) -> int:
         raise TypeError(f"{name} is {value!r}: it must be a whole number") from None
 
 
+def exact_ratio(value: Any) -> Ratio:
+    """A number of any kind as a ratio; a float of any size is the decimal that it prints as. A text is none."""
+    if isinstance(value, (str, bytes)):
+        raise TypeError("a text is no number")
+    if hasattr(value, "dtype") and value.dtype.kind == "f":
+        value = printing.of_scalar(value)
+    if hasattr(value, "as_integer_ratio") and not hasattr(value, "dtype"):
+        return ratio_of(value, False)
+    return (operator.index(value), 1) if hasattr(value, "__index__") else ratio_of(float(value), False)
+
+
 def refuse_invalid(where: str, value: Any) -> NoReturn:
     shown = str(value).lower()
     hint = (": None or an infinite cost forbids a pair, and missing=\"forbid\" takes nan so" if "nan" in shown
@@ -346,7 +357,7 @@ def array_of_frame(numpy: Any, frame: Any, manner: Manner) -> Any:
     if len(kinds) < 2 and (manner.doubles or not any(map(_small_kind, kinds))):
         return costs
     columns = [_column(numpy, frame.iloc[:, place], manner) for place in range(frame.shape[1])]
-    kind = numpy.float64 if all(map(_fits_doubles, columns)) else object
+    kind = numpy.float64 if all(map(fits_doubles, columns)) else object
     joined = numpy.empty(frame.shape, kind)
     for place, column in enumerate(columns):
         joined[:, place] = column if kind is not object or column.dtype.kind == "O" else column.tolist()
@@ -363,6 +374,9 @@ def _column(numpy: Any, column: Any, manner: Manner) -> Any:
     """The costs of a column; floats of fewer bits as doubles."""
     small = None if manner.doubles else _small_kind(column.dtype)
     values = column.to_numpy() if small is None else column.to_numpy(dtype=small, na_value=math.nan)
+    # As Python's numbers dates would be whole ones.
+    if values.dtype.kind in "mM":
+        _refuse_dtype(values.dtype)
     if values.dtype.kind != "f":
         return values
     if values.dtype.itemsize > 8:
@@ -373,11 +387,11 @@ def _column(numpy: Any, column: Any, manner: Manner) -> Any:
         return printing.of_array(numpy, values)
 
 
-def _fits_doubles(column: Any) -> bool:
-    """Whether a column's costs are doubles: floats are, and whole numbers that aren't too great."""
-    if column.dtype.kind not in "biu":
-        return bool(column.dtype.kind == "f")
-    return not column.size or -_MOST_WHOLE <= int(column.min()) and int(column.max()) <= _MOST_WHOLE
+def fits_doubles(values: Any) -> bool:
+    """Whether an array's costs are doubles: floats are, and whole numbers that aren't too great."""
+    if values.dtype.kind not in "biu":
+        return bool(values.dtype.kind == "f")
+    return not values.size or -_MOST_WHOLE <= int(values.min()) and int(values.max()) <= _MOST_WHOLE
 
 
 def _of_values(numpy: Any, flat: Any, manner: Manner, where: Where) -> ReadCosts:
@@ -389,8 +403,12 @@ def _of_values(numpy: Any, flat: Any, manner: Manner, where: Where) -> ReadCosts
     if kind in "Of":
         read = of_list([*flat], manner, where)
         return read._replace(costs=read.costs.in_array(numpy))
-    raise TypeError(f"Cannot cast array data from {flat.dtype!r} to dtype('float64') according to the rule 'safe': "
-                    "costs must be numbers")
+    return _refuse_dtype(flat.dtype)
+
+
+def _refuse_dtype(dtype: Any) -> NoReturn:
+    raise TypeError(f"Cannot cast array data from {dtype!r} to dtype('float64') according to the rule 'safe': costs "
+                    "must be numbers")
 
 
 def _of_whole_array(numpy: Any, flat: Any, manner: Manner, where: Where) -> ReadCosts:

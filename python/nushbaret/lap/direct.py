@@ -114,12 +114,7 @@ def _matrix(costs: Any) -> Any:
         costs = _of_frame(numpy, costs)
     if costs is None or costs.ndim != 2 or costs.dtype.kind != "f" or costs.dtype.itemsize == 8:
         return costs
-    return None if costs.dtype.itemsize > 8 else _printed(numpy, costs)
-
-
-def _printed(numpy: Any, costs: Any) -> Any:
-    """The doubles that print as short floats do."""
-    return printing.of_array(numpy, costs.ravel()).reshape(costs.shape)
+    return None if costs.dtype.itemsize > 8 else printing.of_shape(numpy, costs)
 
 
 def _of_frame(numpy: Any, costs: Any) -> Any:

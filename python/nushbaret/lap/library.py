@@ -79,6 +79,7 @@ def _load() -> None:
     found = bytes(text).split(b"\0")[0].decode()
     if found != VERSION:
         raise LibraryNotFound(f"the library is of version {found}, and {VERSION} is needed: {_MADE_BY} builds it again")
+    calls: Dict[str, Any] = {"library": library}
     for name, lists in _LISTS.items():
         call = getattr(library, f"nushbaret_{name}")
         sense = [] if name == "check_hall" else [ctypes.c_uint32]
@@ -86,10 +87,11 @@ def _load() -> None:
         call.argtypes = sense + [ctypes.c_size_t] * 2 + [ctypes.c_void_p,
                                                          ctypes.c_size_t] * lists + piece + [ctypes.c_void_p]
         call.restype = ctypes.c_int32
-        _calls[name] = call
+        calls[name] = call
     with contextlib.suppress(MemoryError):
         bytes(_KEPT)
-    _calls["library"] = library
+    # All at once: other threads don't wait where any call is there.
+    _calls.update(calls)
 
 
 _SPARE = array("Q", [0])
@@ -270,7 +272,9 @@ class limited:
         if progress is not None and not callable(progress):
             raise TypeError(f"progress is {progress!r}: it must be a call of two numbers, how many are served and how "
                             "many there are")
-        self.timeout, self.progress = timeout, progress
+        # A whole number may be beyond all floats.
+        self.timeout = None if timeout is None else float(timeout) if timeout <= sys.float_info.max else math.inf
+        self.progress = progress
 
     def __enter__(self) -> None:
         before: Optional[_Alarm] = getattr(_limits, "alarm", None)
@@ -279,12 +283,11 @@ class limited:
         self.alarm: Optional[_Alarm] = None
         if self.timeout == 0:
             raise TimeoutError(_TIME_IS_OVER)
-        self.outer_progress, _limits.progress = getattr(_limits, "progress", None), self.progress
-        if self.timeout is None:
-            return
-        end = time.monotonic() + self.timeout
-        if self.before is None or end < self.before.end:
+        end = math.inf if self.timeout is None else time.monotonic() + self.timeout
+        if self.timeout is not None and (self.before is None or end < self.before.end):
             self.alarm = _Alarm(end)
+        self.outer_progress, _limits.progress = getattr(_limits, "progress", None), self.progress
+        if self.alarm is not None:
             try:
                 _limits.alarm = self.alarm
                 self.alarm.arm()

@@ -4,16 +4,15 @@ The library gives each of n persons one of m objects, proved for n <= m. The few
 with more rows than columns the problem is turned. If persons may stay out, each also lists dummy objects, as many as
 persons are to stay out. Then at least the requested number of pairs is made, and exactly this number if no plan has
 more."""
-import operator
 from array import array
 from fractions import Fraction
 from typing import Any, List, NamedTuple, NoReturn, Optional, Sequence, Tuple, Union
 
-from ..costs import naming, printing
+from ..costs import naming
 from ..costs.limits import GREATEST_PRICE, MOST_PERSONS, Numbers
-from ..costs.numbers import ratio_of
 from ..costs.orientation import by_rows, costs_by_persons, object_prices, oriented, row_and_column_duals
 from ..costs.problem import AssignmentProblem, TooLarge, listed
+from ..costs.reading import exact_ratio
 from . import library
 
 
@@ -243,15 +242,8 @@ def rents(duals: Duals) -> List[int]:
 
 def read_price(price: Any, name: Any) -> Fraction:
     """A price of any kind, exactly; a float is the decimal that it prints as. `name` is that of its column."""
-    if isinstance(price, str) or type(price) is bytes:
-        raise TypeError(f"the price of column {name} is {price!r}: it must be a number")
     try:
-        if hasattr(price, "dtype") and price.dtype.kind == "f":
-            price = printing.of_scalar(price)
-        if hasattr(price, "as_integer_ratio") and not hasattr(price, "dtype"):
-            return Fraction(*ratio_of(price, False))
-        return Fraction(operator.index(price)) if hasattr(price,
-                                                          "__index__") else Fraction(*ratio_of(float(price), False))
+        return Fraction(*exact_ratio(price))
     except (ValueError, OverflowError):
         raise ValueError(f"the price of column {name} is {price}: it must be finite") from None
     except TypeError:

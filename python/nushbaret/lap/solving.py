@@ -10,8 +10,7 @@ Began = Optional[proved.WarmStart]
 
 
 def solved(problem: AssignmentProblem, start: Began = None, served: Optional[int] = None) -> Outcome:
-    """The answer to the problem of so many pairs, an Answer or a Short: the library's, or by levels where costs are
-    beyond its range."""
+    """The answer to the problem of so many pairs: the library's, or by levels where costs are beyond its range."""
     if served == 0 or not min(problem.n_rows, problem.n_columns):
         return proved.no_pairs(problem)
     if problem.costs.of_64_bits() is not None:

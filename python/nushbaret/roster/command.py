@@ -278,7 +278,7 @@ def _refuse_existing_of_each(options: Options, roster: Roster) -> None:
     if options.each is None:
         return
     from .output.each import paths_of
-    others = {os.path.realpath(output.path) for output in options.outputs}
+    others = {os.path.realpath(path) for path in options.written}
     for path in paths_of(roster, options.each):
         if os.path.realpath(path) in others:
             raise OutputFault(f"{path} is another output too")

@@ -2,11 +2,13 @@
 import re
 from bisect import bisect_left
 from datetime import date, timedelta
-from typing import Dict, FrozenSet, Iterable, List, NamedTuple, Optional, Sequence, Set, Tuple
+from typing import FrozenSet, Iterable, List, NamedTuple, Optional, Sequence, Set, Tuple
 
 DAY_NAMES = ("Mon", "Tue", "Wed", "Thu", "Fri", "Sat", "Sun")
 SATURDAY = 5
 HALF_A_YEAR = timedelta(days=183)
+# Files of calendars have years of four digits, and the week of a later day would end after the last day of Python's.
+FIRST, LAST = date(1000, 1, 1), date(9999, 12, 26)
 # The days of the week from Monday, in English, German, French, Spanish, Italian and Dutch.
 WEEKS = (
     "monday tuesday wednesday thursday friday saturday sunday",
@@ -129,9 +131,10 @@ def _dated(own: _Written, year: Optional[int] = None) -> Optional[date]:
     """The date, with its own year or a given one; None where the calendar has none."""
     year = own.year if year is None else year
     try:
-        return None if year is None else date(year, own.month, own.day)
+        found = None if year is None else date(year, own.month, own.day)
     except ValueError:
         return None
+    return found if found is not None and FIRST <= found <= LAST else None
 
 
 def _nearest(own: _Written, anchors: Sequence[date]) -> Optional[date]:
@@ -151,12 +154,6 @@ def _apart(one: date, anchors: Sequence[date]) -> timedelta:
 def monday_of(day: date) -> date:
     """The Monday of a day's week."""
     return day - timedelta(days=day.weekday())
-
-
-def order_by_date(names: Sequence[str]) -> List[int]:
-    """The numbers of names by date where they are dates, and otherwise as they stand."""
-    dates: Dict[int, date] = dict(enumerate(dates_of(names).all or []))
-    return sorted(range(len(names)), key=lambda number: (dates.get(number, date.min), number))
 
 
 def spellings(name: str) -> Tuple[str, ...]:

@@ -171,19 +171,18 @@ def _free(making: Making, rule: Rule) -> None:
 
 def _whole(making: Making, rule: Rule) -> None:
     """All days of a weekend or none, as far as they have shifts."""
-    month = making.month
+    weekends = weekends_with_shifts(making.month)
     for person in rule.persons:
-        for weekend in month.weekends:
-            days = working_days(month, weekend)
+        for days in weekends:
             for day, other in zip(days, days[1:]):
                 own = making.work.sum(person, [other], None, -1, making.work.sum(person, [day]))
                 making.rows.add(own, 0, 0, making.said(rule, person), person)
 
 
-def working_days(month: Month, days: Sequence[int]) -> List[int]:
-    """Those days that have shifts."""
+def weekends_with_shifts(month: Month) -> List[List[int]]:
+    """The days of each weekend that have shifts."""
     held = {shift.day for shift in month.shifts.values()} | {day for _, day in month.worked}
-    return [day for day in days if day in held]
+    return [[day for day in days if day in held] for days in month.weekends]
 
 
 def _staff(making: Making, rule: Rule) -> None:

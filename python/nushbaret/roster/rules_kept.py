@@ -8,7 +8,7 @@ from .month import WEEK, Month, Shift
 from .names import joined
 from .roster import Roster
 from .rule_file import APART, COUNT, EVEN, FREE, HOURS, REST, RUN, STAFF, TOGETHER, WEEKLY, WHOLE, Rule, Rules
-from .rule_rows import hours_of
+from .rule_rows import hours_of, weekends_with_shifts
 from .sums import Kinds, is_of
 
 # A shift that a person has, and its object, where the roster has it.
@@ -184,11 +184,9 @@ def _free(plan: DailyPlan, rule: Rule) -> Iterator[Broken]:
 
 
 def _whole(plan: DailyPlan, rule: Rule) -> Iterator[Broken]:
-    month = plan.month
-    held = {shift.day for shift in month.shifts.values()} | {day for _, day in month.worked}
+    month, weekends = plan.month, weekends_with_shifts(plan.month)
     for person in rule.persons:
-        for weekend in month.weekends:
-            days = [day for day in weekend if day in held]
+        for days in weekends:
             for day, other in zip(days, days[1:]):
                 own, others = plan.on(person, day), plan.on(person, other)
                 can_mend = not month.is_past(other) and not (own and month.is_past(day)

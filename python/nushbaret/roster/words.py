@@ -4,7 +4,7 @@ import contextlib
 import os
 import re
 import sys
-from typing import Any, Callable, Dict, NamedTuple, NoReturn, Optional, Sequence, Tuple
+from typing import Any, Callable, Dict, List, NamedTuple, NoReturn, Optional, Sequence, Tuple
 
 from ..costs.reading import MOST_UNIT_DECIMALS
 from ..lap.library import VERSION
@@ -91,6 +91,11 @@ class Options(NamedTuple):
     certificate: Optional[str]
     quiet: bool
     force: bool
+
+    @property
+    def written(self) -> List[str]:
+        """All files that are written, except those for each person."""
+        return [output.path for output in self.outputs] + list(filter(None, [self.certificate]))
 
 
 def _output(path: str) -> Output:
@@ -398,7 +403,7 @@ def _judge_files(options: Options, refuse: Callable[[str], NoReturn]) -> None:
     if options.sheet is not None and file_and_sheet(options.roster)[1] is not None:
         refuse(f"--sheet and {options.roster} both name a sheet")
     seen = {os.path.realpath(file_and_sheet(path)[0]) for path in read if path}
-    for path in [output.path for output in options.outputs] + list(filter(None, [options.certificate])):
+    for path in options.written:
         file = os.path.realpath(path)
         if file in seen:
             refuse(f"{path} is named twice, or is read too")

@@ -39,12 +39,8 @@ class Channel:
             self.say(plan=self.plan)
 
 
-def packed(model: Model) -> Dict[str, Any]:
-    """A model as JSON has it."""
-    return {"variables": model.variables, "costs": model.costs, "rows": model.rows, "persons": model.persons}
-
-
 def unpacked(told: Dict[str, Any]) -> Model:
+    """A model from JSON."""
     rows = tuple(Row(least, tuple((variable, factor) for variable, factor in terms), most, text, person)
                  for least, terms, most, text, person in told["rows"])
     return Model(told["variables"], tuple(told["costs"]), rows, tuple(told["persons"]))

@@ -20,7 +20,7 @@ class _TreeNode(NamedTuple):
 
 def shows(certificate: Certificate) -> bool:
     """Whether a certificate shows that no plan meets its rows, and its plan, where it has one, meets all but the last.
-    The library says so; where it doesn't have this check, or a number is beyond 64 bits, this module does."""
+    The library says so; where it isn't there, or a number is beyond 64 bits, this module does."""
     is_shown = shown_by_library(certificate)
     return shows_here(certificate) if is_shown is None else is_shown
 

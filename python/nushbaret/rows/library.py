@@ -4,7 +4,7 @@ from array import array
 from itertools import chain
 from typing import Any, Iterable, List, Optional, Tuple
 
-from ..lap.library import LibraryNotFound, _open
+from ..lap.library import LibraryNotFound, address
 from .model import Certificate
 
 SHOWN = 0
@@ -20,16 +20,14 @@ class _Info(ctypes.Structure):
 
 
 def _rows_call() -> Any:
-    """The library's call; None where there is no library, or it doesn't have it."""
+    """The library's call; None where there is no library of this version."""
     if not _call:
+        prototype = ctypes.CFUNCTYPE(ctypes.c_int32, ctypes.c_size_t, *[ctypes.c_void_p, ctypes.c_size_t] * _LISTS,
+                                     ctypes.c_void_p)
         try:
-            call = getattr(_open(), "nushbaret_rows", None)
+            _call.append(prototype(address("nushbaret_rows")))
         except LibraryNotFound:
-            call = None
-        if call is not None:
-            call.argtypes = [ctypes.c_size_t] + [ctypes.c_void_p, ctypes.c_size_t] * _LISTS + [ctypes.c_void_p]
-            call.restype = ctypes.c_int32
-        _call.append(call)
+            _call.append(None)
     return _call[0]
 
 
@@ -52,8 +50,8 @@ def _bounds(values: Iterable[Optional[int]], absent: int) -> "array[int]":
 
 
 def shown_by_library(certificate: Certificate) -> Optional[bool]:
-    """Whether the library shows a certificate's claim; None where it can't decide: it doesn't have the call, or a
-    number is too great."""
+    """Whether the library shows a certificate's claim; None where it can't decide: it isn't there, or a number is too
+    great."""
     call = _rows_call()
     if call is None or _says_no_bound(certificate) or (certificate.plan is not None and certificate.variables == 0):
         return None

@@ -20,7 +20,7 @@ _CANDIDATES = 3
 
 
 class Open(Exception):
-    """A tree can't be finished: the time or the leaves are used up, or there is a plan."""
+    """A tree can't be finished: the time or the leaves are used up, it is too deep for Python, or there is a plan."""
 
 
 class _Bound(NamedTuple):
@@ -89,7 +89,10 @@ class Trees:
         self.costs, self.most, self.left = np.asarray(costs, dtype=np.int64), most, most_leaves
         self.gains = {}
         root = self._root()
-        return self._grown(root, self._solve(root))
+        try:
+            return self._grown(root, self._solve(root))
+        except RecursionError:
+            raise Open from None
 
     def relaxed(self, costs: Any) -> Solved:
         """The relaxation's value, its point, and multipliers, before any split."""

@@ -1,6 +1,7 @@
 """A matrix whose rows change: after each change the cost is that of a fresh solve, compared with a slow search too."""
 import math
 import unittest
+from array import array
 from decimal import Decimal
 from fractions import Fraction
 from unittest import mock
@@ -126,18 +127,50 @@ class Rows(unittest.TestCase):
             assigner.update(1, row)
             self.assertEqual(assigner.result.cost, nushbaret.solve([list(costs[0]), row]).cost, kind)
 
+    def test_short_floats(self):
+        """Floats of 32 bits are the decimals that they print as, whatever else a matrix gets."""
+        short, plain = [array("f", [0.1, 0.2]), array("f", [0.3, 0.5])], [[0.1, 0.2], [0.3, 0.5]]
+        forms = [short, plain] + ([np.array(short), np.array(plain), np.array(plain, np.float16)] if np else [])
+        for form in forms:
+            assigner = nushbaret.Assigner(form)
+            self.assertEqual(assigner.result.cost, Decimal("0.5"))
+            for row in [array("f", [0.7, 0.9]), [0.7, 0.9]] + ([np.array([0.7, 0.9], np.float32)] if np else []):
+                assigner.update(1, row)
+                self.assertEqual(assigner.result.cost, Decimal("0.9"))
+                assigner.update(1, plain[1])
+                self.assertEqual(assigner.result.cost, Decimal("0.5"))
+
+    @unittest.skipUnless(np, "NumPy isn't there")
+    def test_great_numbers_among_floats(self):
+        for row in [2**60 + 1, 0], np.array([2**60 + 1, 0]), np.array([2**60 + 1, 0], np.uint64):
+            assigner = nushbaret.Assigner(np.array([[1, 0.5], [2, 3]]), True)
+            assigner.update(0, row)
+            self.assertEqual(assigner.result.cost, 2**60 + 4)
+
     @unittest.skipUnless(np, "NumPy isn't there")
     def test_masks(self):
-        costs = np.ma.array([[1, 2], [3, 4]], mask=[[1, 0], [0, 0]])
-        with self.assertRaisesRegex(ValueError, "masked"):
-            nushbaret.Assigner(costs).result
-        for kind in "i8", "f8", "O":
-            assigner = nushbaret.Assigner(np.array([[1, 2], [3, 5]], kind))
-            assigner.update(0, np.ma.array([50, 60], mask=[True, False]))
-            with self.assertRaisesRegex(ValueError, "masked"):
-                assigner.result
-            assigner.update(0, [1, 2])
-            self.assertEqual(assigner.result.cost, 5)
+        """What a mask covers is refused, as `solve` does, until a row without any is there."""
+        for kind in float, int, np.float32:
+            plain = np.array([[4, 1], [2, 3]], kind)
+            masked = np.ma.array(plain, mask=[[False, True], [False, False]])
+            changed = nushbaret.Assigner(plain)
+            changed.update(0, masked[0])
+            for assigner in nushbaret.Assigner(masked), changed:
+                with self.assertRaisesRegex(ValueError, "-- \\(masked\\) at row 0, column 1"):
+                    assigner.result
+                assigner.update(0, plain[0])
+                self.assertEqual(assigner.result.cost, 3)
+            changed.update(1, np.ma.array([2**60, 1], mask=True))
+            with self.assertRaisesRegex(ValueError, "-- \\(masked\\) at row 1, column 0"):
+                changed.result
+
+    def test_no_matrices(self):
+        for wrong in 5, [1, 2], {(1, 2): 3, (3, 4): 5}, [b"ab", b"cd"], [{1: 2, 3: 4}, [5, 6]]:
+            with self.assertRaises((ValueError, TypeError)) as wanted:
+                nushbaret.solve(wrong)
+            with self.assertRaises((ValueError, TypeError)) as seen:
+                nushbaret.Assigner(wrong)
+            self.assertEqual(str(seen.exception), str(wanted.exception))
 
     def test_refusals(self):
         assigner = nushbaret.Assigner([[1, 2], [3, 5]])

@@ -7,7 +7,7 @@ from fractions import Fraction
 
 import nushbaret
 from commands import InFolder, program
-from optional import np, optimize
+from optional import np, optimize, pd
 
 DAYS = [datetime.date(2027, 3, day) for day in (5, 6, 7, 8)]
 SHIFTS = {f"{kind} {day}": day for day in DAYS for kind in ("Early", "Night")}
@@ -64,6 +64,20 @@ class Plans(InFolder):
         for unit, cost in ((Decimal("0.1"), Decimal("0.6")), (Fraction(1, 3), Fraction(2)), (0.25, Decimal("1.5"))):
             with self.subTest(unit):
                 self.assertEqual(planned(costs={pair: unit * cost for pair, cost in COSTS.items()}).cost, cost)
+
+    @unittest.skipUnless(np, "NumPy isn't there")
+    def test_costs_of_numpy(self):
+        """Floats of any size are the decimals that they print as."""
+        for kind, unit in (np.int64, 1), (np.float32, Decimal("0.1")), (np.float16, Decimal("0.1")):
+            costs = {pair: kind(unit * cost) for pair, cost in COSTS.items()}
+            self.assertEqual(planned(costs=costs).cost, 6 * unit)
+
+    def test_dates_with_times(self):
+        """They are the same days as dates without, so that weeks are the same."""
+        for kind in datetime.datetime, *([pd.Timestamp] if pd else []):
+            found = planned(days={shift: kind(day.year, day.month, day.day) for shift, day in SHIFTS.items()},
+                            rules=[("shifts per week", "2")], before=[("Cleo", kind(2027, 2, 28), "Night")])
+            self.assertEqual((found.proved, len(found.pairs or ())), ("best", 8))
 
     def test_own_rows(self):
         """Without her two nights Ada takes others; a row that can't be kept is named."""

@@ -95,6 +95,10 @@ class Refused(unittest.TestCase):
             self.assertEqual(nushbaret.solve(view, maximize=True).cost, 2, code)
             self.assertEqual(nushbaret.solve(view).cost, 0, code)
             self.assertEqual(nushbaret.solve(view).without(1, 2).cost, 1, code)
+        foreign = (ctypes.c_double.__ctype_be__ * 2 * 2)()
+        for call in nushbaret.solve, nushbaret.linear_sum_assignment:
+            self.refused(TypeError, "Cannot cast array data: Python doesn't read a buffer of the format '>d'", call,
+                         memoryview(foreign))
         frozen = memoryview(array("q", [1, 2, 3, 5]).tobytes()).cast("q", (2, 2))
         self.assertEqual(nushbaret.solve(frozen).cost, 5)
         borrowed = memoryview(array("q", [1, 2, 3, 5])).cast("B").cast("q", (2, 2))

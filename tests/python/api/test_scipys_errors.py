@@ -5,6 +5,7 @@ import sys
 import os
 import unittest
 import warnings
+from collections import deque
 from decimal import Decimal
 from fractions import Fraction
 
@@ -61,7 +62,8 @@ class Errors(unittest.TestCase):
                   np.array([[b"1"]]), np.array([[2, 1]], np.float16),
                   np.ma.array([[1.0, 0], [2, 4]], mask=[[0, 1], [0, 0]]), np.array([[np.nan, 1]]),
                   np.array([[-np.inf, 1]]), sparse.coo_matrix(np.eye(2)), sparse.csr_matrix(np.eye(2)),
-                  [np.array([1, 2]), np.array([3, 5])], [[np.float32(0.5), np.int8(1)]]]
+                  [np.array([1, 2]), np.array([3, 5])], [[np.float32(0.5), np.int8(1)]],
+                  [deque([1, 2]), deque([3, 5])], [deque([[1], [2]]), deque([[3], [5]])]]
         if pd:
             arrays += [pd.DataFrame([[2, 1]]), pd.DataFrame([[2, 1]], dtype="Int64"), [[pd.NA, 1]],
                        pd.DataFrame([[pd.NA, 1]]), pd.Series([1, 2])]

@@ -4,8 +4,10 @@ import unittest
 from array import array
 from decimal import Decimal
 from fractions import Fraction
+from unittest import mock
 
 import nushbaret
+from nushbaret.lap import library
 from at_once import in_eight_threads
 from drawn import best, drawing, matrix, proves
 
@@ -237,6 +239,19 @@ class Results(unittest.TestCase):
 
         in_eight_threads(work)
         self.assertFalse(wrong)
+
+    def test_first_calls_of_threads(self):
+        """While the library's calls are looked up no thread finds only some of them."""
+        opened, found = library._open(), []
+
+        class Watched:
+            def __getattr__(self, name):
+                found.append(len(library._calls))
+                return getattr(opened, name)
+
+        with mock.patch.dict(library._calls, clear=True), mock.patch.object(library, "_open", Watched):
+            self.assertGreater(len(library._loaded()), len(library._LISTS))
+        self.assertEqual(set(found), {0})
 
 
 if __name__ == "__main__":

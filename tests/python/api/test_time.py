@@ -1,4 +1,5 @@
 """Ctrl-C and timeouts end a call early, and nothing is lost."""
+import functools
 import os
 import signal
 import subprocess
@@ -7,6 +8,8 @@ import threading
 import time
 import unittest
 from array import array
+from decimal import Decimal
+from fractions import Fraction
 from unittest import mock
 
 import nushbaret
@@ -158,6 +161,7 @@ class Timeouts(unittest.TestCase):
                  lambda **word: nushbaret.linear_sum_assignment(self.COSTS, **word),
                  lambda **word: nushbaret.bottleneck(self.COSTS, **word),
                  lambda **word: list(nushbaret.k_best(self.COSTS, 3, **word)),
+                 lambda **word: nushbaret.assign_counts(self.COSTS, 1, **word),
                  lambda **word: nushbaret.solve_sparse(2, 2, [0, 1], [0, 1], [1, 2], **word))
         for call in calls:
             wanted = call()
@@ -213,7 +217,8 @@ class Timeouts(unittest.TestCase):
                 pass
 
         def ends():
-            for call in nushbaret.solve, nushbaret.linear_sum_assignment, nushbaret.bottleneck:
+            for call in (nushbaret.solve, nushbaret.linear_sum_assignment, nushbaret.bottleneck,
+                         functools.partial(nushbaret.assign_counts, row_counts=1)):
                 with self.assertRaisesRegex(TimeoutError, "^the time is over; nothing of the caller's was "
                                             "changed$") as raised:
                     call([Endless(), Endless()], timeout=0.05)
@@ -265,14 +270,18 @@ class Timeouts(unittest.TestCase):
         """Where the system has no more threads, it has no memory for one."""
         with mock.patch.object(threading.Thread, "start", side_effect=RuntimeError("can't start new thread")):
             with self.assertRaisesRegex(MemoryError, "no thread could be started: can't start new thread"):
-                nushbaret.solve(self.COSTS, timeout=100)
+                nushbaret.solve(self.COSTS, timeout=100, progress=silent)
+        self.assertIsNone(library._limits.progress)
         self.assertEqual(nushbaret.solve(self.COSTS, timeout=100).cost, nushbaret.solve(self.COSTS).cost)
 
     def test_refusals(self):
         for wrong in -1, float("nan"):
             with self.assertRaisesRegex(ValueError, "it must be a number of seconds, 0 or more"):
                 nushbaret.solve([[1]], timeout=wrong)
-        self.assertEqual(nushbaret.solve([[1]], timeout=float("inf")).cost, 1)
+
+    def test_numbers_of_any_kind(self):
+        for seconds in float("inf"), Decimal(5), Fraction(11, 2), 10**400:
+            self.assertEqual(nushbaret.solve([[1]], timeout=seconds, progress=silent).cost, 1)
 
 
 if __name__ == "__main__":

@@ -67,6 +67,13 @@ class Frames(unittest.TestCase):
         self.assertEqual(nushbaret.solve(holed, missing="forbid").cost, 7)
         self.assertEqual(nushbaret.bottleneck(holed, missing="forbid").pairs, [("Ada", "early"), ("Ben", "late")])
 
+    def test_dates_are_no_costs(self):
+        for dates in pd.to_datetime(["2027-01-01", "2027-01-02"]), pd.to_timedelta(["1d", "2d"]):
+            for columns in {"cost": [1.5, 2.5], "day": dates}, {"begin": dates, "end": dates}:
+                for call in nushbaret.solve, nushbaret.linear_sum_assignment:
+                    with self.assertRaisesRegex(TypeError, "costs must be numbers"):
+                        call(pd.DataFrame(columns))
+
     def test_names_of_numbers_and_ties(self):
         frame = pd.DataFrame([[1, 2], [2, 1]], index=[10, 20], columns=pd.to_datetime(["2026-01-01", "2026-01-02"]))
         self.assertEqual(nushbaret.solve(frame).pairs, [(10, frame.columns[0]), (20, frame.columns[1])])

@@ -231,6 +231,13 @@ class Words(unittest.TestCase):
         with self.assertRaises(AttributeError):
             partial.cost = 5
 
+    @unittest.skipUnless(pandas, "pandas isn't there")
+    def test_columns_without_a_label(self):
+        for missing in None, float("nan"), numpy.float32("nan"), pandas.NA, pandas.NaT:
+            for groups in ["a", "a", missing], pandas.Series(["a", "a", missing], dtype=object):
+                found = nushbaret.assign_counts([[4, 1, 3], [2, 0, 5]], (1, 2), 1, column_groups=groups)
+                self.assertEqual((found.pairs, found.cost), ([(0, 1), (0, 2), (1, 0)], 6))
+
     def test_refusals(self):
         cases = [(TypeError, (None, None), "row_counts and column_counts are both missing: give one, or call solve"),
                  (TypeError, (1.5,), "row_counts is 1.5: a count is a whole number, or the least and the most"),

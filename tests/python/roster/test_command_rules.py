@@ -77,6 +77,9 @@ class Words(Files):
             with self.subTest(words):
                 self.refused(2, text, *words)
 
+    def test_certificate_among_the_files_of_persons(self):
+        self.refused(4, "out/Ada.html is another output too", *WORDS, "--each", "out", "--certificate", "out/Ada.html")
+
     def test_refused_rules(self):
         self.rules("rest,Night > Early,", "Nihgt per month,2,")
         self.refused(3, "r.csv, line 3, column 1: no kind of shift is 'Nihgt': did you mean 'Night'?", *WORDS)

@@ -3,7 +3,7 @@ import random
 import unittest
 from datetime import date, timedelta
 
-from nushbaret.roster.dates import DAY_NAMES, dates_of, has_weekday, is_weekend_name, monday_of, order_by_date
+from nushbaret.roster.dates import DAY_NAMES, dates_of, has_weekday, is_weekend_name, monday_of
 
 
 class Reading(unittest.TestCase):
@@ -32,6 +32,8 @@ class Reading(unittest.TestCase):
         self.refused(["2027-02-29"], "2027-02-29 is no day of the calendar")
         self.refused(["2027-03-01", "29.02."], "29.02. is no day of the calendar")
         self.refused(["2027-03-01", "2027-13-01"], "2027-13-01 is no day of the calendar")
+        for far in "0999-12-31", "9999-12-27", "9999-12-31":
+            self.refused(["2027-03-01", far], f"{far} is no day of the calendar")
         self.refused(["2027-03-01", "Mo 02.03."], "Mo 02.03. is a Tue")
         self.refused([], "there are none")
 
@@ -53,10 +55,6 @@ class Reading(unittest.TestCase):
             self.assertFalse(is_weekend_name(name), name)
         self.assertTrue(has_weekday("01.03. Mo"))
         self.assertFalse(has_weekday("2027-03-01"))
-
-    def test_order(self):
-        self.assertEqual(order_by_date(["02.03.2027", "01.03."]), [1, 0])
-        self.assertEqual(order_by_date(["Tue", "Mon"]), [0, 1])
 
 
 if __name__ == "__main__":

@@ -190,6 +190,13 @@ class TimesOfDay(Runs):
         super().setUp()
         self.file("r.csv", ",x,y\nAda,1,\nBen,,1\n")
 
+    def test_days_at_the_end_of_all(self):
+        """Some programs write an open end so."""
+        for day in "9999-12-26", "9999-12-31":
+            self.file("g.csv", f"o,day\nx,2027-03-06\ny,{day}\n")
+            self.assertEqual(self.run_words("r.csv", "--groups", "g.csv", "--each", "out", "--html", "p.html",
+                                            "--force")[0], 0)
+
     def test_forms(self):
         for cells, shown in (("06:00,14:30", "06:00\u201314:30"), ("6:05,24:00", "06:05\u201324:00"),
                              ("22:00,06:00", "22:00\u201306:00 (+1)"), ("08:00,08:00", "08:00\u201308:00 (+1)"),

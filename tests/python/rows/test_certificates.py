@@ -7,6 +7,7 @@ import tempfile
 import unittest
 from unittest import mock
 
+from nushbaret.lap import library as lap_library
 from nushbaret.rows import certificates as files, library
 from nushbaret.rows.check import MOST_DEPTH, shows, shows_here
 from nushbaret.rows.model import Certificate, Leaf, Limits, Split, flat
@@ -112,6 +113,13 @@ class Library(unittest.TestCase):
                 self.assertIs(library.shown_by_library(EVEN), shown)
         with mock.patch.object(library, "_rows_call", return_value=None):
             self.assertIs(library.shown_by_library(EVEN), None)
+
+    def test_other_versions(self):
+        """A library of another version isn't called."""
+        self.assertIs(library.shown_by_library(EVEN), True)
+        with mock.patch.object(library, "_call", []), mock.patch.multiple(lap_library, VERSION="0.0.0", _calls={}):
+            self.assertIs(library.shown_by_library(EVEN), None)
+            self.assertTrue(shows(EVEN))
 
 
 class Files(unittest.TestCase):

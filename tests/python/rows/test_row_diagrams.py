@@ -1,6 +1,8 @@
 """Decision diagrams, prices and trees of drawn rows, held against searches of all plans."""
+import inspect
 import itertools
 import random
+import sys
 import time
 import unittest
 from unittest import mock
@@ -59,6 +61,16 @@ class Diagrams(unittest.TestCase):
 
 @unittest.skipUnless(models.scipy, "SciPy isn't there")
 class Trees_(unittest.TestCase):
+    def test_too_deep(self):
+        """A tree that is deeper than Python's calls is given up, and no process ends by it."""
+        row = Limits(121, tuple((variable, 2) for variable in range(121)), 121)
+        trees = Trees(Part([row], [0], list(range(121))), end())
+        trees.relaxed((0,) * 121)
+        self.addCleanup(sys.setrecursionlimit, sys.getrecursionlimit())
+        sys.setrecursionlimit(len(inspect.stack()) + 80)
+        with self.assertRaises(Open):
+            trees.tree((0,) * 121, None, 5000)
+
     def test_trees(self):
         """A tree is found where there is one to find, and shows it; else a plan."""
         counts = [0, 0]
