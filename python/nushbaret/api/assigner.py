@@ -87,9 +87,9 @@ class Assigner:
         if isinstance(own, numpy.ma.MaskedArray):
             self._costs = numpy.ma.asarray(self._costs)
         held = self._costs.dtype
-        is_exact = numpy.can_cast(own.dtype, held, "safe") and (held.kind != "f"
-                                                                or reading.fits_doubles(numpy.asarray(own)))
-        if not is_exact:
+        is_exact = numpy.can_cast(own.dtype, held, "safe") and (
+            held.kind != "f" or held.itemsize == 8 and reading.fits_doubles(numpy.asarray(own)))
+        if own.dtype != held and not is_exact:
             self._costs = self._costs.astype(object)
         self._costs[row] = own
 

@@ -116,8 +116,8 @@ class Before(NamedTuple):
 def month_of(roster: Roster, groups: Groups, path: str, before: Optional[Before] = None) -> Month:
     """The calendar of a roster with groups.
 
-    Raises `RosterFault` where some groups are dates and others aren't, where two groups are one day, or where an earlier
-    object isn't before the first day.
+    Raises `RosterFault` where some groups are dates and others aren't, where two groups are one day, or where an
+    earlier object isn't before the first day.
     """
     days, are_dates = _days_of(groups, path)
     _refuse_same_day(groups, days[:len(groups.names)], path)

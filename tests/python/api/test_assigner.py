@@ -119,7 +119,8 @@ class Rows(unittest.TestCase):
                 assigner = nushbaret.Assigner(costs)
                 assigner.update(2, np.array(rows[2], second))
                 fresh = [*costs[:2], np.array(rows[2], second)]
-                self.assertEqual(assigner.result.cost, nushbaret.solve([list(row) for row in fresh]).cost, (first, second))
+                self.assertEqual(assigner.result.cost, nushbaret.solve([list(row) for row in fresh]).cost,
+                                 (first, second))
         for kind, row in (("f4", [0.1, 0.300000005]), ("f8", [2**53 + 1, 2**60]), ("i1", [1000, -1000]),
                           ("u8", [-1, 2**70]), ("?", [2, 3])):
             costs = np.array([[1, 2], [3, 1]], kind)

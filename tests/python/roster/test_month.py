@@ -74,11 +74,11 @@ class Changed(Runs):
             self.assertIn(f"{plan}: no pair changes", self.run_words(*self.rules[:-1], plan)[1])
 
     def test_a_lost_shift_costs_half_a_change(self):
-        for cost, least, change in (("1", "4", "1 pair goes"), ("2.1", "5.0", "no pair changes"),
-                                    ("5", "5", "no pair changes")):
+        for cost, own, change in (("1", "4", "1 pair goes"), ("2.1", "5.0", "no pair changes"),
+                                  ("5", "5", "no pair changes")):
             status, out, _ = self.run_words(*self.rules, "--change-cost", cost,
                                             *(("--decimals", "1") if "." in cost else ()))
-            self.assertEqual((status, out.splitlines()[0]), (0, f"least cost: {least}"))
+            self.assertEqual((status, out.splitlines()[0]), (0, f"cost: {own}, the least with changes at {cost} each"))
             self.assertIn(f"old.csv: {change}\n", out)
 
     def test_a_swap_costs_it_once(self):

@@ -4,7 +4,7 @@ from typing import Dict, List, Optional
 from ..answer import NamedPlan
 from ..by_rules import BEST, Proved, Reason
 from ..names import MOST_NAMES, joined
-from ..roster import Roster
+from ..roster import Roster, decimal_text
 from .texts import halves
 
 Content = Dict[str, object]
