@@ -47,6 +47,15 @@ class Files(Runs):
         self.file("r.csv", "rule,value,for\n" + "".join(line + "\n" for line in lines))
 
 
+class NoDay(Files):
+    @unittest.skipUnless(optimize, "SciPy isn't there")
+    def test_a_shift_without_a_line(self):
+        """No rule is about it, and that is said."""
+        self.file("d.csv", DAYS.replace("Night 2027-03-08,2027-03-08,Night\n", ""))
+        self.assertIn("d.csv: no line for 1 object (Night 2027-03-08): no rule looks at it\n",
+                      self.run_words(*WORDS)[2])
+
+
 class NoWeekend(Files):
     """A plan without a Saturday or Sunday can't keep a least number of weekends, and keeps each greatest one."""
 
