@@ -192,6 +192,12 @@ class Roster(NamedTuple):
         """A cost or a rent as the roster writes it."""
         return decimal_text(units, self.decimals, "," if self.comma else ".")
 
+    def shown_halves(self, count: int) -> str:
+        """So many halves of a unit, as the roster writes costs."""
+        if count % 2 == 0:
+            return self.shown(count // 2)
+        return decimal_text(count * 5, self.decimals + 1, "," if self.comma else ".")
+
 
 def alike(names: List[str]) -> List[List[str]]:
     """The names that differ in case or spaces alone, together."""

@@ -8,7 +8,6 @@ from .by_rules import COSTS, Progress, Proved, Task, answer_by_rules
 from .groups import Broken, Paired
 from .interrupts import interrupts_raise
 from .month import Before, Month, month_of, undated
-from .output.texts import halves
 from .roster import Groups, Roster, named_pairs
 from .rule_file import Rules, read_rules
 from .rules_kept import broken_by, plan_of
@@ -105,8 +104,9 @@ def progress_line(roster: Roster, options: Options, goal: str, done: str, cost: 
     from 0."""
     def shown(units: int) -> str:
         own = -units if options.max else units
-        return str(units) if goal != COSTS else halves(roster,
-                                                       own) if options.change_cost is not None else roster.shown(own)
+        if goal != COSTS:
+            return str(units)
+        return roster.shown(own) if options.change_cost is None else roster.shown_halves(own)
     parts = [f"{goal}: {done}"] + [f"found {shown(cost)}" for cost in [cost] if cost is not None]
     side = "at most" if options.max and goal == COSTS else "at least"
     return ", ".join(parts if bound is None else [*parts, f"proved {side} {shown(bound)}"])

@@ -5,7 +5,6 @@ from ..answer import NamedPlan
 from ..by_rules import BEST, Proved, Reason
 from ..names import MOST_NAMES, joined
 from ..roster import Roster, decimal_text
-from .texts import halves
 
 Content = Dict[str, object]
 
@@ -50,7 +49,7 @@ def _missing_lines(proved: Proved) -> List[str]:
 def _cost_line(roster: Roster, plan: NamedPlan, proved: Proved, maximize: bool) -> str:
     title, own = roster.titles[2], roster.shown(plan.cost)
     if proved.with_changes is not None:
-        title, own = f"{title} with changes", f"{halves(roster, proved.with_changes)} ({title} {own})"
+        title, own = f"{title} with changes", f"{roster.shown_halves(proved.with_changes)} ({title} {own})"
     title += f" of {len(plan.pairs)} pairs" if proved.missing else ""
     if proved.kind == BEST:
         less = "has more" if maximize else "costs less"
@@ -64,7 +63,7 @@ def _cost_line(roster: Roster, plan: NamedPlan, proved: Proved, maximize: bool) 
 def better_text(roster: Roster, proved: Proved) -> str:
     """By how much another plan may be better at most."""
     better = proved.better or 0
-    return roster.shown(better) if proved.with_changes is None else halves(roster, better)
+    return roster.shown(better) if proved.with_changes is None else roster.shown_halves(better)
 
 
 def even_lines(roster: Roster, proved: Proved, maximize: bool) -> List[str]:
@@ -94,7 +93,7 @@ def as_content(roster: Roster, proved: Proved) -> Content:
     if proved.better is not None:
         content["better"] = better_text(roster, proved).replace(",", ".")
     if proved.with_changes is not None:
-        content["with_changes"] = halves(roster, proved.with_changes).replace(",", ".")
+        content["with_changes"] = roster.shown_halves(proved.with_changes).replace(",", ".")
     if proved.reasons:
         content["reasons"] = [reason._asdict() for reason in proved.reasons]
         content["is_minimal"] = proved.is_minimal

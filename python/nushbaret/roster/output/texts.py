@@ -7,8 +7,7 @@ from ..answer import MOST_NAMES_SHOWN, PLURALS, Answer, Fair, NamedPlan, Pair, c
 from ..changes import Lost, OfPerson, by_person, changes_of
 from ..groups import Broken, Counts, order_of
 from ..names import joined, marked, quoted, with_names_marked
-from ..roster import (CHANGE, COMES, GOES, NOT_POSSIBLE, TITLES, OldPlan, PlanLine, Roster, alike, decimal_text,
-    like)
+from ..roster import CHANGE, COMES, GOES, NOT_POSSIBLE, TITLES, OldPlan, PlanLine, Roster, alike, like
 from ..sheets import SEPARATORS
 from ..words import Options
 
@@ -174,20 +173,13 @@ def _rounding_line(report: Report, plan: NamedPlan) -> str:
     half_units = len(plan.pairs) + most - 2 * fixed + (better if with_changes else 2 * better)
     counted_in = " with changes" if with_changes else ""
     return (f"costs were rounded: another plan may be better for the exact ones{counted_in}, by "
-            f"{halves(roster, half_units)} at most")
+            f"{roster.shown_halves(half_units)} at most")
 
 
 def _most_pairs(roster: Roster) -> int:
     """No plan has more pairs."""
     return min(len(roster.of_persons), sum(map(roster.tasks_of, range(len(roster.persons)))),
                sum(map(roster.capacity_of, range(len(roster.objects)))))
-
-
-def halves(roster: Roster, count: int) -> str:
-    """So many halves of a unit, as the roster writes costs."""
-    if count % 2 == 0:
-        return roster.shown(count // 2)
-    return decimal_text(count * 5, roster.decimals + 1, "," if roster.comma else ".")
 
 
 def _bound(report: Report, fair: Fair) -> str:
