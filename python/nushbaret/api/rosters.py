@@ -115,7 +115,7 @@ def plan_roster(costs: Mapping[Named, Any], days: Mapping[str, Union[str, date]]
     ValueError
         A rule, a name, a count or a number is refused.
     TypeError
-        A cost is no number.
+        A cost or `seconds` is no number.
     ImportError
         SciPy isn't there.
 
@@ -126,6 +126,10 @@ def plan_roster(costs: Mapping[Named, Any], days: Mapping[str, Union[str, date]]
     ...     print(fault)
     rules, line 1, column 2: no kind of shift is 'Late': the kinds are Early
     """
+    if not hasattr(seconds, "__float__"):
+        raise TypeError(f"seconds is {seconds!r}: it must be a number of seconds")
+    if not seconds >= 0:
+        raise ValueError(f"seconds is {seconds!r}: it must be a number of seconds, 0 or more")
     listed = dict(costs)
     ratios = [_ratio(pair, cost) for pair, cost in listed.items()]
     unit = unit_of(ratios)
@@ -211,10 +215,15 @@ def _bounds(what: str, numbers: Mapping[str, int], counts: Mapping[str, Count], 
     found = dict.fromkeys(numbers.values(), default)
     for name, count in counts.items():
         least, most = count if isinstance(count, (tuple, list)) else (count, count)
-        if name not in numbers or not (isinstance(least, int) and isinstance(most, int) and 0 <= least <= most):
+        if name not in numbers or not (_are_whole(least, most) and 0 <= least <= most):
             raise ValueError(f"{what}: {name!r}: {count!r}" + ("" if name in numbers else ": no cost has this name"))
-        found[numbers[name]] = Bounds(least, most)
+        found[numbers[name]] = Bounds(int(least), int(most))
     return found
+
+
+def _are_whole(*numbers: Any) -> bool:
+    """Whether all are whole numbers, maybe of NumPy's."""
+    return all(hasattr(number, "__index__") for number in numbers)
 
 
 def _earlier_name(day: str, kind: str) -> str:
@@ -262,9 +271,10 @@ def _own_row(roster: Roster, row: Sequence[Any]) -> OwnRow:
     """A row of somebody's own rule."""
     least, terms, most, text = row
     numbers = [*dict(terms).values(), *(bound for bound in (least, most) if bound is not None)]
-    if not all(isinstance(number, int) and abs(number) < MOST_UNITS for number in numbers):
+    if not _are_whole(*numbers) or any(abs(int(number)) >= MOST_UNITS for number in numbers):
         raise ValueError(f"rows: {text!r}: whole numbers are needed")
-    if least is not None and most is not None and least > most:
-        raise ValueError(f"rows: {text!r}: at least {least} and at most {most}")
-    return OwnRow(least, [(_pair(roster, pair), factor) for pair, factor in dict(terms).items() if factor], most,
+    low, high = (None if bound is None else int(bound) for bound in (least, most))
+    if low is not None and high is not None and low > high:
+        raise ValueError(f"rows: {text!r}: at least {low} and at most {high}")
+    return OwnRow(low, [(_pair(roster, pair), int(factor)) for pair, factor in dict(terms).items() if factor], high,
                   str(text))

@@ -20,6 +20,9 @@ REFUSED = (({"rules": [("resst", "Night > Early")]}, ValueError, "rules, line 1,
             "mean 'rest'?"), ({"rules": [*RULES, ("apart", "", ["Ada", "Bne"])]}, ValueError,
                               "rules, line 3, column 3: the roster has no person 'Bne': did you mean 'Ben'?"),
            ({"rules": ["rest"]}, ValueError, "rules: 'rest' is no rule, value and names"),
+           ({"seconds": "60"}, TypeError, "seconds is '60': it must be a number of seconds"),
+           ({"seconds": -1}, ValueError, "seconds is -1: it must be a number of seconds, 0 or more"),
+           ({"seconds": float("nan")}, ValueError, "seconds is nan: it must be a number of seconds, 0 or more"),
            ({"tasks": {"Zoe": 3}}, ValueError, "tasks: 'Zoe': 3: no cost has this name"),
            ({"places": {"Early 2027-03-05": (2, 1)}}, ValueError, "places: 'Early 2027-03-05': (2, 1)"),
            ({"places": {"Early 2027-03-05": "2"}}, ValueError, "places: 'Early 2027-03-05': '2'"),
@@ -52,6 +55,11 @@ class Refusals(unittest.TestCase):
 
 @unittest.skipIf(optimize is None or np is None, "needs SciPy")
 class Plans(InFolder):
+    def test_numbers_of_numpys(self):
+        found = planned(tasks={name: (np.int64(2), np.uint8(4)) for name in TASKS},
+                        rows=[(np.int64(0), {("Ada", "Early 2027-03-05"): np.int8(1)}, np.int64(1), "x")])
+        self.assertEqual((found.proved, found.cost), ("best", 6))
+
     def test_best(self):
         found = planned()
         self.assertEqual((found.proved, found.cost, found.better, found.reasons), ("best", 6, 0, []))
