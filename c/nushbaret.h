@@ -43,7 +43,7 @@
                          nushbaret_check: nothing
    NUSHBARET_HALL        solving: info->persons and info->objects say how many numbers stand at the beginning of persons
                          and of objects, rising; nushbaret_check_hall: nothing
-   NUSHBARET_STOPPED     objects (0: the person has none yet), prices and record
+   NUSHBARET_STOPPED     objects (0: the person has none yet), prices (the search's own, also below 0) and record
    NUSHBARET_PERSON, NUSHBARET_OBJECT, NUSHBARET_COST, NUSHBARET_PRICE                  info->place
    NUSHBARET_UNLISTED                                                                   info->person
    NUSHBARET_TWICE, NUSHBARET_PRICE_RANGE, NUSHBARET_OVERPRICED, NUSHBARET_HALL_EXTRA   info->object
@@ -69,8 +69,9 @@
    A budget is a number of looks at pairs, 0 for no limit. A `_from` call that spends it returns NUSHBARET_STOPPED; the same
    call, with what it wrote to objects, prices and record, goes on from there. first counts only where record->stage is 0,
    prices only where it isn't. The passes over all pairs with which a call begins come on top of its budget: give it ten
-   or more times the number of pairs, since many short calls may take longer than one. Set the record to 0 before the
-   first call of a problem. Whatever objects, prices and record hold, the answer is as good.
+   or more times the number of pairs, since many short calls may take longer than one; with less than that number they
+   may never end. Set the record to 0 before the first call of a problem. Whatever objects, prices and record hold, the
+   answer is as good.
 
        struct nushbaret_record record = {0, 0, 0, 0, 0, 0, 0, 0};   (and all objects are 0)
        do code = nushbaret_dense_from(NUSHBARET_MIN, n, m, costs, n * m, costs, 0, objects, n, persons, n, prices, m,
@@ -295,7 +296,8 @@ int32_t nushbaret_doubles_from(uint32_t sense, size_t n, size_t m,
 
 /* Checks a plan and prices of any origin: NUSHBARET_BEST says that these prices prove these objects best. A person whose object
    isn't there or is forbidden is NUSHBARET_UNLISTED, one whose object a person before it has NUSHBARET_TWICE, an object
-   whose price isn't finite NUSHBARET_PRICE_RANGE; the lowest is named. Else it is NUSHBARET_UNDECIDED. */
+   whose price isn't finite NUSHBARET_PRICE_RANGE; the lowest is named. Else it is NUSHBARET_UNDECIDED. Where there aren't
+   n objects and m prices it is NUSHBARET_LENGTH. */
 int32_t nushbaret_check_doubles(uint32_t sense, size_t n, size_t m,
     const double *costs, size_t costs_count,
     const uint32_t *objects, size_t objects_count,

@@ -230,6 +230,8 @@ function begin() {
   text.addEventListener("input", leaveFile);
   text.addEventListener("paste", () => setTimeout(plan));
   const input = byId("file", HTMLInputElement);
+  // So that a file that was chosen before counts as a change.
+  input.addEventListener("click", () => { input.value = ""; });
   input.addEventListener("change", () => {
     if (!input.files || !input.files.length) return;
     takeFile(input.files[0]);

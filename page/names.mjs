@@ -26,12 +26,15 @@ export function spellings(name) {
   const [year, month, day] = (found[1] ? [found[1], found[2], found[3]] : [found[6], found[5], found[4]]).map(Number);
   const date = new Date(2000, 0, 1);
   date.setFullYear(year, month - 1, day);
-  const isOne = year > 0 && date.getFullYear() === year && date.getMonth() === month - 1 && date.getDate() === day;
-  if (!isOne) return [name];
+  const isOne = date.getFullYear() === year && date.getMonth() === month - 1 && date.getDate() === day;
+  // The command takes later and earlier days for no dates.
+  if (!isOne || year < 1000 || date > new Date(9999, 11, 26)) return [name];
   const days = [padded(day, 2), String(day)];
   const months = [padded(month, 2), String(month)];
-  const others = days.flatMap((one) => months.map((other) => `${one}.${other}.${padded(year, 4)}`));
-  return [`${padded(year, 4)}-${padded(month, 2)}-${padded(day, 2)}`, ...others, name];
+  const dashed = months.flatMap((other) => days.map((one) => `${year}-${other}-${one}`));
+  const dotted = ["", " "].flatMap((space) => days.flatMap((one) => months.map((other) => (
+    `${one}.${space}${other}.${space}${year}`))));
+  return [...dashed, ...dotted, name];
 }
 
 /** The names of one side, numbered from 0 as they come. */
@@ -60,8 +63,9 @@ export class Names {
     const known = this.numbers.get(cell);
     if (known !== undefined) return known;
     const name = nameOf(cell, line, column);
-    const found = this.numbers.get(name);
-    return found === undefined ? this.add(name, line, column) : found;
+    const found = this.numbers.get(name) ?? this.numbers.get(spellings(name)[0]) ?? this.add(name, line, column);
+    this.numbers.set(name, found);
+    return found;
   }
 
   /**

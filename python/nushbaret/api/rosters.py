@@ -174,9 +174,11 @@ def _ratio(pair: Named, cost: Any) -> Ratio:
     return ratio
 
 
-def _day_name(day: Union[str, date]) -> str:
-    """A day's name; that of a date with a time is the date's."""
-    return str(day.date() if isinstance(day, datetime) else day)
+def _day_name(day: Any) -> str:
+    """A day's name; that of a date with a time, maybe one of NumPy's, is the date's."""
+    if isinstance(day, datetime):
+        return str(day.date())
+    return str(day.astype("datetime64[D]") if type(day).__name__ == "datetime64" else day)
 
 
 def _numbers(names: Iterable[str]) -> Dict[str, int]:

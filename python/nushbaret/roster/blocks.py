@@ -4,7 +4,7 @@ from datetime import date, timedelta
 from typing import Dict, List, NamedTuple, Optional, Sequence, Set, Tuple
 
 from .answer import NamedPlan
-from .dates import DAY_NAMES, SATURDAY, dates_of, has_weekday, is_weekend_name, monday_of
+from .dates import DAY_NAMES, SATURDAY, dates_of, has_weekday, monday_of, weekends_among
 from .groups import missing_of, order_of
 from .roster import Groups, OldPlan, Roster
 
@@ -127,7 +127,8 @@ def _weeks(roster: Roster, groups: Groups) -> List[List[Day]]:
                                              for object_ in range(len(roster.objects))) else []
     if dates is not None:
         return _dated_weeks(groups, dates, past) + ([rest] if rest else [])
-    days = [Day(name, number, "", is_weekend_name(name), is_past=number in past)
+    weekends = weekends_among(tuple(groups.names))
+    days = [Day(name, number, "", name in weekends, is_past=number in past)
             for number, name in enumerate(groups.names)] + rest
     return [days[begin:begin + MOST_DAYS] for begin in range(0, len(days), MOST_DAYS)]
 

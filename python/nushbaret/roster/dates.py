@@ -1,24 +1,25 @@
 """Names that are dates with a year, such as 2027-03-01, 01.03.2027 or, where another has the year, Mo 01.03."""
 import re
+import unicodedata
 from bisect import bisect_left
 from datetime import date, timedelta
-from typing import FrozenSet, Iterable, List, NamedTuple, Optional, Sequence, Set, Tuple
+from functools import lru_cache
+from typing import FrozenSet, List, NamedTuple, Optional, Sequence, Tuple
 
 DAY_NAMES = ("Mon", "Tue", "Wed", "Thu", "Fri", "Sat", "Sun")
 SATURDAY = 5
 HALF_A_YEAR = timedelta(days=183)
 # Files of calendars have years of four digits, and the week of a later day would end after the last day of Python's.
 FIRST, LAST = date(1000, 1, 1), date(9999, 12, 26)
-# The days of the week from Monday, in English, German, French, Spanish, Italian and Dutch.
-WEEKS = (
+# The days of the week from Monday, without accents, in English, German, French, Spanish, Italian and Dutch.
+LANGUAGES = tuple(tuple(day.split("/") for day in week.split()) for week in (
     "monday tuesday wednesday thursday friday saturday sunday",
-    "montag dienstag mittwoch donnerstag freitag samstag sonntag",
-    "- - - - - sonnabend -",
+    "montag dienstag mittwoch donnerstag freitag samstag/sonnabend sonntag",
     "lundi mardi mercredi jeudi vendredi samedi dimanche",
-    "lunes martes miércoles jueves viernes sábado domingo",
-    "lunedì martedì mercoledì giovedì venerdì sabato domenica",
+    "lunes martes miercoles jueves viernes sabado domingo",
+    "lunedi martedi mercoledi giovedi venerdi sabato domenica",
     "maandag dinsdag woensdag donderdag vrijdag zaterdag zondag",
-)
+))
 # Tuesday in three of these languages, and March in five.
 MARCH = "mar"
 WORD = r"[^\W\d_]{2,}"
@@ -47,13 +48,12 @@ class Dates(NamedTuple):
     why: str = ""
 
 
-def weekdays_of(word: str) -> FrozenSet[int]:
+def weekdays_of(word: str, languages: Sequence[Sequence[Sequence[str]]] = LANGUAGES) -> FrozenSet[int]:
     """The days of the week, from 0, that a word may mean: it is one, or the first two letters or more of one."""
-    word = word.casefold()
-    found: Set[int] = set()
-    for week in WEEKS:
-        found.update(number for number, day in enumerate(week.split()) if len(word) > 1 and day.startswith(word))
-    return frozenset(found)
+    bare = "".join(letter for letter in unicodedata.normalize("NFKD", word.casefold())
+                   if not unicodedata.combining(letter))
+    return frozenset(number for week in languages for number, days in enumerate(week) for day in days
+                     if len(bare) > 1 and day.startswith(bare))
 
 
 def _day_words(name: str) -> List[str]:
@@ -62,10 +62,13 @@ def _day_words(name: str) -> List[str]:
     return [word for word in words if word != MARCH] or words
 
 
-def is_weekend_name(name: str) -> bool:
-    """Whether the first word of a name for a day of the week is one for Saturday or Sunday."""
-    words = _day_words(name)
-    return bool(words) and min(weekdays_of(words[0])) >= SATURDAY
+@lru_cache(16)
+def weekends_among(names: Tuple[str, ...]) -> FrozenSet[str]:
+    """The names whose first word for a day of the week is one for Saturday or Sunday: in the languages that have all
+    these words, or in any if none has."""
+    words = {name: own[0] for name, own in zip(names, map(_day_words, names)) if own}
+    fitting = [week for week in LANGUAGES if all(weekdays_of(word, (week,)) for word in words.values())]
+    return frozenset(name for name, word in words.items() if min(weekdays_of(word, fitting or LANGUAGES)) >= SATURDAY)
 
 
 def has_weekday(name: str) -> bool:
@@ -73,7 +76,8 @@ def has_weekday(name: str) -> bool:
     return bool(_day_words(name))
 
 
-def are_weekdays(names: Iterable[str]) -> bool:
+@lru_cache(16)
+def are_weekdays(names: Tuple[str, ...]) -> bool:
     """Whether any name has a word that is surely one for a day of the week."""
     return any(word != MARCH for name in names for word in _day_words(name))
 
@@ -164,5 +168,6 @@ def spellings(name: str) -> Tuple[str, ...]:
     if day is None:
         return (name,)
     days, months = (dict.fromkeys((f"{number:02}", str(number))) for number in (day.day, day.month))
-    return tuple(dict.fromkeys((day.isoformat(), *(f"{one}.{other}.{day.year:04}" for one in days for other in months),
-                                name)))
+    dashed = (f"{day.year}-{month}-{own}" for month in months for own in days)
+    dotted = (f"{own}.{space}{month}.{space}{day.year}" for space in ("", " ") for own in days for month in months)
+    return tuple(dict.fromkeys((*dashed, *dotted, name)))

@@ -4,7 +4,7 @@ from datetime import date
 from typing import Dict, FrozenSet, List, NamedTuple, Optional, Sequence, Set, Tuple
 
 from .blocks import labels_of, without_group
-from .dates import SATURDAY, are_weekdays, dates_of, has_year, is_weekend_name
+from .dates import SATURDAY, are_weekdays, dates_of, has_year, weekends_among
 from .names import quoted
 from .roster import Earlier, Groups, Roster
 from .sheets import RosterFault
@@ -73,8 +73,9 @@ class Month(NamedTuple):
             return True
         if self.are_dates:
             return date.fromordinal(day).weekday() >= SATURDAY
-        if are_weekdays(self.names.values()):
-            return is_weekend_name(self.names.get(day, ""))
+        names = tuple(self.names.values())
+        if are_weekdays(names):
+            return self.names.get(day) in weekends_among(names)
         return day % WEEK >= SATURDAY
 
     @property
@@ -131,7 +132,8 @@ def month_of(roster: Roster, groups: Groups, path: str, before: Optional[Before]
     earlier = _earlier_shifts(groups, days[len(groups.names):], begin, path)
     worked = {} if before is None else _worked(roster, before, earlier)
     known = min((shift.day for shift in earlier.values()), default=begin)
-    return Month(shifts, dict(zip(planned, groups.names)), are_dates, known, begin, start, last, worked)
+    names = dict(zip(days, [*groups.names, *_earlier_names(groups)]))
+    return Month(shifts, names, are_dates, known, begin, start, last, worked)
 
 
 def _earlier_names(groups: Groups) -> List[str]:

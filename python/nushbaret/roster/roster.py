@@ -50,9 +50,10 @@ class Names:
         number = self.numbers.get(cell)
         if number is None:
             name = self._sheet.name(cell, line, column)
-            number = self.numbers.get(name)
+            number = self.numbers.get(name, self.numbers.get(spellings(name)[0]))
             if number is None:
                 number = self._add(name, line, column)
+            self.numbers[name] = number
         return number
 
     def once(self, cell: str, line: int, column: int) -> int:

@@ -15,8 +15,9 @@ from .sheets import RosterFault, Sheet
 REST, RUN, COUNT, HOURS, FREE, WHOLE, STAFF, APART, TOGETHER, EVEN = (
     "rest", "run", "count", "hours", "free weekends", "whole weekends", "staff", "apart", "together", "even")
 WEEKLY, MONTHLY = "week", "month"
-# Words for shifts of any kind, instead of a kind.
-ANY = ("shift", "shifts", "day", "days")
+# Words for shifts of any kind, instead of a kind; the last one only where no kind is called so.
+ANY = ("shift", "shifts", "days")
+DAY = "day"
 WEEKENDS = "weekend shifts"
 # The rules as they are written, for a hint where one is unknown; KIND is a kind of shifts.
 SHAPES = ("rest", "days in a row", "KIND in a row", "shifts per week", "shifts per month", "KIND per week",
@@ -150,8 +151,12 @@ class _RuleReader:
         """The kinds that a text lists; None where it is all shifts."""
         kinds, found = self._month.kinds, set()
         for word in re.split(r"\s*,\s*", text.strip()):
+            if word.casefold() in ANY:
+                if word in kinds and len(kinds) > 1:
+                    self._refuse(line, column, f"{quoted(word)} is a shift of any kind: give that kind another name")
+                return None
             kind = _kind_of(word, kinds)
-            if kind is None and word.casefold() in ANY:
+            if kind is None and word.casefold() == DAY:
                 return None
             if kind is None:
                 near = like(word, kinds) or get_close_matches(word, kinds, 1, 0.6)
@@ -306,12 +311,11 @@ class _RuleReader:
 
 
 def _kind_of(word: str, kinds: Sequence[str]) -> Optional[str]:
-    """The one kind that a word names: as it is written, else in any case, else in its plural. `days` and `shifts` are
-    no plurals, since they are shifts of any kind."""
+    """The one kind that a word names: as it is written, else in any case, else in its plural."""
     if word in kinds:
         return word
     bare = word.casefold()
-    for one in (bare,) if bare in ANY else (bare, re.sub("s$", "", bare)):
+    for one in (bare, re.sub("s$", "", bare)):
         same = [kind for kind in kinds if kind.casefold() == one]
         if same:
             return same[0] if len(same) == 1 else None

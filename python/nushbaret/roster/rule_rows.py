@@ -95,7 +95,7 @@ def _run(making: Making, rule: Rule) -> None:
 def _longest(making: Making, rule: Rule, person: int, most: int) -> None:
     month = making.month
     for day in range(month.known, month.last + 1 - most):
-        own = making.work.sum(person, range(day, day + most + 1), rule.kinds)
+        own = making.work.on_days(person, range(day, day + most + 1), rule.kinds)
         making.rows.add(own, None, most, making.said(rule, person), person)
 
 
@@ -108,7 +108,7 @@ def _shortest(making: Making, rule: Rule, person: int, least: int) -> None:
         if any(month.is_past(other) and not work.had(person, other, rule.kinds) for other in next_days):
             continue
         for other in next_days:
-            own = work.sum(person, [day - 1, other], rule.kinds, -1, work.sum(person, [day], rule.kinds))
+            own = work.on_days(person, [day - 1, other], rule.kinds, -1, work.on_days(person, [day], rule.kinds))
             making.rows.add(own, None, 0, making.said(rule, person), person)
 
 
@@ -175,7 +175,7 @@ def _whole(making: Making, rule: Rule) -> None:
     for person in rule.persons:
         for days in weekends:
             for day, other in zip(days, days[1:]):
-                own = making.work.sum(person, [other], None, -1, making.work.sum(person, [day]))
+                own = making.work.on_days(person, [other], None, -1, making.work.on_days(person, [day]))
                 making.rows.add(own, 0, 0, making.said(rule, person), person)
 
 

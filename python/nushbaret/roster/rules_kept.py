@@ -191,7 +191,7 @@ def _whole(plan: DailyPlan, rule: Rule) -> Iterator[Broken]:
                 own, others = plan.on(person, day), plan.on(person, other)
                 can_mend = not month.is_past(other) and not (own and month.is_past(day)
                                                              and not plan.may(person, other, None))
-                if len(own) != len(others) and can_mend:
+                if bool(own) != bool(others) and can_mend:
                     there, gone = (own, other) if own else (others, day)
                     text = f"{plan.roster.persons[person]}: {plan.called(there[0])}, and none on {month.name(gone)}"
                     yield plan.broken(rule, [person], [there[0][1]], text)

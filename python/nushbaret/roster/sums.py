@@ -119,6 +119,18 @@ class Work:
                 found.past += factor * weight(shift) if is_of(shift, kinds) else 0
         return found
 
+    def on_days(self, person: int, days: Iterable[int], kinds: Kinds = None, factor: Number = 1,
+                to: Optional[Sum] = None) -> Sum:
+        """Adds on how many days a person has a shift of some kinds. On a past day it may have had several."""
+        found = Sum() if to is None else to
+        for day in days:
+            if self.had(person, day, kinds):
+                found.past += factor
+                found.is_open = found.is_open or not self.month.is_past(day)
+            else:
+                self.sum(person, [day], kinds, factor, found)
+        return found
+
     def may_have(self, person: int, day: int, kinds: Kinds = None) -> bool:
         """Whether a person has, or may have, a shift of some kinds on a day."""
         spot = person, day

@@ -77,6 +77,16 @@ class Week(Files):
         self.assertIn("for the exact ones with changes, by 4.5 at most\n",
                       self.run_words(*words, "--change-cost", "1")[1])
 
+    def test_rounded_around_the_past(self):
+        """The plan costs 2 before it is rounded, and another one 0.4. Pairs of the past take no places."""
+        self.files({"r.csv": "n,s,c\nA,m1,0.4\nA,t1,0.4\nB,m1,0.4\nB,t2,0.4\nC,m1,0.4\nC,t1,-0.4\nC,t2,-0.4\n"
+                             "D,t1,-0.4\nD,t2,-0.4\n", "g.csv": "s,d\nm1,Mon\nt1,Tue\nt2,Tue\n",
+                    "p.csv": "s,l,m\nm1,0,0\nt1,1,1\nt2,1,1\n", "t.csv": "n,l,m\nA,0,3\nB,0,3\nC,0,3\nD,0,1\n",
+                    "k.csv": "n,s\nA,m1\nB,m1\nC,m1\nA,t1\nB,t2\n"})
+        self.assertIn("for the exact ones, by 2 at most\n", self.run_words(
+            "r.csv", "--places", "p.csv", "--tasks", "t.csv", "--groups", "g.csv", "--keep", "k.csv", "--past", "Tue",
+            "--round", "0")[1])
+
     def test_keep_fixed_and_compare(self):
         self.file("k.csv", "a,b\nAda,late Mon\nBen,early Mon\nCleo,early Tue\n")
         self.assertIn("k.csv: 2 pairs come, 2 go\n  Ada: late Mon goes; early Mon comes\n  Ben: early Mon goes; late "

@@ -47,6 +47,35 @@ class Files(Runs):
         self.file("r.csv", "rule,value,for\n" + "".join(line + "\n" for line in lines))
 
 
+@unittest.skipUnless(optimize, "SciPy isn't there")
+class Earlier(Files):
+    """A person may have had several shifts on an earlier day, and an earlier day may be one of a weekend."""
+
+    def best(self, roster, groups, tasks, before, rule, *words):
+        for name, lines in (("s.csv", roster), ("d.csv", groups), ("t.csv", tasks), ("b.csv", before)):
+            self.file(name, "".join(line + "\n" for line in lines))
+        self.rules(rule)
+        out = self.run_words(*WORDS, "--before", "b.csv", *words)[1]
+        return out.splitlines()[0].split(",")[0]
+
+    def test_two_shifts_of_a_day(self):
+        groups = ["s,d,kind", *(f"{kind} {day},2027-03-0{day},{kind}" for kind in "EL" for day in range(1, 5)
+                                if kind == "E" or day < 3)]
+        self.assertEqual(self.best(["n,s,c", "A,E 3,1", "A,E 4,1", "B,E 3,9"], groups, ["n,l,m", "A,1,2", "B,0,2"],
+                                   ["n,s", "A,E 2", "A,L 2"], "days in a row,2,"), "least c: 10")
+        self.assertEqual(self.best(["n,s,c", "A,E 3,9", "B,E 3,1", "B,E 4,1"], groups, ["n,l,m", "A,0,2", "B,0,2"],
+                                   ["n,s", "A,E 1", "A,E 2", "A,L 2"], "no single,shift,A"), "least c: 2")
+
+    def test_whole_weekends(self):
+        for saturday, sunday, monday in (("Sa 6", "So 7", "Mo 8"), ("2027-03-06", "2027-03-07", "2027-03-08")):
+            groups = ["s,d,kind", f"E6,{saturday},E", f"L6,{saturday},L", f"E7,{sunday},E", f"E8,{monday},E"]
+            roster = ["n,s,c", "A,E7,1", "A,E8,1", "B,E7,2", "B,E8,2"]
+            tasks = ["n,l,m", "A,0,2", "B,0,2"]
+            self.assertEqual(self.best(roster, groups, tasks, ["n,s", "B,E6", "B,L6"], "whole weekends,,", "--force",
+                                       "--output", "o.csv"), "least c: 3")
+            self.assertNotIn("breaks", self.run_words(*WORDS, "--before", "b.csv", "--compare", "o.csv")[1])
+
+
 class NoDay(Files):
     @unittest.skipUnless(optimize, "SciPy isn't there")
     def test_a_shift_without_a_line(self):

@@ -3,7 +3,7 @@ import random
 import unittest
 from datetime import date, timedelta
 
-from nushbaret.roster.dates import DAY_NAMES, dates_of, has_weekday, is_weekend_name, monday_of
+from nushbaret.roster.dates import DAY_NAMES, dates_of, has_weekday, monday_of, weekends_among
 
 
 class Reading(unittest.TestCase):
@@ -50,9 +50,14 @@ class Reading(unittest.TestCase):
     def test_weekends(self):
         for name in ("Sat", "Sunday", "Sa 06.03.", "So", "Samstag", "Sonnabend", "sam.", "dimanche", "domingo",
                      "zaterdag", "6 Sat", "Week 1 Sun", "6 Mar (Sat)"):
-            self.assertTrue(is_weekend_name(name), name)
+            self.assertEqual(weekends_among((name,)), {name})
         for name in ("Mon", "Fr", "Do", "Di", "S", "2027-03-06", "office", "", "7 Mar", "6 Mar (Mon)"):
-            self.assertFalse(is_weekend_name(name), name)
+            self.assertEqual(weekends_among((name,)), set(), name)
+        for week in ("Mo Di Mi Do Fr Sa So", "Lu Ma Me Je Ve Sa Di", "Lu Ma Me Gi Ve Sa Do",
+                     "Lu Ma Mi Ju Vi S\u00e1 Do", "Ma Di Wo Do Vr Za Zo",
+                     "lunes martes miercoles jueves viernes sabado domingo"):
+            days = week.split()
+            self.assertEqual(weekends_among(tuple(days)), set(days[5:]))
         self.assertTrue(has_weekday("01.03. Mo"))
         self.assertFalse(has_weekday("2027-03-01"))
 

@@ -120,6 +120,13 @@ class Files(unittest.TestCase):
                              ("N, Day in a row", {"Day", "N"})):
             rule, = read((text, "1", ""), roster=roster).rules
             self.assertEqual(rule.kinds, wanted, text)
+        for word in ("Days", "Shift"):
+            kinds = {object_: (word, "N")[object_ % 2] for object_ in roster.groups.kinds}
+            other = roster._replace(groups=roster.groups._replace(kinds=kinds))
+            self.assertEqual([read((f"{text} in a row", "1", ""), roster=other).rules[0].kinds
+                              for text in (word.lower(), "N")], [None, {"N"}])
+            with self.assertRaisesRegex(RosterFault, f"column 1: '{word}' is a shift of any kind: give that kind"):
+                read((f"{word} in a row", "1", ""), roster=other)
         with self.assertRaisesRegex(RosterFault, "no kind of shift is 'ns': did you mean"):
             read(("ns in a row", "1", ""), roster=roster)
 

@@ -188,12 +188,23 @@ class Cells(Books):
         self.assertEqual(self.run_words("w.xlsx")[1], "least cost: 1\nAda: x, 1\nunused: y\n")
 
 
-class Dates(unittest.TestCase):
+class Dates(Runs):
     def test_each_spelling_is_the_date(self):
-        written = {"2027-03-01", "01.03.2027", "1.03.2027", "01.3.2027", "1.3.2027"}
+        written = {f"{day}.{space}{month}.{space}2027" for day in ("01", "1") for month in ("03", "3")
+                   for space in ("", " ")} | {f"2027-{month}-{day}" for day in ("01", "1") for month in ("03", "3")}
         for text in written:
             self.assertEqual((spellings(text)[0], set(spellings(text))), ("2027-03-01", written))
-        self.assertEqual(set(spellings("1. 3. 2027")), written | {"1. 3. 2027"})
+        self.assertEqual(set(spellings("1.3. 2027")), written | {"1.3. 2027"})
+
+    def test_one_date_is_one_name(self):
+        for first, second in (("2027-03-01", "2027-3-1"), ("2027-3-1", "01.03.2027"), ("1.3. 2027", "1. 3. 2027"),
+                              ("01. 03.2027", "1.3.2027")):
+            for cost in ("1", "1e0"):
+                self.file("r.csv", f"person,object,cost\nA,{first},{cost}\nB,{second},5\nB,x,9\n")
+                self.assertEqual(self.run_words("r.csv", "--lines")[1].splitlines()[0], "least cost: 10",
+                                 (first, second, cost))
+                self.file("k.csv", f"a,b\nA,{second}\n")
+                self.assertIn(f"A: {first}, 1 (fixed)", self.run_words("r.csv", "--lines", "--fixed", "k.csv")[1])
         for text in ("31.02.2027", "01.03.27", "Mo 01.03.2027", "01.03.", "2027-13-01", "\u0661.3.2027", "Ada", "1.5"):
             self.assertEqual(spellings(text), (text,))
 

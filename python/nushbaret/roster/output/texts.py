@@ -1,6 +1,7 @@
 """What the command says: lines for people, and the plan as CSV."""
 import csv
 import io
+from collections import Counter
 from typing import TYPE_CHECKING, Dict, Iterator, List, NamedTuple, Optional, Sequence, Tuple
 
 from ..answer import MOST_NAMES_SHOWN, PLURALS, Answer, Fair, NamedPlan, Pair, counted, left_out, named, sentence
@@ -169,24 +170,35 @@ def _rounding_line(report: Report, plan: NamedPlan) -> str:
         return "costs were rounded, and nothing is proved for the exact ones"
     with_changes = report.options.change_cost is not None
     fixed = sum(pair.fixed for pair in plan.pairs)
-    most = len(plan.pairs) if roster.least is None and proved is None else _most_pairs(roster)
+    most = len(plan.pairs) if roster.least is None and proved is None else _most_pairs(roster, plan)
     half_units = len(plan.pairs) + most - 2 * fixed + (better if with_changes else 2 * better)
     counted_in = " with changes" if with_changes else ""
     return (f"costs were rounded: another plan may be better for the exact ones{counted_in}, by "
             f"{roster.shown_halves(half_units)} at most")
 
 
-def _most_pairs(roster: Roster) -> int:
-    """No plan has more pairs."""
-    return min(len(roster.of_persons), sum(map(roster.tasks_of, range(len(roster.persons)))),
-               sum(map(roster.capacity_of, range(len(roster.objects)))))
+def _most_pairs(roster: Roster, plan: NamedPlan) -> int:
+    """No plan has more pairs: those of the past stand, and each other one needs room on both sides."""
+    past = Counter(pair.person for pair in plan.pairs if pair.object in roster.past)
+    given = sum(pair.fixed and pair.object not in roster.past for pair in plan.pairs)
+    allowed = given + sum(object_ not in roster.past for object_ in roster.of_objects)
+    of_persons = sum(max(0, roster.tasks_of(person) - past[person]) for person in range(len(roster.persons)))
+    of_objects = sum(roster.capacity_of(object_) for object_ in range(len(roster.objects))
+                     if object_ not in roster.past)
+    return sum(past.values()) + min(allowed, of_persons, of_objects)
 
 
 def _bound(report: Report, fair: Fair) -> str:
     """What no pair costs more than."""
     if fair.pair is None:
         return " with no pair"
-    return f" with no pair {'below' if report.options.max else 'above'} {report.roster.shown(fair.pair.cost)}"
+    side = "below" if report.options.max else "above"
+    return f" with no pair {_not_fixed(report.answer.plan)}{side} {report.roster.shown(fair.pair.cost)}"
+
+
+def _not_fixed(plan: Optional[NamedPlan]) -> str:
+    """That some pairs are given, where any is."""
+    return "that isn't fixed " if plan is not None and any(pair.fixed for pair in plan.pairs) else ""
 
 
 def printed(report: Report) -> List[str]:
@@ -265,12 +277,13 @@ def fairness(report: Report, fair: Fair) -> Note:
     """Which pair is the dearest, and what fairness costs."""
     roster, maximize = report.roster, report.options.max
     kind, which = ("cheapest", "greatest") if maximize else ("dearest", "least")
+    pair = f"{kind} pair {_not_fixed(report.answer.plan)}".rstrip()
     best = f"the {which} {roster.titles[2]} is {roster.shown(fair.best.cost)}, with {pair_text(roster, fair.best_pair)}"
     if fair.pair is None:
         return Note(f"no pair is needed; {best}")
     if fair.best_pair.cost == fair.pair.cost:
-        return Note(f"{kind} pair: {pair_text(roster, fair.pair)}; this is also the {which} {roster.titles[2]} of all")
-    return Note(f"{kind} pair: {pair_text(roster, fair.pair)}; {best}")
+        return Note(f"{pair}: {pair_text(roster, fair.pair)}; this is also the {which} {roster.titles[2]} of all")
+    return Note(f"{pair}: {pair_text(roster, fair.pair)}; {best}")
 
 
 def others(report: Report, plan: NamedPlan) -> List[Note]:
