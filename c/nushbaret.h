@@ -106,7 +106,7 @@
 extern "C" {
 #endif
 
-#define NUSHBARET_VERSION "4.6.0"
+#define NUSHBARET_VERSION "4.6.1"
 
 /* The sense: the least sum of costs, or the greatest. */
 #define NUSHBARET_MIN 0u

@@ -132,15 +132,22 @@ fn bids_within<K: Number, R: Reading<K>>(matrix: &Matrix<'_, K, R>, looks: &Look
     looks.left() as usize / matrix.objects.max(1)
 }
 
+// The bids of a call.
+#[derive(Clone, Copy)]
+pub struct Bids {
+    pub made: usize,
+    // Whether the looks ended them.
+    pub are_cut: bool,
+}
+
 // At most so many bids of a slackness, as far as the looks allow; a chain without slackness has few.
-// Returns whether the looks ended them, and their number.
 pub fn bid_within<K: Number, R: Reading<K>>(
     matrix: &Matrix<'_, K, R>,
     market: &mut Market<'_, K>,
     slackness: K,
     most: usize,
     looks: &mut Looks,
-) -> (bool, usize) {
+) -> Bids {
     let allowed = most.min(bids_within(matrix, looks));
     let has_slackness = K::zero().is_below(slackness);
     let chain = if has_slackness {
@@ -150,7 +157,10 @@ pub fn bid_within<K: Number, R: Reading<K>>(
     };
     let made = bid_all(matrix, market, slackness, allowed, chain);
     looks.add(made.saturating_mul(matrix.objects));
-    (made == allowed && made < most, made)
+    Bids {
+        made,
+        are_cut: made == allowed && made < most,
+    }
 }
 
 // At most so many bids without slackness, as far as the looks allow. Returns their number.
@@ -160,6 +170,5 @@ pub fn bid_without_slackness<K: Number, R: Reading<K>>(
     most: usize,
     looks: &mut Looks,
 ) -> usize {
-    let (_, made) = bid_within(matrix, market, K::zero(), most, looks);
-    made
+    bid_within(matrix, market, K::zero(), most, looks).made
 }

@@ -91,9 +91,9 @@ fn is_phase_over<K: Number, R: Reading<K>>(
     let all = matrix.persons.saturating_mul(BIDS_A_PHASE) as u64;
     let left = all.saturating_sub(record.bids) as usize;
     let slackness = K::from_wide(record.slackness);
-    let (is_cut, made) = bid_within(matrix, market, slackness, left, looks);
-    record.bids = record.bids.saturating_add(made as u64);
-    !is_cut
+    let bids = bid_within(matrix, market, slackness, left, looks);
+    record.bids = record.bids.saturating_add(bids.made as u64);
+    !bids.are_cut
 }
 
 // Bids of falling slackness, as far as the looks allow. Returns whether they ended; no object is

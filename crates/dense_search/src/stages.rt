@@ -165,9 +165,9 @@ impl<'a> Work<'a> {
     fn bid_first<R: Reading<i64>>(&mut self, matrix: &Matrix<'_, i64, R>) -> bool {
         let all = matrix.persons.saturating_mul(first_bids(matrix)) as u64;
         let left = all.saturating_sub(self.record.bids) as usize;
-        let (is_cut, made) = bid_within(matrix, &mut self.market, 0, left, &mut self.looks);
-        self.record.bids = self.record.bids.saturating_add(made as u64);
-        made > 0 && is_cut
+        let bids = bid_within(matrix, &mut self.market, 0, left, &mut self.looks);
+        self.record.bids = self.record.bids.saturating_add(bids.made as u64);
+        bids.made > 0 && bids.are_cut
     }
 
     fn begin_cold<R: Reading<i64>>(

@@ -43,6 +43,12 @@ const FEW_DEAR: usize = 4;
 const MANY_DEAR: usize = 32;
 // Costs count at most 2 to this power times.
 const MOST_SHIFT: u32 = 9;
+// Where the last stage goes on: many objects come down together, or one by one, or none is dear.
+const TOGETHER: u32 = 1;
+
+const ONE_BY_ONE: u32 = 2;
+
+const NONE_DEAR: u32 = 3;
 
 /// A search on its way.
 #[derive(Drop)]
@@ -369,7 +375,7 @@ impl<'a> Run<'a> {
         self.record.shift = 0;
         let scaled = self.scaled();
         self.lower_dear(scaled)?;
-        self.record.place = 1;
+        self.record.place = TOGETHER;
         Ok(())
     }
 
@@ -379,12 +385,11 @@ impl<'a> Run<'a> {
             return Ok(None);
         }
         let scaled = self.scaled();
-        let mut are_together = true;
         for _object in 0..self.problem.objects {
-            if self.record.place > 1 {
+            if self.record.place >= NONE_DEAR {
                 return Ok(self.finish());
             }
-            are_together = self.bring_some_down(scaled, are_together)?;
+            self.bring_some_down(scaled)?;
             if self.looks.is_spent() {
                 return Ok(None);
             }
@@ -392,23 +397,22 @@ impl<'a> Run<'a> {
         Ok(self.finish())
     }
 
-    // Brings down many dear unowned objects, or a single one. Returns whether to go on with many: if
-    // most of them stay dear, single ones are faster.
-    fn bring_some_down(
-        &mut self,
-        scaled: Scaled<'_>,
-        are_together: bool,
-    ) -> Result<bool, AllocError> {
+    // Brings down many dear unowned objects, or a single one. If most of many stay dear, single ones are
+    // faster. The record keeps that, since calls that each begin with many may never end.
+    fn bring_some_down(&mut self, scaled: Scaled<'_>) -> Result<(), AllocError> {
         let (search, market, looks) = (&mut self.search, &mut self.market, &mut self.looks);
+        let are_together = self.record.place == TOGETHER;
         let dear = if are_together { market.count_dear() } else { 0 };
         if dear > MANY_DEAR {
             bring_down_many(self.alloc, search, scaled, market, looks)?;
-            return Ok(market.count_dear() < dear.saturating_sub(dear / MANY_DEAR));
+            if market.count_dear() >= dear.saturating_sub(dear / MANY_DEAR) {
+                self.record.place = ONE_BY_ONE;
+            }
+            return Ok(());
         }
-        if !bring_down(search, scaled, market, looks)? {
-            self.record.place = 2;
-        }
-        Ok(false)
+        let is_one_down = bring_down(search, scaled, market, looks)?;
+        self.record.place = if is_one_down { ONE_BY_ONE } else { NONE_DEAR };
+        Ok(())
     }
 
     fn first_paths(&mut self) -> Result<Option<RunEnd>, AllocError> {

@@ -76,6 +76,15 @@ fn draw_row(
 fn draw_lists(alloc: Global, seed: &mut u64) -> Result<Lists, AllocError> {
     let objects = (draw_wide(seed, 7) & 7) as u32 + 1;
     let persons = draw_wide(seed, u64::from(objects)).wrapping_add(1);
+    draw_rows(alloc, seed, persons, objects)
+}
+
+fn draw_rows(
+    alloc: Global,
+    seed: &mut u64,
+    persons: u64,
+    objects: u32,
+) -> Result<Lists, AllocError> {
     let share = draw_wide(seed, 7).wrapping_add(2);
     let span = SPANS[(draw_wide(seed, 6) % 6) as usize];
     let mut lists = Lists {
@@ -239,12 +248,17 @@ fn searches_from_any_record_find_the_best(rt: HostRuntime) -> Result<(), Fail> {
     Ok(())
 }
 
-// Calls of a few looks each, up to the end.
-fn in_pieces(alloc: Global, lists: &Lists, budget: u64) -> Result<Finding, AllocError> {
+// Calls of a few looks each from these prices, objects and record, up to the end.
+fn in_pieces(
+    alloc: Global,
+    lists: &Lists,
+    start: (Vec<i64>, Vec<u32>),
+    record: Record,
+    budget: u64,
+) -> Result<Finding, AllocError> {
     let problem = lists.problem();
-    let mut prices = vec![in alloc; 0i64; problem.objects]?;
-    let mut objects = nobody(alloc, problem.persons())?;
-    let mut record = Record::cold();
+    let (mut prices, mut objects) = start;
+    let mut record = record;
     for _piece in 0..2000 {
         let (prices, objects) = (prices.as_mut_slice(), objects.as_mut_slice());
         let found = call(alloc, problem, prices, objects, &mut record, budget)?;
@@ -261,8 +275,33 @@ fn searches_in_pieces_find_the_best(rt: HostRuntime) -> Result<(), Fail> {
     for turn in 0..1500 {
         let lists = draw_lists(rt.alloc(), &mut seed)?;
         let budget = draw_wide(&mut seed, 40).wrapping_add(1);
-        let found = in_pieces(rt.alloc(), &lists, budget)?;
+        let prices = vec![in rt.alloc(); 0i64; lists.objects]?;
+        let objects = nobody(rt.alloc(), lists.problem().persons())?;
+        let found = in_pieces(
+            rt.alloc(),
+            &lists,
+            (prices, objects),
+            Record::cold(),
+            budget,
+        )?;
         assert_eq!(rt; found, slow(rt.alloc(), &lists)?, "problem {turn}");
+    }
+    Ok(())
+}
+
+// Each call is smaller than any stage's least step, also where many unowned objects are dear.
+#[test]
+fn the_smallest_pieces_end_from_anywhere(rt: HostRuntime) -> Result<(), Fail> {
+    let mut seed = 5u64;
+    let record = Record {
+        stage: Stage::FirstPaths,
+        ..Record::cold()
+    };
+    for turn in 0..300 {
+        let lists = draw_rows(rt.alloc(), &mut seed, 16, 65)?;
+        let start = draw_start(rt.alloc(), &mut seed, &lists)?;
+        let found = in_pieces(rt.alloc(), &lists, start, record, 1)?;
+        assert_eq!(rt; found, cold(rt.alloc(), &lists)?, "problem {turn}");
     }
     Ok(())
 }
