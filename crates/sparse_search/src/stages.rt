@@ -43,6 +43,8 @@ const FEW_DEAR: usize = 4;
 const MANY_DEAR: usize = 32;
 // Costs count at most 2 to this power times.
 const MOST_SHIFT: u32 = 9;
+// No slackness is greater: costs lie at most 2 * 10^12 apart.
+const MOST_SLACKNESS: i64 = 1 << 51;
 // Where the last stage goes on: many objects come down together, or one by one, or none is dear.
 const TOGETHER: u32 = 1;
 
@@ -117,12 +119,16 @@ impl<'a> Run<'a> {
         let mut market = Market::new(alloc, problem.persons(), problem.objects)?;
         market.set_prices(prices);
         market.take_plan(objects);
+        let slackness = record.slackness.max(0).min(MOST_SLACKNESS);
         Ok(Run {
             alloc,
             problem,
             market,
             search: PathSearch::new(alloc, problem.objects)?,
-            record,
+            record: Record {
+                slackness,
+                ..record
+            },
             looks: Looks {
                 done: record.looks,
                 limit,
@@ -350,7 +356,8 @@ impl<'a> Run<'a> {
         self.market.count_unserved() == 0 && self.market.count_dear() == 0
     }
 
-    // The end, after one more pass over all pairs where the search went on from a record.
+    // The end, after one more pass over all pairs where the search went on from a record. What no search
+    // can have left begins anew: from prices beyond all sums small pieces would never end.
     fn finish(&mut self) -> Option<RunEnd> {
         if self.is_resumed && self.looks.is_spent() {
             return None;
@@ -359,8 +366,7 @@ impl<'a> Run<'a> {
         self.is_resumed = false;
         let is_settled = !was_resumed || self.is_settled();
         if !is_settled {
-            self.record = self.record.with_stage(Stage::LastTight);
-            self.record.place = 1;
+            self.record = Record::cold();
             return None;
         }
         let shift = self.scaled().shift;

@@ -259,7 +259,7 @@ fn in_pieces(
     let problem = lists.problem();
     let (mut prices, mut objects) = start;
     let mut record = record;
-    for _piece in 0..2000 {
+    for _piece in 0..5000 {
         let (prices, objects) = (prices.as_mut_slice(), objects.as_mut_slice());
         let found = call(alloc, problem, prices, objects, &mut record, budget)?;
         if found != Finding::Stopped {
@@ -289,19 +289,69 @@ fn searches_in_pieces_find_the_best(rt: HostRuntime) -> Result<(), Fail> {
     Ok(())
 }
 
-// Each call is smaller than any stage's least step, also where many unowned objects are dear.
-#[test]
-fn the_smallest_pieces_end_from_anywhere(rt: HostRuntime) -> Result<(), Fail> {
-    let mut seed = 5u64;
-    let record = Record {
+// What a caller may have put in the place of a search's own record, plan and prices: the sizes, the
+// stage, its slackness, and by how many powers of 2 prices are greater than costs.
+#[derive(Clone, Copy)]
+struct Foreign {
+    persons: u64,
+    objects: u32,
+    stage: Stage,
+    slackness: i64,
+    shift: u32,
+}
+
+// Many unowned objects that are dear, a slackness beyond all costs, and prices beyond all sums.
+const FOREIGN: [Foreign; 3] = [
+    Foreign {
+        persons: 16,
+        objects: 65,
         stage: Stage::FirstPaths,
+        slackness: 0,
+        shift: 0,
+    },
+    Foreign {
+        persons: 12,
+        objects: 12,
+        stage: Stage::Auction,
+        slackness: i64::MAX,
+        shift: 0,
+    },
+    Foreign {
+        persons: 12,
+        objects: 12,
+        stage: Stage::LastTight,
+        slackness: 0,
+        shift: 22,
+    },
+];
+
+// A problem in calls of a single look, next to one call from nothing.
+fn in_smallest_pieces(
+    alloc: Global,
+    seed: &mut u64,
+    foreign: Foreign,
+) -> Result<(Finding, Finding), AllocError> {
+    let lists = draw_rows(alloc, seed, foreign.persons, foreign.objects)?;
+    let (mut prices, objects) = draw_start(alloc, seed, &lists)?;
+    for price in prices.iter_mut() {
+        *price = price.wrapping_shl(foreign.shift);
+    }
+    let record = Record {
+        stage: foreign.stage,
+        slackness: foreign.slackness,
         ..Record::cold()
     };
-    for turn in 0..300 {
-        let lists = draw_rows(rt.alloc(), &mut seed, 16, 65)?;
-        let start = draw_start(rt.alloc(), &mut seed, &lists)?;
-        let found = in_pieces(rt.alloc(), &lists, start, record, 1)?;
-        assert_eq!(rt; found, cold(rt.alloc(), &lists)?, "problem {turn}");
+    let pieces = in_pieces(alloc, &lists, (prices, objects), record, 1)?;
+    Ok((pieces, cold(alloc, &lists)?))
+}
+
+#[test]
+fn the_smallest_pieces_end_from_any_record(rt: HostRuntime) -> Result<(), Fail> {
+    let mut seed = 5u64;
+    for turn in 0..300usize {
+        let foreign = FOREIGN[turn % 3];
+        let (pieces, whole) = in_smallest_pieces(rt.alloc(), &mut seed, foreign)?;
+        assert_eq!(rt; pieces, whole, "problem {turn}");
     }
     Ok(())
 }
