@@ -357,7 +357,7 @@ impl<'a> Run<'a> {
     }
 
     // The end, after one more pass over all pairs where the search went on from a record. What no search
-    // can have left begins anew: from prices beyond all sums small pieces would never end.
+    // can have left is begun again: from prices beyond all sums small pieces would never end.
     fn finish(&mut self) -> Option<RunEnd> {
         if self.is_resumed && self.looks.is_spent() {
             return None;
