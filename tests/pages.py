@@ -32,8 +32,8 @@ GENERATED = "docs/DEFINITIONS.md"
 # The most words of each page. The generated one and the list of changes may have any number.
 MOST_OF_PAGE = {"README.md": 1440, "SECURITY.md": 200, "bench/README.md": 1145,
                 "examples/README.md": 160,
-                "docs/ARCHITECTURE.md": 1380, "docs/CALLING.md": 620, "docs/CONTRIBUTING.md": 725,
-                "docs/DECISIONS.md": 1430, "docs/FORMATS.md": 1985, "docs/MODELLING.md": 1060, "docs/PROOFS.md": 1120,
+                "docs/ARCHITECTURE.md": 1345, "docs/CALLING.md": 585, "docs/CONTRIBUTING.md": 725,
+                "docs/DECISIONS.md": 1430, "docs/FORMATS.md": 1985, "docs/MODELLING.md": 1040, "docs/PROOFS.md": 1120,
                 "docs/PROVED.md": 3290, "docs/PYTHON.md": 1570, "docs/RATTLE.md": 335, "docs/ROSTERS.md": 1775,
                 "docs/RULES.md": 865, "docs/SCRIPTS.md": 740, "docs/TESTING.md": 650}
 UNCOUNTED = (GENERATED, "CHANGELOG.md")
