@@ -7,10 +7,11 @@
 
    Prices are whole numbers in the unit of the costs, one for each object, from 0 to NUSHBARET_GREATEST_PRICE. They prove
    an assignment optimal if each person's own object is a best one for it at these prices (the least sum of cost and price,
-   under NUSHBARET_MAX the greatest cost less price), and each object that nobody has costs 0.
+   under NUSHBARET_MAX the greatest cost less price), and the price is 0 where nobody has the object: complementary
+   slackness.
 
-   There are two ways to call: `nushbaret_solve`, at the end, takes a problem and an answer as structs; the functions
-   before it take each list with its length.
+   There are two ways to call: `nushbaret_solve`, below, takes a problem and an answer as structs; the other functions take
+   each list with its length.
 
    WHAT A CALLER OWES
 
@@ -59,19 +60,17 @@
 
    WARM STARTS
 
-   The `_from` calls take first prices, m of them or none (first_count 0), and read objects as an earlier plan. Numbers
-   that aren't from 1 to m, or stand there twice, count as nobody's. Without first prices, or where all
-   of them are 0, they begin as the plain calls do. Prices of a similar problem save time, and more so with its plan.
-   Whatever they are, the answer is optimal.
+   Over whole numbers the `_from` calls take first prices, m of them or none (first_count 0), and read objects as an earlier
+   plan. Numbers that aren't from 1 to m, or stand there twice, count as nobody's. Without first prices, or where all of
+   them are 0, they begin as the plain calls do. Prices of a similar problem save time, and more so with its plan.
 
    IN PIECES
 
    A budget is a number of looks at pairs, 0 for no limit. A `_from` call that spends it returns NUSHBARET_STOPPED; the same
    call, with what it wrote to objects, prices and record, goes on from there. first counts only where record->stage is 0,
    prices only where it isn't. The passes over all pairs with which a call begins come on top of its budget: give it ten
-   or more times the number of pairs, since many short calls may take longer than one; with less than that number they
-   may never end. Set the record to 0 before the first call of a problem. Whatever objects, prices and record hold, the
-   answer is as good.
+   or more times the number of pairs, since many short calls may take longer than one. Set the record to 0 before the
+   first call of a problem. Whatever first prices it has, and whatever objects, prices and record hold, an answer is as good.
 
        struct nushbaret_record record = {0, 0, 0, 0, 0, 0, 0, 0};   (and all objects are 0)
        do code = nushbaret_dense_from(NUSHBARET_MIN, n, m, costs, n * m, costs, 0, objects, n, persons, n, prices, m,
@@ -80,9 +79,9 @@
 
    WHAT ANSWERS
 
-   Each answer of a search is checked before a call returns it. Where a search finds nothing that passes, which nobody has
-   seen, a slow one answers that is proved. So a solving call without a budget returns NUSHBARET_BEST, NUSHBARET_HALL or a
-   fault, whatever its lists contain.
+   Each answer of a search is checked before a call returns it. Over whole numbers a slow search that is proved answers
+   where nothing passes, which nobody has seen. So without a budget these calls return NUSHBARET_BEST, NUSHBARET_HALL or a
+   fault, whatever their lists contain. Over doubles they may also return NUSHBARET_UNDECIDED.
 
    A WORKED EXAMPLE
 
@@ -97,7 +96,7 @@
    The prices prove that no assignment costs less: `nushbaret_verify` looks at them. c/example.c is the whole program.
 
    docs/PROVED.md says what is proved of each call, and what is only tested. The functions that take structs are plain C
-   in this header; they are tested, and what they return is what the proved call returned. */
+   in this header, and only tested; they return what the proved call returned. */
 #ifndef NUSHBARET_H
 #define NUSHBARET_H
 #include <stddef.h>
@@ -219,12 +218,10 @@ int32_t nushbaret_sparse_from(uint32_t sense, size_t n, size_t m,
     struct nushbaret_record *record,
     struct nushbaret_info *info);
 
-/* Checks an assignment of any origin: NUSHBARET_BEST says that these prices prove these objects optimal. Each person's
-   object is then a best one for it at these prices (complementary slackness), and the price of each object that nobody has
-   is 0. A sparse problem is given as above; a dense one by its costs, with
-   of_persons_count and of_objects_count 0 (any two addresses but NULL will do). With costs_count 0 too it is a sparse
-   problem without pairs, not a dense one whose costs were forgotten. Objects and prices may have any lengths and hold any
-   numbers. */
+/* Checks an assignment of any origin: NUSHBARET_BEST says that these prices prove these objects optimal. A sparse problem is
+   given as above; a dense one by its costs, with of_persons_count and of_objects_count 0 (any two addresses but NULL will
+   do). With costs_count 0 too it is a sparse problem without pairs, not a dense one whose costs were forgotten. Objects and
+   prices may have any lengths and hold any numbers. */
 int32_t nushbaret_check(uint32_t sense, size_t n, size_t m,
     const uint32_t *of_persons, size_t of_persons_count,
     const uint32_t *of_objects, size_t of_objects_count,
@@ -416,8 +413,8 @@ struct nushbaret_rows_info {
 
 /* Checks a tree on rows, and a plan. Of several faults it returns the first: those of the lists, from NUSHBARET_ROWS_LENGTH
    to NUSHBARET_ROWS_COST as they are numbered, then the first of the tree in the order of its numbers. Other fields of
-   `info` than those named above stay as they were. It takes time linear in the lists and in the terms of the rows that the
-   leaves name, and 16 bytes a variable and a row's size for each row. */
+   `info` than those named above stay as they were. The time is linear in the lists and in the terms of the rows that
+   the leaves name. The memory is 16 bytes for each variable, and a small record for each row. */
 int32_t nushbaret_rows(size_t n,
     const size_t *starts, size_t starts_count,
     const uint32_t *variables, size_t variables_count,
