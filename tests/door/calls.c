@@ -22,44 +22,97 @@ static int32_t by_struct(struct call *c, int32_t (*call)(const struct nushbaret_
     answer.info = c->info, answer.record = c->record;
     code = call(&problem, &answer);
     c->info = answer.info, c->record = answer.record;
-    return blocks == 0 ? code : -1;
+    return code;
+}
+
+static int32_t solving(struct call *c) {
+    size_t n = c->n, m = c->m, firsts = c->is_without_first ? 0 : m;
+    if (c->is_by_struct) return by_struct(c, nushbaret_solve);
+    if (c->is_sparse && c->is_from)
+        return nushbaret_sparse_from(c->sense, n, m, c->of_persons, c->pairs, c->of_objects, c->pairs, c->costs, c->pairs,
+            c->first, firsts, c->objects, n, c->persons, n, c->prices, m, c->budget, &c->record, &c->info);
+    if (c->is_sparse)
+        return nushbaret_sparse(c->sense, n, m, c->of_persons, c->pairs, c->of_objects, c->pairs, c->costs, c->pairs,
+            c->objects, n, c->persons, n, c->prices, m, &c->info);
+    if (c->is_from)
+        return nushbaret_dense_from(c->sense, n, m, c->costs, c->pairs, c->first, firsts, c->objects, n, c->persons, n,
+            c->prices, m, c->budget, &c->record, &c->info);
+    return nushbaret_dense(c->sense, n, m, c->costs, c->pairs, c->objects, n, c->persons, n, c->prices, m, &c->info);
+}
+
+static int32_t checking(struct call *c) {
+    size_t pairs = c->is_sparse ? c->pairs : 0;
+    if (c->is_by_struct) return by_struct(c, nushbaret_verify);
+    return nushbaret_check(c->sense, c->n, c->m, c->of_persons, pairs, c->of_objects, pairs, c->costs, c->pairs,
+        c->objects, c->n, c->prices, c->m, &c->info);
+}
+
+static int32_t checking_hall(struct call *c) {
+    size_t pairs = c->is_sparse ? c->pairs : 0;
+    if (c->is_by_struct) return by_struct(c, nushbaret_verify_hall);
+    return nushbaret_check_hall(c->n, c->m, c->of_persons, pairs, c->of_objects, pairs, c->costs, c->pairs,
+        c->persons, (size_t)c->info.persons, c->objects, (size_t)c->info.objects, &c->info);
+}
+
+/* What a call may write. */
+struct room {
+    uint32_t objects[MOST], persons[MOST];
+    int64_t prices[MOST];
+    struct nushbaret_record record;
+    struct nushbaret_info info;
+};
+
+static struct room room_of(const struct call *c) {
+    struct room room;
+    memcpy(room.objects, c->objects, sizeof room.objects);
+    memcpy(room.persons, c->persons, sizeof room.persons);
+    memcpy(room.prices, c->prices, sizeof room.prices);
+    room.record = c->record, room.info = c->info;
+    return room;
+}
+
+/* Takes over the fields that the header's table names for a code. */
+static void take_fields(struct nushbaret_info *info, const struct nushbaret_info *now, int32_t code, int is_solving) {
+    int is_pair = code == NUSHBARET_SLACK || code == NUSHBARET_HALL_MISSING;
+    if (is_solving && code == NUSHBARET_BEST) info->total = now->total;
+    if (is_solving && code == NUSHBARET_HALL) info->persons = now->persons, info->objects = now->objects;
+    if (code >= NUSHBARET_PERSON && code <= NUSHBARET_PRICE) info->place = now->place;
+    if (is_pair || code == NUSHBARET_UNLISTED) info->person = now->person;
+    if (is_pair || code == NUSHBARET_TWICE || code == NUSHBARET_PRICE_RANGE || code == NUSHBARET_OVERPRICED
+        || code == NUSHBARET_HALL_EXTRA)
+        info->object = now->object;
+}
+
+/* Whether a call wrote nothing but what the header's table names for its code. */
+static int wrote_as_said(struct room *before, const struct call *c, int32_t code, int is_solving) {
+    int has_plan = code == NUSHBARET_STOPPED || (is_solving && code == NUSHBARET_BEST);
+    int has_hall = is_solving && code == NUSHBARET_HALL;
+    size_t objects = has_plan ? c->n : has_hall ? (size_t)c->info.objects : 0;
+    struct room now = room_of(c);
+    memcpy(before->objects, now.objects, objects * sizeof *now.objects);
+    memcpy(before->persons, now.persons, (has_hall ? (size_t)c->info.persons : 0) * sizeof *now.persons);
+    memcpy(before->prices, now.prices, (has_plan ? c->m : 0) * sizeof *now.prices);
+    if (code == NUSHBARET_STOPPED) before->record = now.record;
+    take_fields(&before->info, &now.info, code, is_solving);
+    return memcmp(before, &now, sizeof now) == 0;
+}
+
+static int32_t watched(struct call *c, int32_t (*call)(struct call *)) {
+    struct room before = room_of(c);
+    int32_t code = call(c);
+    return blocks == 0 && wrote_as_said(&before, c, code, call == solving) ? code : -1;
 }
 
 int32_t solve(struct call *c) {
-    size_t n = c->n, m = c->m, firsts = c->is_without_first ? 0 : m;
-    int32_t code;
-    if (c->is_by_struct)
-        code = by_struct(c, nushbaret_solve);
-    else if (c->is_sparse && c->is_from)
-        code = nushbaret_sparse_from(c->sense, n, m, c->of_persons, c->pairs, c->of_objects, c->pairs, c->costs, c->pairs,
-            c->first, firsts, c->objects, n, c->persons, n, c->prices, m, c->budget, &c->record, &c->info);
-    else if (c->is_sparse)
-        code = nushbaret_sparse(c->sense, n, m, c->of_persons, c->pairs, c->of_objects, c->pairs, c->costs, c->pairs,
-            c->objects, n, c->persons, n, c->prices, m, &c->info);
-    else if (c->is_from)
-        code = nushbaret_dense_from(c->sense, n, m, c->costs, c->pairs, c->first, firsts, c->objects, n, c->persons, n,
-            c->prices, m, c->budget, &c->record, &c->info);
-    else
-        code = nushbaret_dense(c->sense, n, m, c->costs, c->pairs, c->objects, n, c->persons, n, c->prices, m, &c->info);
-    return blocks == 0 ? code : -1;
+    return watched(c, solving);
 }
 
 int32_t check(struct call *c) {
-    size_t pairs = c->is_sparse ? c->pairs : 0;
-    int32_t code;
-    if (c->is_by_struct) return by_struct(c, nushbaret_verify);
-    code = nushbaret_check(c->sense, c->n, c->m, c->of_persons, pairs, c->of_objects, pairs, c->costs, c->pairs,
-        c->objects, c->n, c->prices, c->m, &c->info);
-    return blocks == 0 ? code : -1;
+    return watched(c, checking);
 }
 
 int32_t check_hall(struct call *c) {
-    size_t pairs = c->is_sparse ? c->pairs : 0;
-    int32_t code;
-    if (c->is_by_struct) return by_struct(c, nushbaret_verify_hall);
-    code = nushbaret_check_hall(c->n, c->m, c->of_persons, pairs, c->of_objects, pairs, c->costs, c->pairs,
-        c->persons, (size_t)c->info.persons, c->objects, (size_t)c->info.objects, &c->info);
-    return blocks == 0 ? code : -1;
+    return watched(c, checking_hall);
 }
 
 /* A dense problem of two persons and two objects. */

@@ -34,7 +34,7 @@ struct call {
     struct nushbaret_info info;
 };
 
-/* The code of a call; -1 where it left a block. */
+/* The code of a call; -1 where it left a block, or wrote what the header's table doesn't name. */
 int32_t solve(struct call *c);
 int32_t check(struct call *c);
 int32_t check_hall(struct call *c);
