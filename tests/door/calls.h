@@ -54,6 +54,7 @@ int is_right(unsigned *seed);
 void test_answers(void);
 void test_faults(void);
 void test_verdicts(void);
+void test_drawn(void);
 void test_memory(void);
 void test_large(void);
 void test_doubles(void);

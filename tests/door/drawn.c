@@ -81,6 +81,17 @@ static void start_anywhere(struct call *c, unsigned *seed) {
     if (drawn(seed) % 4 == 0) c->record.slackness = INT64_MIN, c->record.bids = UINT64_MAX, c->record.looks = UINT64_MAX;
 }
 
+/* Whether each person has an object, or none yet (0), and no two the same. */
+static int are_objects_or_none(const struct call *c) {
+    unsigned used = 1;
+    size_t i;
+    for (i = 0; i < c->n; i++) {
+        if (c->objects[i] > c->m || (c->objects[i] > 0 && used >> c->objects[i] & 1)) return 0;
+        used |= 1u << c->objects[i];
+    }
+    return 1;
+}
+
 /* Calls until the search ends; -3 where it doesn't in so many pieces. */
 static int32_t solve_in_pieces(struct call *c, long *pieces) {
     int32_t code = -3;
@@ -89,32 +100,60 @@ static int32_t solve_in_pieces(struct call *c, long *pieces) {
         code = solve(c);
         if (code != NUSHBARET_STOPPED) return code;
         WANT(memcmp(before.persons, c->persons, sizeof c->persons) == 0 && memcmp(&before.info, &c->info, sizeof c->info) == 0);
+        WANT(are_objects_or_none(c));
     }
     return -3;
 }
 
-/* A problem of up to five persons and seven objects, dense or sparse, under either sense, by lists or by structs, begun
-   anywhere; 1 where it is solved as the slow search says, and the prices prove each best assignment. */
-int is_right(unsigned *seed) {
+/* A problem of up to five persons and seven objects, dense or sparse, under either sense, by lists or by structs; also its
+   costs to minimise, and which pairs are listed. */
+static struct call drawn_call(int64_t *costs, char *listed, unsigned *seed) {
     struct call c;
-    int64_t costs[42], best, sign;
-    char listed[42];
     size_t k;
-    long pieces;
-    int32_t code;
     memset(&c, 0, sizeof c);
-    memset(costs, 0, sizeof costs);
     c.n = 1 + drawn(seed) % 5, c.m = drawn(seed) % 4 ? 1 + drawn(seed) % 7 : c.n;
     c.sense = drawn(seed) % 2, c.is_sparse = (int)(drawn(seed) % 2), c.is_by_struct = (int)(drawn(seed) % 2);
-    sign = c.sense == NUSHBARET_MAX ? -1 : 1;
     for (k = 0; k < c.n * c.m; k++) {
         listed[k] = (char)(!c.is_sparse || drawn(seed) % 3 != 0);
-        if (listed[k]) costs[k] = list_one(&c, k, seed);
+        costs[k] = listed[k] ? list_one(&c, k, seed) : 0;
     }
+    return c;
+}
+
+/* Begun anywhere; 1 where it is solved as the slow search says, and the prices prove each best assignment. */
+int is_right(unsigned *seed) {
+    int64_t costs[42], best, sign;
+    char listed[42];
+    struct call c = drawn_call(costs, listed, seed);
+    long pieces;
+    int32_t code;
+    sign = c.sense == NUSHBARET_MAX ? -1 : 1;
     if (drawn(seed) % 2) start_anywhere(&c, seed);
     best = c.n > c.m ? INT64_MAX : least(&c, costs, listed, 0, 0);
     code = solve_in_pieces(&c, &pieces);
     if (best == INT64_MAX) return code == NUSHBARET_HALL && (c.pairs == 0 || check_hall(&c) == NUSHBARET_HALL);
     return code == NUSHBARET_BEST && c.info.total == sign * best && check(&c) == NUSHBARET_BEST
         && is_certificate(&c, costs, listed) && wrongly_judged(&c, costs, listed, best, 0, 0) == 0;
+}
+
+/* Without first prices, or with all of them 0, a `_from` call does what the plain one does, whatever its plan. */
+static void as_the_plain_calls(void) {
+    unsigned seed = 1, trial;
+    for (trial = 0; trial < 300; trial++) {
+        int64_t costs[42];
+        char listed[42];
+        struct call from = drawn_call(costs, listed, &seed), plain;
+        start_anywhere(&from, &seed);
+        memset(from.first, 0, sizeof from.first);
+        from.record.stage = 0, from.budget = 0, from.is_by_struct = 0;
+        plain = from, plain.is_from = 0;
+        WANT(solve(&from) == solve(&plain) && memcmp(&from.info, &plain.info, sizeof from.info) == 0);
+        WANT(memcmp(from.objects, plain.objects, sizeof from.objects) == 0);
+        WANT(memcmp(from.persons, plain.persons, sizeof from.persons) == 0);
+        WANT(memcmp(from.prices, plain.prices, sizeof from.prices) == 0);
+    }
+}
+
+void test_drawn(void) {
+    as_the_plain_calls();
 }

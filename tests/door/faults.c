@@ -106,6 +106,10 @@ static void faults(void) {
     WANT(spoilt(c) == NUSHBARET_OBJECT * 100 + 3);
     memset(text, 9, sizeof text);
     WANT(nushbaret_version(text, length) == length && text[0] == 9);
+    WANT(nushbaret_version(text, sizeof text) == length && strcmp((const char *)text, NUSHBARET_VERSION) == 0);
+    WANT(text[length + 1] == 9);
+    memset(text, 9, sizeof text);
+    WANT(nushbaret_version(text, 0) == length && text[0] == 9);
     WANT(nushbaret_version(text, length + 1) == length && strcmp((const char *)text, NUSHBARET_VERSION) == 0);
 }
 

@@ -100,7 +100,36 @@ static void faults_before_memory(void) {
     refuse_at = 0;
 }
 
+/* The code of a call whose first growth is refused. */
+static int32_t without_memory(struct call *c, int32_t (*call)(struct call *)) {
+    int32_t code;
+    growths = 0, refuse_at = 1;
+    code = call(c);
+    refuse_at = 0;
+    return code;
+}
+
+/* The checking calls ask for memory before they judge an answer, but for its lengths, and the range and order of a Hall set. */
+static void verdicts_and_memory(void) {
+    struct call c = two(NUSHBARET_MIN, 1, 2, 3, 5);
+    WANT(check(&c) == NUSHBARET_UNLISTED && without_memory(&c, check) == NUSHBARET_MEMORY);
+    growths = 0, refuse_at = 1;
+    WANT(nushbaret_check(0, 2, 2, c.objects, 0, c.objects, 0, c.costs, 4, c.objects, 1, c.prices, 2, &c.info)
+        == NUSHBARET_ANSWER_LENGTH);
+    c.costs[1] = INT64_MIN;
+    WANT(without_memory(&c, check) == NUSHBARET_COST && c.info.place == 1);
+    c = three(), c.info.persons = 2;
+    WANT(without_memory(&c, check_hall) == NUSHBARET_HALL_RANGE);
+    c.persons[0] = 2, c.persons[1] = 1;
+    WANT(without_memory(&c, check_hall) == NUSHBARET_HALL_ORDER);
+    c.persons[1] = 3;
+    WANT(without_memory(&c, check_hall) == NUSHBARET_MEMORY && check_hall(&c) == NUSHBARET_HALL_MISSING);
+    c.of_objects[3] = 4;
+    WANT(without_memory(&c, check_hall) == NUSHBARET_OBJECT && c.info.place == 3);
+}
+
 void test_memory(void) {
     refusals();
     faults_before_memory();
+    verdicts_and_memory();
 }
