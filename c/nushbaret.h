@@ -9,8 +9,8 @@
    an assignment optimal if each person's own object is a best one for it at these prices (the least sum of cost and price,
    under NUSHBARET_MAX the greatest cost less price), and each object that nobody has costs 0.
 
-   There are two ways to call: `nushbaret_solve`, at the end, takes a problem and an answer as structs; the functions
-   before it take each list with its length.
+   There are two ways to call: `nushbaret_solve` takes a problem and an answer as structs; the functions before it take
+   each list with its length.
 
    WHAT A CALLER OWES
 
@@ -55,7 +55,7 @@
    NUSHBARET_OVERPRICED, and in nushbaret_check_hall those from NUSHBARET_HALL_RANGE to NUSHBARET_HALL_COUNT.
    info->place is the first place with this fault. NUSHBARET_MEMORY comes only where nothing is wrong with the problem or
    with a length: memory was refused that the call can't do without. The checking calls ask for it before they judge the
-   numbers of an answer.
+   numbers of an answer, nushbaret_check_hall after NUSHBARET_HALL_ORDER.
 
    WARM STARTS
 
@@ -258,6 +258,8 @@ int32_t nushbaret_check_hall(size_t n, size_t m,
    NUSHBARET_PRICE_RANGE                                                                info->object
    any other             nothing
 
+   Of several faults a call returns the one with the least number.
+
    NUSHBARET_BEST: no plan has a lesser sum (under NUSHBARET_MAX a greater one) in exact arithmetic, without any rounding.
    At the prices, which are doubles, each person's own object is a best one, and no price is below that of an object that
    nobody has. NUSHBARET_HALL: there is no plan. NUSHBARET_UNDECIDED says neither: plans that differ by less than the
@@ -417,7 +419,7 @@ struct nushbaret_rows_info {
 /* Checks a tree on rows, and a plan. Of several faults it returns the first: those of the lists, from NUSHBARET_ROWS_LENGTH
    to NUSHBARET_ROWS_COST as they are numbered, then the first of the tree in the order of its numbers. Other fields of
    `info` than those named above stay as they were. It takes time linear in the lists and in the terms of the rows that the
-   leaves name, and 16 bytes a variable and a row's size for each row. */
+   leaves name, and memory of 16 bytes a variable, up to 32 a term and some 100 a row. */
 int32_t nushbaret_rows(size_t n,
     const size_t *starts, size_t starts_count,
     const uint32_t *variables, size_t variables_count,

@@ -1,5 +1,5 @@
-/* Calls each function of the library but nushbaret_rows, as C and as C++; ends with 0 where all is as it has to be. After each
-   call no block may be left. Here are the calls by lists and by structs, and the problems worked by hand. */
+/* Calls each function of the library, as C and as C++; ends with 0 where all is as it has to be. After each call no block may be
+   left. Here are the calls by lists and by structs, and the problems worked by hand. */
 #include "calls.h"
 
 int failed;
@@ -165,6 +165,7 @@ int main(void) {
     test_memory();
     test_large();
     test_doubles();
+    test_rows();
     test_threads();
     puts(failed ? "failed" : "calls: all as wanted");
     return failed;

@@ -48,8 +48,9 @@ void list_pairs(struct call *c);
 /* A number below 2^16. */
 unsigned drawn(unsigned *seed);
 
-/* Whether a drawn problem is solved as a slow search says. */
+/* Whether a drawn problem is solved as a slow search says, and whether a tree of 1000 splits is shown. */
 int is_right(unsigned *seed);
+int is_deep_right(void);
 
 void test_answers(void);
 void test_faults(void);
@@ -58,5 +59,6 @@ void test_drawn(void);
 void test_memory(void);
 void test_large(void);
 void test_doubles(void);
+void test_rows(void);
 void test_threads(void);
 #endif

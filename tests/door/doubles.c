@@ -71,6 +71,8 @@ void test_doubles(void) {
         WANT(make(&solved) == NUSHBARET_BEST);
         solved.kind = 2;
         refuse(&solved, NUSHBARET_BEST);
+        solved.objects[0] = 0;
+        refuse(&solved, NUSHBARET_UNLISTED);
         c.costs[n * m - 1] = NAN;
         for (c.kind = 0; c.kind < 3; c.kind++) {
             struct doubles faulty = c;
