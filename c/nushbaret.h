@@ -82,7 +82,7 @@
 
    Each answer of a search is checked before a call returns it. Where a search finds nothing that passes, which nobody has
    seen, a slow one answers that is proved. So a solving call without a budget returns NUSHBARET_BEST, NUSHBARET_HALL or a
-   fault, whatever its lists contain. A record that no call wrote may keep it for ever.
+   fault, whatever its lists contain. From a record that no call wrote a search may never end.
 
    A WORKED EXAMPLE
 
