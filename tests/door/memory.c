@@ -109,7 +109,7 @@ static int32_t without_memory(struct call *c, int32_t (*call)(struct call *)) {
     return code;
 }
 
-/* The checking calls ask for memory before they judge an answer, but for its lengths, and the range and order of a Hall set. */
+/* The checking calls ask for memory before they judge an answer, except its lengths, and the range and order of a Hall set. */
 static void verdicts_and_memory(void) {
     struct call c = two(NUSHBARET_MIN, 1, 2, 3, 5);
     WANT(check(&c) == NUSHBARET_UNLISTED && without_memory(&c, check) == NUSHBARET_MEMORY);
