@@ -56,7 +56,7 @@
    NUSHBARET_OVERPRICED, and in nushbaret_check_hall those from NUSHBARET_HALL_RANGE to NUSHBARET_HALL_COUNT.
    info->place is the first place with this fault. NUSHBARET_MEMORY comes only where nothing is wrong with the problem or
    with a length: memory was refused that the call can't do without. The checking calls ask for it before they judge the
-   numbers of an answer.
+   numbers of an answer, nushbaret_check_hall after NUSHBARET_HALL_ORDER.
 
    WARM STARTS
 
@@ -80,8 +80,9 @@
    WHAT ANSWERS
 
    Each answer of a search is checked before a call returns it. Over whole numbers a slow search that is proved answers
-   where nothing passes, which nobody has seen. So without a budget these calls return NUSHBARET_BEST, NUSHBARET_HALL or a
-   fault, whatever their lists contain. Over doubles they may also return NUSHBARET_UNDECIDED.
+   where nothing passes, which was seen only from records that no call wrote. So without a budget these calls return
+   NUSHBARET_BEST, NUSHBARET_HALL or a fault, whatever their lists contain; from such a record one may take years. Over
+   doubles they may also return NUSHBARET_UNDECIDED.
 
    A WORKED EXAMPLE
 
@@ -255,6 +256,8 @@ int32_t nushbaret_check_hall(size_t n, size_t m,
    NUSHBARET_PRICE_RANGE                                                                info->object
    any other             nothing
 
+   Of several faults a call returns the one with the least number.
+
    NUSHBARET_BEST: no plan has a lesser sum (under NUSHBARET_MAX a greater one) in exact arithmetic, without any rounding.
    At the prices, which are doubles, each person's own object is a best one, and no price is below that of an object that
    nobody has. NUSHBARET_HALL: there is no plan. NUSHBARET_UNDECIDED says neither: plans that differ by less than the
@@ -413,8 +416,8 @@ struct nushbaret_rows_info {
 
 /* Checks a tree on rows, and a plan. Of several faults it returns the first: those of the lists, from NUSHBARET_ROWS_LENGTH
    to NUSHBARET_ROWS_COST as they are numbered, then the first of the tree in the order of its numbers. Other fields of
-   `info` than those named above stay as they were. The time is linear in the lists and in the terms of the rows that
-   the leaves name. The memory is 16 bytes for each variable, and a small record for each row. */
+   `info` than those named above stay as they were. It takes time linear in the lists and in the terms of the rows that the
+   leaves name, and memory of 16 bytes a variable, up to 32 a term and some 100 a row. */
 int32_t nushbaret_rows(size_t n,
     const size_t *starts, size_t starts_count,
     const uint32_t *variables, size_t variables_count,

@@ -38,7 +38,7 @@ on_arm() {
     local built=$top/c/out/aarch64 cc=aarch64-linux-gnu-gcc emulated
     emulated=(qemu-aarch64 -L "$(dirname "$(dirname "$("$cc" -print-file-name=libc.so.6)")")")
     run 'header for ARM' python3 "$top/tests/door/header.py" "$built"
-    run 'ARM: build' "$cc" "${c99[@]}" "${flags[@]}" "$calls" "$built/libnushbaret.a" "${wrapped[@]}" -o "$work/calls_on_arm"
+    run 'ARM: build' "$cc" "${c99[@]}" "${flags[@]}" "${calls[@]}" "$built/libnushbaret.a" "${wrapped[@]}" -o "$work/calls_on_arm"
     run 'ARM' "${emulated[@]}" "$work/calls_on_arm"
     run 'example for ARM: build' "$cc" -std=c99 -pedantic "${flags[@]}" "$top/c/example.c" -L"$built" -lnushbaret -Wl,-rpath,"$built" -o "$work/example_on_arm"
     shows 'example for ARM' "${emulated[@]}" "$work/example_on_arm"
@@ -55,14 +55,14 @@ run header python3 "$top/tests/door/header.py"
 
 flags=(-O1 -Wall -Wextra -Werror "-I$top/c" -pthread)
 wrapped=(-Wl,--wrap=malloc,--wrap=realloc,--wrap=free)
-calls=$top/tests/door/calls.c
+calls=("$top"/tests/door/*.c)
 c99=(-std=c99 -D_POSIX_C_SOURCE=200809L)
-run 'C99: build' cc "${c99[@]}" "${flags[@]}" "$calls" "$archive" "${wrapped[@]}" -o "$work/calls"
+run 'C99: build' cc "${c99[@]}" "${flags[@]}" "${calls[@]}" "$archive" "${wrapped[@]}" -o "$work/calls"
 run 'C99' "$work/calls"
-run 'C++11: build' c++ -x c++ -std=c++11 "${flags[@]}" "$calls" -x none "$archive" "${wrapped[@]}" -o "$work/calls_as_cpp"
+run 'C++11: build' c++ -x c++ -std=c++11 "${flags[@]}" "${calls[@]}" -x none "$archive" "${wrapped[@]}" -o "$work/calls_as_cpp"
 run 'C++11' "$work/calls_as_cpp"
 if echo 'int main(void) { return 0; }' | cc -fsanitize=address,undefined -x c - -o "$work/empty" 2> /dev/null; then
-    run 'checked: build' cc "${c99[@]}" "${flags[@]}" -fsanitize=address,undefined -fno-sanitize-recover=all "$calls" "$archive" "${wrapped[@]}" -o "$work/checked"
+    run 'checked: build' cc "${c99[@]}" "${flags[@]}" -fsanitize=address,undefined -fno-sanitize-recover=all "${calls[@]}" "$archive" "${wrapped[@]}" -o "$work/checked"
     run 'checked' "$work/checked"
     ran="$ran, under sanitizers"
 fi
@@ -81,10 +81,8 @@ if [ "$("$work/example_rows" 2> /dev/null)" != $'cost -1, and no plan costs less
 fi
 run 'rows: calls' python3 "$top/tests/door/rows.py" "$top/c/out/libnushbaret.so"
 
-# Costs in doubles: each code, drawn problems, and each growth refused.
-run 'doubles: calls' python3 "$top/tests/door/doubles.py" "$top/c/out/libnushbaret.so"
-run 'doubles: build' cc "${c99[@]}" "${flags[@]}" "$top/tests/door/doubles.c" "$archive" "${wrapped[@]}" -o "$work/doubles"
-run 'doubles: memory' "$work/doubles"
+# Costs in doubles: each code, and drawn problems.
+run 'doubles' python3 "$top/tests/door/doubles.py" "$top/c/out/libnushbaret.so"
 
 if ! type -P aarch64-linux-gnu-gcc > /dev/null; then
     run 'no compiler for ARM' asks_for_its_compiler

@@ -45,11 +45,13 @@ over_the_dll() {
 # The calls of tests/door over the library's object. The test's own malloc stands in for that of the library alone, since mingw's
 # start-up calls malloc too; so does its emulated thread-local data, which clang can do without. Windows rounds stacks up itself.
 door() {
+    mkdir "$work/door"
     "$gnu-objcopy" --redefine-sym malloc=__wrap_malloc --redefine-sym realloc=__wrap_realloc --redefine-sym free=__wrap_free \
-        "$built/nushbaret.o" "$work/library.o"
-    clang --target="$gnu" -fno-emulated-tls -std=c99 -O1 -DPTHREAD_STACK_MIN=0 -I"$top/c" -c "$top/tests/door/calls.c" -o "$work/calls.o"
-    "$gnu-objcopy" --redefine-sym __real_malloc=malloc --redefine-sym __real_realloc=realloc --redefine-sym __real_free=free "$work/calls.o"
-    "$gnu-gcc-posix" "$work/calls.o" "$work/library.o" -pthread -static -o "$work/calls.exe"
+        "$built/nushbaret.o" "$work/door/library.o"
+    (cd "$work/door" && clang --target="$gnu" -fno-emulated-tls -std=c99 -O1 -DPTHREAD_STACK_MIN=0 -I"$top/c" -c "$top"/tests/door/*.c)
+    "$gnu-objcopy" --redefine-sym __real_malloc=malloc --redefine-sym __real_realloc=realloc --redefine-sym __real_free=free \
+        "$work/door/memory.o"
+    "$gnu-gcc-posix" "$work"/door/*.o -pthread -static -o "$work/calls.exe"
 }
 
 under_wine() {

@@ -252,11 +252,15 @@ def verdicts():
         ([1, 1], [0.0, 0.0], TWICE, {"person": 2}),
         ([2, 1], [0.0, NAN], PRICE_RANGE, {"object": 2}),
         ([2, 1], [INFINITY, NAN], PRICE_RANGE, {"object": 1}),
+        ([1, 3], [0.0, NAN], UNLISTED, {"person": 2}),
+        ([1, 1], [0.0, NAN], TWICE, {"person": 2}),
         ([2, 1], [0.0, 0.0], UNDECIDED, {}),
         ([2, 1], [-1.5, 0.0], UNDECIDED, {}),
     ]:
         answer = check(MIN, 2, 2, costs, objects, prices)
         want(answer.code == code and answer.has_only(**named), objects, prices, "give", answer.code, answer.fields())
+    answer = check(MIN, 3, 3, [1.0] * 9, [1, 1, 9], [0.0, 0.0, NAN])
+    want(answer.code == UNLISTED and answer.has_only(person=3), "several faults give", answer.code, answer.fields())
     for sense in (2, 7):
         want(check(sense, 2, 2, costs, [2, 1], [0.0, 0.0]).code == SENSE, "sense", sense)
     want(check(MIN, 0, 2, [], [], [0.0, 0.0]).code == SIZE, "no persons")

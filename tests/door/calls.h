@@ -1,0 +1,64 @@
+/* What the files of tests/door share, as C and as C++. */
+#ifndef CALLS_H
+#define CALLS_H
+#include "nushbaret.h"
+#include <stdio.h>
+#include <string.h>
+
+#define WANT(x) \
+    do { \
+        if (!(x)) { \
+            printf("%s:%d: %s\n", __FILE__, __LINE__, #x); \
+            failed = 1; \
+        } \
+    } while (0)
+extern int failed;
+
+/* Growths of this thread, the one to refuse (from 1; 0: none), and blocks that aren't given back. */
+extern __thread long growths, refuse_at, blocks;
+
+enum { MOST = 64, PAIRS = 256 };
+
+/* What a call reads and writes. `is_by_struct` sends it through the functions of the header that take structs, and
+   `is_without_first` has a `_from` call begin without first prices. */
+struct call {
+    uint32_t sense;
+    size_t n, m, pairs;
+    int is_sparse, is_from, is_without_first, is_by_struct;
+    int64_t costs[PAIRS];
+    uint32_t of_persons[PAIRS], of_objects[PAIRS];
+    uint32_t objects[MOST], persons[MOST];
+    int64_t first[MOST], prices[MOST];
+    uint64_t budget;
+    struct nushbaret_record record;
+    struct nushbaret_info info;
+};
+
+/* The code of a call; -1 where it left a block, or wrote what the header's table doesn't name. */
+int32_t solve(struct call *c);
+int32_t check(struct call *c);
+int32_t check_hall(struct call *c);
+
+/* Problems worked by hand. */
+struct call two(uint32_t sense, int64_t a, int64_t b, int64_t c, int64_t d);
+struct call two_of_three(uint32_t sense);
+struct call three(void);
+void list_pairs(struct call *c);
+
+/* A number below 2^16. */
+unsigned drawn(unsigned *seed);
+
+/* Whether a drawn problem is solved as a slow search says, and whether a tree of 1000 splits is shown. */
+int is_right(unsigned *seed);
+int is_deep_right(void);
+
+void test_answers(void);
+void test_faults(void);
+void test_verdicts(void);
+void test_drawn(void);
+void test_memory(void);
+void test_large(void);
+void test_doubles(void);
+void test_rows(void);
+void test_threads(void);
+#endif
