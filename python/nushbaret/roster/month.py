@@ -3,8 +3,8 @@ the first day."""
 from datetime import date
 from typing import Dict, FrozenSet, List, NamedTuple, Optional, Sequence, Set, Tuple
 
-from .blocks import labels_of, without_group
-from .dates import SATURDAY, are_weekdays, dates_of, has_year, weekends_among
+from .blocks import without_group
+from .dates import SATURDAY, are_weekdays, dates_of, has_year, spellings, weekends_among
 from .names import quoted
 from .roster import Earlier, Groups, Roster
 from .sheets import RosterFault
@@ -122,8 +122,9 @@ def month_of(roster: Roster, groups: Groups, path: str, before: Optional[Before]
     """
     days = _days_of(groups, path)
     _refuse_same_day(groups, days.planned, path)
-    kinds = groups.kinds if groups.has_kinds else dict(enumerate(labels_of(roster)))
-    shifts = {object_: Shift(days.planned[group], kinds.get(object_, ""), groups.times.get(object_))
+    kinds = groups.kinds if groups.has_kinds else {object_: _kind_in(roster.objects[object_], groups.names[group])
+                                                   for object_, group in groups.of_objects.items()}
+    shifts = {object_: Shift(days.planned[group], kinds.get(object_, NO_KIND), groups.times.get(object_))
               for object_, group in groups.of_objects.items()}
     past = {shifts[object_].day for object_ in roster.past}
     begin, last = min(days.planned), max(days.planned)
@@ -168,13 +169,13 @@ def _earlier_shifts(groups: Groups, days: Dict[str, int], begin: int, path: str)
         if days[one.group] >= begin or one.group in groups.names:
             raise RosterFault(path, f"the roster has no object {quoted(one.name)}, and {one.group} isn't before its "
                               "first day", one.line, 1)
-    return {one.name: Shift(days[one.group], one.kind or _label_of(one, groups), one.times)
-            for one in groups.earlier}
+    return {one.name: Shift(days[one.group], one.kind if one.kind or groups.has_kinds
+                            else _kind_in(one.name, one.group), one.times) for one in groups.earlier}
 
 
-def _label_of(one: Earlier, groups: Groups) -> str:
-    """The kind of an earlier object, where no column has kinds: its name without that of its day."""
-    return "" if groups.has_kinds else without_group(one.name, one.group)
+def _kind_in(name: str, day: str) -> str:
+    """The kind of an object, where no column has kinds: its name without that of its day, as that may be written."""
+    return next((kind for kind in (without_group(name, one) for one in spellings(day)) if kind != name), name)
 
 
 def _worked(roster: Roster, before: Before, earlier: Dict[str, Shift]) -> Dict[Tuple[int, int], List[Shift]]:

@@ -76,6 +76,37 @@ class Earlier(Files):
             self.assertNotIn("breaks", self.run_words(*WORDS, "--before", "b.csv", "--compare", "o.csv")[1])
 
 
+@unittest.skipUnless(optimize, "SciPy isn't there")
+class KindsInNames(Files):
+    """Without a column of kinds, a shift's kind is its name without its day, however that is written there."""
+
+    def test_earlier_days(self):
+        """Ada had a night before the first day, so Ben takes the early shift, at 9 instead of 1."""
+        for earlier, first in (("2027-02-28", "2027-03-01"), ("28.02.2027", "01.03.2027"), ("28.2.2027", "1.3.2027"),
+                               ("So 28.02.2027", "Mo 01.03.2027")):
+            for name in "Night {}", "{} Night":
+                self.file("s.csv", f"n,s,c\nAda,Early {first},1\nBen,Early {first},9\n")
+                self.file("d.csv", f"s,d\n{name.format(earlier)},{earlier}\nEarly {first},{first}\n")
+                self.file("t.csv", "n,l,m\nAda,0,1\nBen,0,1\n")
+                self.file("b.csv", f"n,s\nAda,{name.format(earlier)}\n")
+                self.rules("rest,Night > Early,")
+                status, out, err = self.run_words(*WORDS, "--before", "b.csv")
+                self.assertEqual((status, err, out.splitlines()[1:]), (0, "", [f"Ben: Early {first}, 9",
+                                                                             "without: Ada"]), name)
+
+    def test_days_in_two_spellings(self):
+        """A name may have its day as another line has it, and two names of a day the same kind: Ada takes one of the
+        three nights, at 1 instead of 9."""
+        shifts = ("Night 01.03.2027", "01.03.2027"), ("Night 2027-03-02", "2027-03-02"), ("02.03.2027 Night",
+                                                                                          "02.03.2027")
+        self.file("s.csv", "n,s,c\n" + "".join(f"{person},{shift},{cost}\n" for person, cost in (("Ada", 1), ("Ben", 9))
+                                               for shift, _ in shifts))
+        self.file("d.csv", "s,d\n" + "".join(",".join(shift) + "\n" for shift in shifts))
+        self.file("t.csv", "n,l,m\nAda,0,3\nBen,0,3\n")
+        self.rules("Night per month,1,Ada")
+        self.assertEqual(self.run_words(*WORDS)[1].splitlines()[0].split(",")[0], "least c: 19")
+
+
 class NoDay(Files):
     @unittest.skipUnless(optimize, "SciPy isn't there")
     def test_a_shift_without_a_line(self):
