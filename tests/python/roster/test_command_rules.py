@@ -276,6 +276,20 @@ class Plans(Files):
         self.assertEqual((with_cost[0], with_cost[4:]), ("least cost with changes: 15 (cost 15), proved: no plan that "
                                                          "keeps the rules costs less", ["k.csv: no pair changes"]))
 
+    def test_what_is_not_possible_now_is_no_change(self):
+        """Ben takes none now, and a shift takes nobody: of the kept plan two pairs can still be, and stay."""
+        self.file("t.csv", "person,at least,at most\nAda,0,4\nBen,0,0\nCleo,0,4\n")
+        self.file("p.csv", "shift,at least,at most\n" + "".join(f"{shift},0,{int(shift != 'Night 2027-03-08')}\n"
+                                                                for shift in WISHES.split("\n")[0].split(",")[1:]))
+        self.file("k.csv", "a,b\nAda,Night 2027-03-05\nBen,Early 2027-03-06\nBen,Night 2027-03-06\nCleo,Early "
+                  "2027-03-07\nAda,Night 2027-03-08\n")
+        out = self.run_words(*WORDS, "--places", "p.csv", "--keep", "k.csv", "--change-cost", "20")[1].splitlines()
+        self.assertEqual((out[0], out[-3:]), ("least cost with changes: 1 (cost 1), proved: no plan that keeps the "
+                                              "rules costs less", ["k.csv: no pair changes", "  Ben: Early 2027-03-06, "
+                                                                   "Night 2027-03-06 not possible now (takes none)",
+                                                                   "  Ada: Night 2027-03-08 not possible now (takes "
+                                                                   "none)"]))
+
     def test_before(self):
         """Who worked the night before the first day has no early shift on it, and nights in a row look back."""
         self.file("d.csv", DAYS + EARLIER)
