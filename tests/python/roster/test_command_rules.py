@@ -116,6 +116,16 @@ class NoDay(Files):
                       self.run_words(*WORDS)[2])
 
 
+class NoSum(Files):
+    """Hours that no number of shifts has: two of 7.7 are 15.4, and three 23.1."""
+
+    @unittest.skipUnless(optimize, "SciPy isn't there")
+    def test_hours_between_two_sums(self):
+        self.rules("hours of,shift 7.7,", "hours per month,16-23,Ada")
+        self.expect(1, "no plan keeps these rules, proved: together they can't hold:\n  hours per month: 16-23 (Ada)\n",
+                    "", *WORDS)
+
+
 class NoWeekend(Files):
     """A plan without a Saturday or Sunday can't keep a least number of weekends, and keeps each greatest one."""
 
