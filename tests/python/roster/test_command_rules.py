@@ -126,6 +126,20 @@ class NoSum(Files):
                     "", *WORDS)
 
 
+class Missed(Files):
+    """Where least counts may be missed and rules still can't be kept, the reasons have greatest counts alone."""
+
+    @unittest.skipUnless(optimize, "SciPy isn't there")
+    def test_reasons(self):
+        """Ada must have a shift, and each takes one nurse, where she and Ben go together."""
+        self.files({"s.csv": "nurse,shift,c\n" + "".join(f"{nurse},{shift},1\n" for nurse in ("Ada", "Ben")
+                                                         for shift in ("X", "Y")),
+                    "d.csv": "shift,day\nX,Mon\nY,Tue\n", "t.csv": "nurse,least,most\nAda,0,2\nBen,0,2\n"})
+        self.rules("shifts per month,1-,Ada", 'together,,"Ada, Ben"')
+        self.expect(1, "no plan keeps these rules, proved: together they can't hold:\n  at most 1 nurse (X, Y)\n  shifts "
+                    "per month: 1- (Ada)\n  together: Ada, Ben (X, Y)\n", "", *WORDS, "--as-many-as-can")
+
+
 class NoWeekend(Files):
     """A plan without a Saturday or Sunday can't keep a least number of weekends, and keeps each greatest one."""
 
