@@ -7,7 +7,7 @@ from .blocks import without_group
 from .dates import SATURDAY, are_weekdays, dates_of, has_year, spellings, weekends_among
 from .names import quoted
 from .roster import Earlier, Groups, Roster
-from .sheets import RosterFault
+from .sheets import RosterFault, item_of
 from .times import Times
 
 WEEK = 7
@@ -181,10 +181,14 @@ def _kind_in(name: str, day: str) -> str:
 def _worked(roster: Roster, before: Before, earlier: Dict[str, Shift]) -> Dict[Tuple[int, int], List[Shift]]:
     """What persons of the roster had before. Objects whose day isn't known are left out; `undated` names them."""
     worked: Dict[Tuple[int, int], List[Shift]] = {}
+    first: Dict[Tuple[str, str], int] = {}
     for person, object_, line in before.pairs:
         if object_ in roster.object_numbers:
             raise RosterFault(before.path, f"{quoted(object_)} is planned now: a plan of earlier days is needed", line,
                               2)
+        if first.setdefault((person, object_), line) != line:
+            raise RosterFault(before.path, f"the pair {person}, {object_} a second time, after {item_of(before.path)} "
+                              f"{first[person, object_]}", line)
         number, shift = roster.person_numbers.get(person), earlier.get(object_)
         if number is not None and shift is not None:
             worked.setdefault((number, shift.day), []).append(shift)

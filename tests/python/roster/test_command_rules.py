@@ -332,6 +332,13 @@ class Plans(Files):
                          "  fixed (Cleo: Night 2027-03-05)\n  Night in a row: 1 (Cleo)\n")
         self.refused(3, "d.csv, line 10, column 1: the roster has no object 'Early 2027-03-03'", *WORDS)
 
+    def test_before_twice(self):
+        """A line that stands twice would count twice."""
+        self.file("d.csv", DAYS + EARLIER)
+        self.file("b.csv", "person,object\nCleo,Night 2027-03-04\nBen,Night 2027-03-04\nCleo,Night 2027-03-04\n")
+        self.refused(3, "b.csv, line 4: the pair Cleo, Night 2027-03-04 a second time, after line 2", *WORDS, "--before",
+                     "b.csv")
+
     def test_past(self):
         """What is past stays, whatever rules it breaks, and rules look at it."""
         self.file("k.csv", "person,object\nCleo,Night 2027-03-05\nCleo,Early 2027-03-06\nBen,Early "
