@@ -11,7 +11,7 @@ from .month import Before, Month, month_of
 from .roster import Roster, named_pairs
 from .rule_file import Rules, read_rules
 from .rules_kept import broken_by, plan_of
-from .unruled import left_out, without_day
+from .unruled import kinds_alike, left_out, other_holidays, without_day
 from .words import Options, WordsFault
 
 DEFAULT_SECONDS = 60
@@ -35,7 +35,11 @@ def read_ruling(options: Options, roster: Roster, say: Callable[[str], object]) 
     for line in (*without_day(roster, f"{options.groups}: no line for"), *left_out(roster, before)):
         say(line)
     month = month_of(roster, roster.groups, options.groups, before)
+    for line in kinds_alike(options.groups, month):
+        say(line)
     rules = read_rules(options.rules, roster, month)
+    for line in other_holidays(rules, month):
+        say(line)
     return Ruling(month._replace(holidays=rules.holidays), rules)
 
 

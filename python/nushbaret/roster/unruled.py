@@ -1,9 +1,12 @@
-"""What no rule looks at: objects without a day, and what of an earlier plan the roster or its groups don't have."""
+"""What no rule looks at: objects without a day, what of an earlier plan the roster or its groups don't have, kinds that
+are hardly two, and holidays on other days."""
 from typing import Iterator, Optional
 
 from .answer import counted, listed, named
-from .month import Before, undated
-from .roster import Roster
+from .month import Before, Month, undated
+from .names import quoted
+from .roster import Roster, alike
+from .rule_file import Rules
 
 
 def without_day(roster: Roster, lacks: str) -> Iterator[str]:
@@ -28,3 +31,17 @@ def left_out(roster: Roster, before: Optional[Before]) -> Iterator[str]:
         shown = listed(names, list(range(len(names))))
         yield (f"{before.path}: the groups' file doesn't list {counted(len(names), roster.titles[1])} ({shown}): no "
                "rule looks at them")
+
+
+def kinds_alike(path: str, month: Month) -> Iterator[str]:
+    """Lines on kinds that differ in case or spaces alone: a rule is for the one that it names."""
+    for kinds in alike(month.kinds):
+        yield f"{path}: the kinds {', '.join(map(quoted, kinds))} differ in case or spaces alone"
+
+
+def other_holidays(rules: Rules, month: Month) -> Iterator[str]:
+    """A line on the holidays that aren't days of the roster, if there are any."""
+    names = [month.name(day) for day in sorted(rules.holidays) if not month.known <= day <= month.last]
+    if names:
+        are = "1 holiday isn't a day" if len(names) == 1 else f"{len(names)} holidays aren't days"
+        yield f"{rules.path}: {are} of the roster ({listed(names, list(range(len(names))))})"

@@ -84,11 +84,17 @@ class Plans(InFolder):
                               ["days: none for 1 object (Cover): no rule looks at it"]),
                              ({"costs": costs, "before": [("Zoe", DAYS[0] - datetime.timedelta(1), "Night")]},
                               ["days: none for 2 objects (Cover, Visit): no rule looks at them",
-                               "before: the roster has no Zoe"])):
+                               "before: the roster has no Zoe"]),
+                             ({"costs": COSTS, "rules": [("holiday", "2027-03-09")]},
+                              ["rules: 1 holiday isn't a day of the roster (2027-03-09)"]),
+                             ({"costs": COSTS, "kinds": {shift: shift[0] if number else "n" for number, shift in
+                                                         enumerate(reversed(SHIFTS))}, "rules": []},
+                              ["kinds: the kinds 'N', 'n' differ in case or spaces alone"])):
             with warnings.catch_warnings(record=True) as caught:
                 warnings.simplefilter("always")
-                self.assertEqual(nushbaret.plan_roster(given.pop("costs"), SHIFTS, RULES, tasks=TASKS, seconds=900,
-                                                       **given).proved, "best")
+                costs, rules = given.pop("costs"), given.pop("rules", RULES)
+                self.assertEqual(nushbaret.plan_roster(costs, SHIFTS, rules, tasks=TASKS, seconds=900, **given).proved,
+                                 "best")
             self.assertEqual([str(own.message) for own in caught], lines)
             self.assertEqual({(own.category, own.filename) for own in caught}, {(UserWarning, __file__)})
 

@@ -116,6 +116,24 @@ class NoDay(Files):
                       self.run_words(*WORDS)[2])
 
 
+class Said(Files):
+    """What a rule doesn't see, though it seems to, is said on standard error."""
+
+    @unittest.skipUnless(optimize, "SciPy isn't there")
+    def test_kinds_alike(self):
+        self.file("d.csv", DAYS.replace("2027-03-06,Night", "2027-03-06,night"))
+        self.assertEqual(self.run_words(*WORDS)[2], "d.csv: the kinds 'Night', 'night' differ in case or spaces alone\n")
+
+    @unittest.skipUnless(optimize, "SciPy isn't there")
+    def test_holidays_on_other_days(self):
+        for days, said in ((("2027-03-05", "08.03.2027"), ""),
+                           (("2027-03-05", "2026-03-05"), "r.csv: 1 holiday isn't a day of the roster (2026-03-05)\n"),
+                           (("09.03.2027", "2027-03-04"), "r.csv: 2 holidays aren't days of the roster (2027-03-04, "
+                            "2027-03-09)\n")):
+            self.rules(*(f"holiday,{day}," for day in days))
+            self.assertEqual(self.run_words(*WORDS)[::2], (0, said))
+
+
 class NoSum(Files):
     """Hours that no number of shifts has: two of 7.7 are 15.4, and three 23.1."""
 
