@@ -14,7 +14,7 @@ from ..roster.output.rule_texts import sentence_of
 from ..roster.roster import Earlier, Groups, PlanLine, Roster
 from ..roster.roster_rows import OwnRow
 from ..roster.rule_file import RuleLine, rules_of
-from ..roster.unruled import kinds_alike, left_out, other_holidays, without_day
+from ..roster.unruled import days_in_order, kinds_alike, left_out, other_holidays, without_day
 from ..rows.model import Certificate
 
 Named = Tuple[str, str]
@@ -125,7 +125,8 @@ def plan_roster(costs: Mapping[Named, Any], days: Mapping[str, Union[str, date]]
     -----
     UserWarning
         No rule looks at an object without a day, at a person of `before` without a cost, or at a holiday on another
-        day; kinds differ in case or spaces alone.
+        day; kinds differ in case or spaces alone; or days that aren't dates have other days of the week than their
+        order.
 
     >>> import nushbaret
     >>> try:
@@ -156,7 +157,7 @@ def plan_roster(costs: Mapping[Named, Any], days: Mapping[str, Union[str, date]]
     request = Request(_fixed(roster, fixed), maximize)
     own = [_own_row(roster, row) for row in rows]
     for line in (*without_day(roster, "days: none for"), *left_out(roster._replace(groups=groups), worked),
-                 *kinds_alike("kinds", month), *other_holidays(ruled, month)):
+                 *kinds_alike("kinds", month), *other_holidays(ruled, month), *days_in_order("days", ruled, month)):
         warnings.warn(line, stacklevel=2)
     task = Task(roster, month._replace(holidays=ruled.holidays), ruled, request, float(seconds), own)
     answer, proved = answer_by_rules(task)

@@ -4,7 +4,7 @@ import unicodedata
 from bisect import bisect_left
 from datetime import date, timedelta
 from functools import lru_cache
-from typing import FrozenSet, List, NamedTuple, Optional, Sequence, Tuple
+from typing import Dict, FrozenSet, List, NamedTuple, Optional, Sequence, Tuple
 
 DAY_NAMES = ("Mon", "Tue", "Wed", "Thu", "Fri", "Sat", "Sun")
 SATURDAY = 5
@@ -63,12 +63,17 @@ def _day_words(name: str) -> List[str]:
 
 
 @lru_cache(16)
-def weekends_among(names: Tuple[str, ...]) -> FrozenSet[str]:
-    """The names whose first word for a day of the week is one for Saturday or Sunday: in the languages that have all
-    these words, or in any if none has."""
+def weekdays_among(names: Tuple[str, ...]) -> Dict[str, FrozenSet[int]]:
+    """The days of the week that the first such word of each name may mean, of those names that have one: in the
+    languages that have all these words, or in any if none has."""
     words = {name: own[0] for name, own in zip(names, map(_day_words, names)) if own}
     fitting = [week for week in LANGUAGES if all(weekdays_of(word, (week,)) for word in words.values())]
-    return frozenset(name for name, word in words.items() if min(weekdays_of(word, fitting or LANGUAGES)) >= SATURDAY)
+    return {name: weekdays_of(word, fitting or LANGUAGES) for name, word in words.items()}
+
+
+def weekends_among(names: Tuple[str, ...]) -> FrozenSet[str]:
+    """The names whose first word for a day of the week is one for Saturday or Sunday."""
+    return frozenset(name for name, days in weekdays_among(names).items() if min(days) >= SATURDAY)
 
 
 def has_weekday(name: str) -> bool:

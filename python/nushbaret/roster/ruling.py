@@ -11,7 +11,7 @@ from .month import Before, Month, month_of
 from .roster import Roster, named_pairs
 from .rule_file import Rules, read_rules
 from .rules_kept import broken_by, plan_of
-from .unruled import kinds_alike, left_out, other_holidays, without_day
+from .unruled import days_in_order, kinds_alike, left_out, other_holidays, without_day
 from .words import Options, WordsFault
 
 DEFAULT_SECONDS = 60
@@ -38,7 +38,7 @@ def read_ruling(options: Options, roster: Roster, say: Callable[[str], object]) 
     for line in kinds_alike(options.groups, month):
         say(line)
     rules = read_rules(options.rules, roster, month)
-    for line in other_holidays(rules, month):
+    for line in (*other_holidays(rules, month), *days_in_order(options.groups, rules, month)):
         say(line)
     return Ruling(month._replace(holidays=rules.holidays), rules)
 

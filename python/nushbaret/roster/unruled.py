@@ -1,12 +1,13 @@
-"""What no rule looks at: objects without a day, what of an earlier plan the roster or its groups don't have, kinds that
-are hardly two, and holidays on other days."""
+"""What rules don't look at, or otherwise than it seems: objects without a day, what of an earlier plan the roster or its
+groups don't have, kinds that are hardly two, holidays on other days, and words for days of the week."""
 from typing import Iterator, Optional
 
 from .answer import counted, listed, named
-from .month import Before, Month, undated
+from .dates import weekdays_among
+from .month import WEEK, Before, Month, undated
 from .names import quoted
 from .roster import Roster, alike
-from .rule_file import Rules
+from .rule_file import WEEKLY, Rules
 
 
 def without_day(roster: Roster, lacks: str) -> Iterator[str]:
@@ -45,3 +46,19 @@ def other_holidays(rules: Rules, month: Month) -> Iterator[str]:
     if names:
         are = "1 holiday isn't a day" if len(names) == 1 else f"{len(names)} holidays aren't days"
         yield f"{rules.path}: {are} of the roster ({listed(names, list(range(len(names))))})"
+
+
+def days_in_order(path: str, rules: Rules, month: Month) -> Iterator[str]:
+    """Lines on days that aren't dates, where their words for days of the week say otherwise than their order: the first
+    two with days between them, and the first one of weeks."""
+    if month.are_dates:
+        return
+    names = [month.names[day] for day in sorted(month.names)]
+    weekdays = weekdays_among(tuple(names))
+    apart = [(one, other) for one, other in zip(names, names[1:]) if one in weekdays and other in weekdays
+             and weekdays[other].isdisjoint((day + 1) % WEEK for day in weekdays[one])]
+    if apart:
+        yield f"{path}: {apart[0][1]} counts as the day after {apart[0][0]}: only dates leave days out"
+    first = month.name(month.begin)
+    if 0 not in weekdays.get(first, {0}) and any(rule.per == WEEKLY for rule in rules.rules):
+        yield f"{path}: weeks begin with {first}: only those of dates begin on Monday"

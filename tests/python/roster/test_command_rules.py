@@ -134,6 +134,36 @@ class Said(Files):
             self.assertEqual(self.run_words(*WORDS)[::2], (0, said))
 
 
+@unittest.skipUnless(optimize, "SciPy isn't there")
+class DaysOfTheWeek(Files):
+    """Days that aren't dates count one after the other, seven to a week, whatever their words for days of the week."""
+
+    def said(self, days, rule):
+        self.file("s.csv", "," + ",".join(f"Early {day}" for day in days) + "\n" + "".join(
+            f"{nurse}{',1' * len(days)}\n" for nurse in ("Ada", "Ben")))
+        self.file("d.csv", "shift,day\n" + "".join(f"Early {day},{day}\n" for day in days))
+        self.file("t.csv", "person,least,most\nAda,0,99\nBen,0,99\n")
+        self.rules(rule)
+        status, _, err = self.run_words(*WORDS)
+        self.assertEqual(status, 0)
+        return err
+
+    def test_what_is_said(self):
+        week = ["Mo", "Di", "Mi", "Do", "Fr", "Sa", "So"]
+        for days, rule, lines in (
+                ([f"{day} {number}" for number in (1, 2) for day in week], "shifts per week,7,", []),
+                (week[2:] + [f"{day} 2" for day in week], "days in a row,9,", []),
+                (week[2:] + [f"{day} 2" for day in week], "shifts per week,7,",
+                 ["weeks begin with Mi: only those of dates begin on Monday"]),
+                ([f"{day} {number}" for number in (1, 2) for day in week[:5]], "shifts per week,7,",
+                 ["Mo 2 counts as the day after Fr 1: only dates leave days out"]),
+                (["Lundi", "Mercredi", "Jeudi"], "rest,Early > Early,Ada",
+                 ["Mercredi counts as the day after Lundi: only dates leave days out"]),
+                ([f"T{number}" for number in range(9)], "shifts per week,7,", []),
+                (["A", "Tue", "B", "Thu"], "shifts per week,7,", [])):
+            self.assertEqual(self.said(days, rule), "".join(f"d.csv: {line}\n" for line in lines), days)
+
+
 class NoSum(Files):
     """Hours that no number of shifts has: two of 7.7 are 15.4, and three 23.1."""
 
