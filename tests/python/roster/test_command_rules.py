@@ -4,6 +4,10 @@ import unittest
 from unittest import mock
 
 from nushbaret.roster import ruling
+from nushbaret.roster.answer import NamedPlan
+from nushbaret.roster.by_rules import Proved
+from nushbaret.roster.output import rule_texts
+from nushbaret.roster.roster import read_roster
 from nushbaret.rows import finding
 from nushbaret.rows.model import Finding
 from commands import Runs
@@ -175,7 +179,18 @@ class NoSum(Files):
 
 
 class Missed(Files):
-    """Where least counts may be missed and rules still can't be kept, the reasons have greatest counts alone."""
+    """Where least counts may be missed and rules still can't be kept, the reasons have greatest counts alone. A plan
+    that misses more may be better than what is proved best."""
+
+    def test_not_proved_best(self):
+        roster, plan = read_roster("s.csv", None, None, False), NamedPlan([], 6, [], [], {})
+        proved = Proved("within", 60, 2, missing=1, least_missing=1)
+        self.assertEqual(rule_texts.first_lines(roster, plan, proved, False), [
+            "1 missing in all, proved: no plan that keeps the rules misses less",
+            "cost of 0 pairs 6, proved: no plan that keeps the rules and misses no more is more than 2 better"])
+        self.assertEqual(rule_texts.even_lines(roster, Proved("best", 60, otherwise=proved, otherwise_cost=5), False), [
+            "without the rules of evenness: cost 5, proved: no plan that keeps the other rules and misses no more is "
+            "more than 2 better"])
 
     @unittest.skipUnless(optimize, "SciPy isn't there")
     def test_reasons(self):
@@ -186,6 +201,20 @@ class Missed(Files):
         self.rules("shifts per month,1-,Ada", 'together,,"Ada, Ben"')
         self.expect(1, "no plan keeps these rules, proved: together they can't hold:\n  at most 1 nurse (X, Y)\n  shifts "
                     "per month: 1- (Ada)\n  together: Ada, Ben (X, Y)\n", "", *WORDS, "--as-many-as-can")
+
+
+    @unittest.skipUnless(optimize, "SciPy isn't there")
+    def test_evenness(self):
+        """Ada has two shifts and Ben none, where two are missing; no shifts at all are more even and cost less."""
+        self.files({"s.csv": "nurse,shift,c\nAda,X,1\nAda,Y,1\nBen,Z,5\nBen,Z2,5\n",
+                    "d.csv": "shift,day,kind\nX,Mon,A\nY,Tue,A\nZ,Tue,B\nZ2,Tue,B\n",
+                    "t.csv": "nurse,least,most\nAda,0,2\nBen,0,2\n"})
+        self.rules("even,A,", "even,shift,", "shifts per month,0,Ben")
+        status, out, _ = self.run_words(*WORDS, "--as-many-as-can")
+        self.assertEqual((status, out.splitlines()[-4:]), (1, [
+            "even: A: 2 each", "even: shift: 0 to 2", "proved: no plan that keeps the rules and misses no more is more "
+            "even", "without the rules of evenness: least c 2, proved: no plan that keeps the other rules and misses no "
+            "more costs less"]))
 
 
 class NoWeekend(Files):
