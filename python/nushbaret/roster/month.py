@@ -151,16 +151,24 @@ def _days_of(groups: Groups, path: str) -> _Days:
         days = [day.toordinal() for day in dates.all]
         return _Days(days[:count], dict(zip(names, days[count:])), True)
     if any(map(has_year, [*groups.names, *names])):
-        raise RosterFault(path, f"{dates.why}: with rules each day is a date, or none is")
+        lines = {**{one.group: one.line for one in reversed(groups.earlier)}, **dict(zip(groups.names, groups.lines))}
+        raise _fault(path, f"{dates.why}: with rules each day is a date, or none is", lines.get(dates.name))
     return _Days(list(range(count)), dict(zip(names, range(-len(names), 0))), False)
 
 
 def _refuse_same_day(groups: Groups, days: Sequence[int], path: str) -> None:
     first: Dict[int, str] = {}
+    lines = dict(zip(groups.names, groups.lines))
     for name, day in zip(groups.names, days):
         before = first.setdefault(day, name)
         if before != name:
-            raise RosterFault(path, f"{quoted(before)} and {quoted(name)} are one day: rules need one name for it")
+            raise _fault(path, f"{quoted(before)} and {quoted(name)} are one day: rules need one name for it",
+                         lines.get(name))
+
+
+def _fault(path: str, text: str, line: Optional[int]) -> RosterFault:
+    """What is wrong with a day, in the second column of a line, where days come from a file."""
+    return RosterFault(path, text, line, None if line is None else 2)
 
 
 def _earlier_shifts(groups: Groups, days: Dict[str, int], begin: int, path: str) -> Dict[str, Shift]:

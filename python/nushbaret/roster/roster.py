@@ -105,7 +105,7 @@ class Earlier(NamedTuple):
 class Groups(NamedTuple):
     """Groups of objects of which nobody takes two: their title, their names in the order of the file, the group of each
     object that is in one, and when objects begin and end, where the file says it; their kinds, if a column has them;
-    and objects of earlier days."""
+    objects of earlier days; and the first line of each group, where a file has them."""
 
     title: str
     names: List[str]
@@ -114,6 +114,7 @@ class Groups(NamedTuple):
     kinds: Dict[int, str] = {}
     has_kinds: bool = False
     earlier: Sequence[Earlier] = ()
+    lines: Sequence[int] = ()
 
 
 class Roster(NamedTuple):

@@ -354,6 +354,20 @@ class Plans(Files):
                 {"sentence": "Night per month: 1", "about": ["Ada", "Ben", "Cleo"]}]}))
         self.assertEqual(self.read("o.html").count('<p class="short">'), 3)
 
+    def test_days_that_are_refused(self):
+        """The first line of the day is named, among the planned days and the earlier ones."""
+        for old, new, where, why in (
+                ("8,2027-03-08,Early", "8,8 March,Early", "line 8, column 2", "8 March is no date"),
+                ("2027-03-06,Night", "2027-02-30,Night", "line 5, column 2", "2027-02-30 is no day of the calendar"),
+                ("2027-03-06,Night", "Sun 2027-03-06,Night", "line 5, column 2", "Sun 2027-03-06 is a Sat"),
+                ("Night 2027-03-04,2027-03-04", "Night 2027-03-04,4/3", "line 13, column 2", "4/3 is no date")):
+            self.file("d.csv", (DAYS + EARLIER).replace(old, new, 1))
+            self.file("b.csv", "person,object\nCleo,Night 2027-03-03\n")
+            self.refused(3, f"d.csv, {where}: {why}: with rules each day is a date, or none is", *WORDS, "--before",
+                         "b.csv")
+        self.file("d.csv", DAYS.replace("2027-03-06,Night", "Sat 2027-03-06,Night"))
+        self.refused(3, "d.csv, line 5, column 2: '2027-03-06' and 'Sat 2027-03-06' are one day", *WORDS)
+
     def test_fixed_and_together(self):
         self.file("f.csv", "person,object\nCleo,Night 2027-03-05\nCleo,Early 2027-03-06\n")
         self.expect(1, "no plan keeps these rules, proved: together they can't hold:\n  fixed (Cleo: Night 2027-03-05, "
