@@ -1,5 +1,5 @@
-"""What rules don't look at, or otherwise than it seems: objects without a day, what of an earlier plan the roster or its
-groups don't have, kinds that are hardly two, holidays on other days, and words for days of the week."""
+"""What rules don't look at, or otherwise than it seems: objects without a day, what of an earlier plan the roster or
+its groups don't have, kinds that are hardly two, holidays on other days, and words for days of the week."""
 from typing import Iterator, Optional
 
 from .answer import counted, listed, named

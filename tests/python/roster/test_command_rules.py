@@ -126,7 +126,8 @@ class Said(Files):
     @unittest.skipUnless(optimize, "SciPy isn't there")
     def test_kinds_alike(self):
         self.file("d.csv", DAYS.replace("2027-03-06,Night", "2027-03-06,night"))
-        self.assertEqual(self.run_words(*WORDS)[2], "d.csv: the kinds 'Night', 'night' differ in case or spaces alone\n")
+        self.assertEqual(self.run_words(*WORDS)[2],
+                         "d.csv: the kinds 'Night', 'night' differ in case or spaces alone\n")
 
     @unittest.skipUnless(optimize, "SciPy isn't there")
     def test_holidays_on_other_days(self):
@@ -199,8 +200,8 @@ class Missed(Files):
                                                          for shift in ("X", "Y")),
                     "d.csv": "shift,day\nX,Mon\nY,Tue\n", "t.csv": "nurse,least,most\nAda,0,2\nBen,0,2\n"})
         self.rules("shifts per month,1-,Ada", 'together,,"Ada, Ben"')
-        self.expect(1, "no plan keeps these rules, proved: together they can't hold:\n  at most 1 nurse (X, Y)\n  shifts "
-                    "per month: 1- (Ada)\n  together: Ada, Ben (X, Y)\n", "", *WORDS, "--as-many-as-can")
+        self.expect(1, "no plan keeps these rules, proved: together they can't hold:\n  at most 1 nurse (X, Y)\n"
+                    "  shifts per month: 1- (Ada)\n  together: Ada, Ben (X, Y)\n", "", *WORDS, "--as-many-as-can")
 
 
     @unittest.skipUnless(optimize, "SciPy isn't there")
@@ -212,9 +213,10 @@ class Missed(Files):
         self.rules("even,A,", "even,shift,", "shifts per month,0,Ben")
         status, out, _ = self.run_words(*WORDS, "--as-many-as-can")
         self.assertEqual((status, out.splitlines()[-4:]), (1, [
-            "even: A: 2 each", "even: shift: 0 to 2", "proved: no plan that keeps the rules and misses no more is more "
-            "even", "without the rules of evenness: least c 2, proved: no plan that keeps the other rules and misses no "
-            "more costs less"]))
+            "even: A: 2 each", "even: shift: 0 to 2",
+            "proved: no plan that keeps the rules and misses no more is more even",
+            "without the rules of evenness: least c 2, proved: no plan that keeps the other rules and misses no more "
+            "costs less"]))
 
 
 class NoWeekend(Files):
@@ -427,8 +429,8 @@ class Plans(Files):
         """A line that stands twice would count twice."""
         self.file("d.csv", DAYS + EARLIER)
         self.file("b.csv", "person,object\nCleo,Night 2027-03-04\nBen,Night 2027-03-04\nCleo,Night 2027-03-04\n")
-        self.refused(3, "b.csv, line 4: the pair Cleo, Night 2027-03-04 a second time, after line 2", *WORDS, "--before",
-                     "b.csv")
+        self.refused(3, "b.csv, line 4: the pair Cleo, Night 2027-03-04 a second time, after line 2", *WORDS,
+                     "--before", "b.csv")
 
     def test_past(self):
         """What is past stays, whatever rules it breaks, and rules look at it."""

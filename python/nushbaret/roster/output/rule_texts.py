@@ -81,7 +81,8 @@ def even_lines(roster: Roster, proved: Proved, maximize: bool) -> List[str]:
     lines = [f"{even.sentence}: {even.least}" + (f" to {even.most}" if even.most > even.least else " each")
              for even in proved.even]
     if any(even.most - even.least > 1 for even in proved.even):
-        lines.append(f"proved: {_no_plan(proved)} is more even" if proved.is_most_even else "a more even plan may exist")
+        lines.append(f"proved: {_no_plan(proved)} is more even" if proved.is_most_even
+                     else "a more even plan may exist")
     other = proved.otherwise
     if other is not None and proved.otherwise_cost is not None:
         cost = f"{roster.titles[2]} {roster.shown(proved.otherwise_cost)}"
