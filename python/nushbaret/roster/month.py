@@ -6,7 +6,7 @@ from typing import Dict, FrozenSet, List, NamedTuple, Optional, Sequence, Set, T
 from .blocks import without_group
 from .dates import SATURDAY, are_weekdays, dates_of, has_year, spellings, weekends_among
 from .names import quoted
-from .roster import Earlier, Groups, Roster
+from .roster import Groups, Roster
 from .sheets import RosterFault, item_of
 from .times import Times
 
