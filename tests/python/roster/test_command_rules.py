@@ -179,6 +179,27 @@ class NoSum(Files):
                     "", *WORDS)
 
 
+class Gone(Files):
+    """Zoe, whom the roster has no more, keeps her past; a rule for everybody isn't for her."""
+
+    @unittest.skipUnless(optimize, "SciPy isn't there")
+    def test_everybody(self):
+        shifts = [f"D {day}" for day in ("Mon", "Tue", "Wed", "Thu", "Fri")]
+        self.files({"s.csv": "," + ",".join(shifts) + "\nAda,1,1,1,1,1\nBen,2,2,2,2,2\n",
+                    "d.csv": "shift,day\n" + "".join(f"{shift},{shift[2:]}\n" for shift in shifts),
+                    "t.csv": "nurse,least,most\nAda,0,5\nBen,0,5\n", "k.csv": "a,b\nZoe,D Mon\nAda,D Tue\n"})
+        words = (*WORDS, "--keep", "k.csv", "--past", "Tue")
+        for rule, even in ("shifts per month,2-,", []), ("even,D,", ["even: D: 2 each"]):
+            self.rules(rule)
+            status, out, _ = self.run_words(*words)
+            lines = out.splitlines()
+            self.assertEqual((status, lines[0]), (0, "least cost: 6, proved: no plan that keeps the rules costs less"))
+            self.assertEqual(lines[3:4 + len(even)], ["Zoe: D Mon, 0 (past)", *even])
+        self.rules('shifts per month,2-,"Ada,Zoe"')
+        self.assertEqual(self.run_words(*words)[:2], (1, "around the past, no plan keeps these rules, proved: together "
+                                                      "they can't hold:\n  shifts per month: 2- (Zoe)\n"))
+
+
 class Missed(Files):
     """Where least counts may be missed and rules still can't be kept, the reasons have greatest counts alone. A plan
     that misses more may be better than what is proved best."""
