@@ -258,7 +258,7 @@ class _Stages:
         """How even a plan is."""
         found, month = [], self.task.month
         for rule in even_rules(self.task.rules.rules):
-            persons = even_counted(self.built.making.work, rule)
+            persons = even_counted(self.built.making, rule)
             counts = dict.fromkeys(persons, 0)
             for pair in plan.pairs:
                 shift = month.shifts.get(pair.object)

@@ -135,11 +135,6 @@ class Work:
                 self.sum(person, [day], kinds, factor, found)
         return found
 
-    def may_have(self, person: int, day: int, kinds: Kinds = None) -> bool:
-        """Whether a person has, or may have, a shift of some kinds on a day."""
-        spot = person, day
-        return any(is_of(shift, kinds) for shift, _ in self._open.get(spot, ())) or self.had(person, day, kinds)
-
     def had(self, person: int, day: int, kinds: Kinds = None) -> bool:
         """Whether a person had a shift of some kinds on a past day."""
         return any(is_of(shift, kinds) for shift in self._past.get((person, day), ()))

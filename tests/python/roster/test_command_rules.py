@@ -200,6 +200,28 @@ class Gone(Files):
                                                       "they can't hold:\n  shifts per month: 2- (Zoe)\n"))
 
 
+class TakesNone(Files):
+    """Who takes none may not have any, so evenness is among the others."""
+
+    @unittest.skipUnless(optimize, "SciPy isn't there")
+    def test_evenness(self):
+        """Seven nights of Ada, Ben and Cleo, at 1, 2 and 3 each, are 3, 2 and 2, where Eve takes none or may have a
+        night alone that takes nobody; else 2, 2, 1 and two of Eve's, at 0."""
+        nights = [f"N {day}" for day in range(1, 8)]
+        self.file("d.csv", "shift,day\n" + "".join(f"{night},{night[2:]}\n" for night in [*nights, "N 8"]))
+        self.rules("even,N,")
+        self.file("p.csv", "shift,least,most\n" + "".join(f"{night},1,1\n" for night in nights) + "N 8,0,0\n")
+        for eve, most, cost, even in (",0" * 7 + ",0", 0, 13, "2 to 3"), ("," * 7 + ",0", 8, 13, "2 to 3"), (
+                ",0" * 7 + ",0", 8, 9, "1 to 2"):
+            self.file("s.csv", f",{','.join(nights)},N 8\n" + "".join(
+                f"{nurse}{f',{own}' * 7},\n" for nurse, own in (("Ada", 1), ("Ben", 2), ("Cleo", 3))) + f"Eve{eve}\n")
+            self.file("t.csv", f"nurse,least,most\nAda,0,8\nBen,0,8\nCleo,0,8\nEve,0,{most}\n")
+            out = self.run_words(*WORDS, "--places", "p.csv")[1].splitlines()
+            self.assertEqual((out[0], [line for line in out if line.startswith(("even", "proved"))]),
+                             (f"least cost: {cost}, proved: no plan that keeps the rules costs less",
+                              [f"even: N: {even}"]))
+
+
 class Missed(Files):
     """Where least counts may be missed and rules still can't be kept, the reasons have greatest counts alone. A plan
     that misses more may be better than what is proved best."""
