@@ -9,12 +9,12 @@ from ..costs.reading import exact_ratio
 from ..counts.nodes import Bounds
 from ..roster.answer import Request
 from ..roster.by_rules import Proved, Task, answer_by_rules
-from ..roster.month import Before, month_of
+from ..roster.month import Before, Month, month_of
 from ..roster.output.rule_texts import sentence_of
 from ..roster.roster import Earlier, Groups, PlanLine, Roster
 from ..roster.roster_rows import OwnRow
-from ..roster.rule_file import RuleLine, rules_of
-from ..roster.unruled import days_in_order, kinds_alike, left_out, other_holidays, without_day
+from ..roster.rule_file import RuleLine, Rules, rules_of
+from ..roster.unruled import days_in_order, kinds_alike, left_out, other_holidays, without_day, without_kind
 from ..rows.model import Certificate
 
 Named = Tuple[str, str]
@@ -124,9 +124,9 @@ def plan_roster(costs: Mapping[Named, Any], days: Mapping[str, Union[str, date]]
     Warns
     -----
     UserWarning
-        No rule looks at an object without a day, at a person of `before` without a cost, or at a holiday on another
-        day; kinds differ in case or spaces alone; or days that aren't dates have other days of the week than their
-        order.
+        No rule looks at an object without a day, none of kinds at one without a kind, and none at a person of `before`
+        without a cost or at a holiday on another day; kinds differ in case or spaces alone; or days that aren't dates
+        have other days of the week than their order.
 
     >>> import nushbaret
     >>> try:
@@ -156,8 +156,7 @@ def plan_roster(costs: Mapping[Named, Any], days: Mapping[str, Union[str, date]]
     ruled = rules_of("rules", lines, roster, month)
     request = Request(_fixed(roster, fixed), maximize)
     own = [_own_row(roster, row) for row in rows]
-    for line in (*without_day(roster, "days: none for"), *left_out(roster._replace(groups=groups), worked),
-                 *kinds_alike("kinds", month), *other_holidays(ruled, month), *days_in_order("days", ruled, month)):
+    for line in _unruled(roster._replace(groups=groups), month, ruled, worked):
         warnings.warn(line, stacklevel=2)
     task = Task(roster, month._replace(holidays=ruled.holidays), ruled, request, float(seconds), own)
     answer, proved = answer_by_rules(task)
@@ -165,6 +164,12 @@ def plan_roster(costs: Mapping[Named, Any], days: Mapping[str, Union[str, date]]
                                               for pair in answer.plan.pairs]
     return _result(proved, pairs, None if answer.plan is None else unit.shown(answer.plan.cost),
                    None if proved.better is None else unit.shown(proved.better))
+
+
+def _unruled(roster: Roster, month: Month, rules: Rules, before: Before) -> List[str]:
+    """What rules don't look at, or otherwise than it seems."""
+    return [*without_day(roster, "days: none for"), *without_kind(roster, "kinds: none for"), *left_out(roster, before),
+            *kinds_alike("kinds", month), *other_holidays(rules, month), *days_in_order("days", rules, month)]
 
 
 def _result(proved: Proved, pairs: Optional[List[Named]], cost: Optional[Number],

@@ -11,7 +11,7 @@ from .month import Before, Month, month_of
 from .roster import Roster, named_pairs
 from .rule_file import Rules, read_rules
 from .rules_kept import broken_by, plan_of
-from .unruled import days_in_order, kinds_alike, left_out, other_holidays, without_day
+from .unruled import days_in_order, kinds_alike, left_out, other_holidays, without_day, without_kind
 from .words import Options, WordsFault
 
 DEFAULT_SECONDS = 60
@@ -32,7 +32,8 @@ def read_ruling(options: Options, roster: Roster, say: Callable[[str], object]) 
     if options.before is not None:
         before = Before(options.before, [(pair.person, pair.object, pair.line)
                                          for pair in named_pairs(options.before, roster)])
-    for line in (*without_day(roster, f"{options.groups}: no line for"), *left_out(roster, before)):
+    for line in (*without_day(roster, f"{options.groups}: no line for"),
+                 *without_kind(roster, f"{options.groups}: no kind of"), *left_out(roster, before)):
         say(line)
     month = month_of(roster, roster.groups, options.groups, before)
     for line in kinds_alike(options.groups, month):

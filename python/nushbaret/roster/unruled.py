@@ -1,5 +1,5 @@
-"""What rules don't look at, or otherwise than it seems: objects without a day, what of an earlier plan the roster or
-its groups don't have, kinds that are hardly two, holidays on other days, and words for days of the week."""
+"""What rules don't look at, or otherwise than it seems: objects without a day or a kind, what of an earlier plan the
+roster or its groups don't have, kinds that are hardly two, holidays on other days, and words for days of the week."""
 from typing import Iterator, Optional
 
 from .answer import counted, listed, named
@@ -16,6 +16,15 @@ def without_day(roster: Roster, lacks: str) -> Iterator[str]:
     numbers = [object_ for object_ in range(len(roster.objects)) if object_ not in of_objects]
     if numbers:
         yield (f"{lacks} {named(numbers, roster.titles[1], roster.objects)}: no rule looks at "
+               f"{'it' if len(numbers) == 1 else 'them'}")
+
+
+def without_kind(roster: Roster, lacks: str) -> Iterator[str]:
+    """A line on the objects with a day and without a kind, where kinds are said; it begins with what lacks them."""
+    groups = roster.groups
+    numbers = [] if groups is None or not groups.has_kinds else sorted(groups.of_objects.keys() - groups.kinds.keys())
+    if numbers:
+        yield (f"{lacks} {named(numbers, roster.titles[1], roster.objects)}: no rule of kinds looks at "
                f"{'it' if len(numbers) == 1 else 'them'}")
 
 

@@ -85,6 +85,8 @@ class Plans(InFolder):
                              ({"costs": costs, "before": [("Zoe", DAYS[0] - datetime.timedelta(1), "Night")]},
                               ["days: none for 2 objects (Cover, Visit): no rule looks at them",
                                "before: the roster has no Zoe"]),
+                             ({"costs": COSTS, "kinds": {shift: shift[:5] for shift in list(SHIFTS)[1:]}},
+                              ["kinds: none for 1 object (Early 2027-03-05): no rule of kinds looks at it"]),
                              ({"costs": COSTS, "rules": [("holiday", "2027-03-09")]},
                               ["rules: 1 holiday isn't a day of the roster (2027-03-09)"]),
                              ({"costs": COSTS, "kinds": {shift: shift[0] if number else "n" for number, shift in

@@ -130,6 +130,16 @@ class Said(Files):
                          "d.csv: the kinds 'Night', 'night' differ in case or spaces alone\n")
 
     @unittest.skipUnless(optimize, "SciPy isn't there")
+    def test_shifts_without_a_kind(self):
+        for old, new, said in (("2027-03-06,Night", "2027-03-06,",
+                                "1 object (Night 2027-03-06): no rule of kinds looks at it"),
+                               ("Early\n", " \n", "4 objects (Early 2027-03-05, Early 2027-03-06, Early 2027-03-07, "
+                                "Early 2027-03-08): no rule of kinds looks at them")):
+            self.file("d.csv", DAYS.replace(old, new))
+            self.rules("Night per month,4,")
+            self.assertEqual(self.run_words(*WORDS)[::2], (0, f"d.csv: no kind of {said}\n"))
+
+    @unittest.skipUnless(optimize, "SciPy isn't there")
     def test_holidays_on_other_days(self):
         for days, said in ((("2027-03-05", "08.03.2027"), ""),
                            (("2027-03-05", "2026-03-05"), "r.csv: 1 holiday isn't a day of the roster (2026-03-05)\n"),
