@@ -65,8 +65,8 @@ def _day_words(name: str) -> List[str]:
 
 @lru_cache(16)
 def weekdays_among(names: Tuple[str, ...]) -> Dict[str, FrozenSet[int]]:
-    """The days of the week that the first such word of each name may mean, of those names that have one: in the
-    languages that have all these words, or in any if none has."""
+    """The days of the week that the first word for one may mean in each name that has any: in the languages that have
+    all these words, or in any if none has."""
     words = {name: own[0] for name, own in zip(names, map(_day_words, names)) if own}
     fitting = [week for week in LANGUAGES if all(weekdays_of(word, (week,)) for word in words.values())]
     return {name: weekdays_of(word, fitting or LANGUAGES) for name, word in words.items()}

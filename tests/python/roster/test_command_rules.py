@@ -190,7 +190,7 @@ class NoSum(Files):
 
 
 class Gone(Files):
-    """Zoe, whom the roster has no more, keeps her past; a rule for everybody isn't for her."""
+    """Zoe isn't in the roster any more, and keeps her past; a rule for everybody isn't for her."""
 
     @unittest.skipUnless(optimize, "SciPy isn't there")
     def test_everybody(self):
