@@ -1,4 +1,5 @@
 """Rosters with rules, from Python."""
+import warnings
 from array import array
 from datetime import date, datetime
 from typing import Any, Dict, Iterable, List, Mapping, NamedTuple, Optional, Sequence, Tuple, Union
@@ -8,11 +9,12 @@ from ..costs.reading import exact_ratio
 from ..counts.nodes import Bounds
 from ..roster.answer import Request
 from ..roster.by_rules import Proved, Task, answer_by_rules
-from ..roster.month import Before, month_of
+from ..roster.month import Before, Month, month_of
 from ..roster.output.rule_texts import sentence_of
 from ..roster.roster import Earlier, Groups, PlanLine, Roster
 from ..roster.roster_rows import OwnRow
-from ..roster.rule_file import RuleLine, rules_of
+from ..roster.rule_file import RuleLine, Rules, rules_of
+from ..roster.unruled import days_in_order, kinds_alike, left_out, other_holidays, without_day, without_kind
 from ..rows.model import Certificate
 
 Named = Tuple[str, str]
@@ -119,6 +121,13 @@ def plan_roster(costs: Mapping[Named, Any], days: Mapping[str, Union[str, date]]
     ImportError
         SciPy isn't there.
 
+    Warns
+    -----
+    UserWarning
+        No rule looks at an object without a day, none of kinds at one without a kind, and none at a person of `before`
+        without a cost or at a holiday on another day; kinds differ in case or spaces alone; or days that aren't dates
+        have other days of the week than their order.
+
     >>> import nushbaret
     >>> try:
     ...     nushbaret.plan_roster({("Ada", "Early Mon"): 1}, {"Early Mon": "Mon"}, [("rest", "Late > Early")])
@@ -140,19 +149,27 @@ def plan_roster(costs: Mapping[Named, Any], days: Mapping[str, Union[str, date]]
     earlier = [(person, _day_name(day), kind) for person, day, kind in before]
     roster = _with_counts(roster, tasks or {}, places or {})
     groups = _groups(roster, earlier)
-    month = month_of(roster, groups, "days", Before("before",
-                                                    [(person, _earlier_name(day, kind), number)
-                                                     for number, (person, day, kind) in enumerate(earlier, 1)]))
+    worked = Before("before", [(person, _earlier_name(day, kind), number)
+                               for number, (person, day, kind) in enumerate(earlier, 1)])
+    month = month_of(roster, groups, "days", worked)
     lines = [_line(rule, number) for number, rule in enumerate(rules, 1)]
     ruled = rules_of("rules", lines, roster, month)
     request = Request(_fixed(roster, fixed), maximize)
     own = [_own_row(roster, row) for row in rows]
-    task = Task(roster, month._replace(holidays=ruled.holidays), ruled, request, seconds, own)
+    for line in _unruled(roster._replace(groups=groups), month, ruled, worked):
+        warnings.warn(line, stacklevel=2)
+    task = Task(roster, month._replace(holidays=ruled.holidays), ruled, request, float(seconds), own)
     answer, proved = answer_by_rules(task)
     pairs = None if answer.plan is None else [(roster.persons[pair.person], roster.objects[pair.object])
                                               for pair in answer.plan.pairs]
     return _result(proved, pairs, None if answer.plan is None else unit.shown(answer.plan.cost),
                    None if proved.better is None else unit.shown(proved.better))
+
+
+def _unruled(roster: Roster, month: Month, rules: Rules, before: Before) -> List[str]:
+    """What rules don't look at, or otherwise than it seems."""
+    return [*without_day(roster, "days: none for"), *without_kind(roster, "kinds: none for"), *left_out(roster, before),
+            *kinds_alike("kinds", month), *other_holidays(rules, month), *days_in_order("days", rules, month)]
 
 
 def _result(proved: Proved, pairs: Optional[List[Named]], cost: Optional[Number],
@@ -176,6 +193,8 @@ def _ratio(pair: Named, cost: Any) -> Ratio:
 
 def _day_name(day: Any) -> str:
     """A day's name; that of a date with a time, maybe one of NumPy's, is the date's."""
+    if day is None or day != day:
+        raise ValueError(f"{day!r} is no day: an object without one isn't in days")
     if isinstance(day, datetime):
         return str(day.date())
     return str(day.astype("datetime64[D]") if type(day).__name__ == "datetime64" else day)
@@ -246,8 +265,15 @@ def _line(rule: Sequence[str], number: int) -> RuleLine:
     if isinstance(rule, str) or not 1 <= len(rule) <= 3:
         raise ValueError(f"rules: {rule!r} is no rule, value and names")
     cells = [*rule, "", ""][:3]
-    names = cells[2] if isinstance(cells[2], str) else "; ".join(cells[2])
+    names = cells[2] if isinstance(cells[2], str) else _names(list(cells[2]), number)
     return RuleLine(cells[0], str(cells[1]), names, number)
+
+
+def _names(names: List[str], number: int) -> str:
+    """The names of a list as a cell, in which none would be everybody."""
+    if not all(names) or not names:
+        raise ValueError(f"rules, line {number}, column 3: {'an empty name' if names else 'an empty list of names'}")
+    return "; ".join(names)
 
 
 def _fixed(roster: Roster, fixed: Iterable[Named]) -> List[PlanLine]:

@@ -4,6 +4,7 @@ from typing import Callable, Dict, List, NamedTuple, Optional, Sequence, Tuple
 
 from ..rows.model import Certificate, Finding, Row
 from .answer import Answer, NamedPlan, Request, plan_of
+from .changes import full_pairs
 from .month import Month
 from .roster import Roster
 from .roster_rows import Built, OwnRow, built
@@ -243,11 +244,11 @@ class _Stages:
         return self._find(CHANGES, self._weighed(factors), self._left(0.5 if self.is_even else 1.0))
 
     def _with_changes(self, cost: int) -> int:
-        """What a plan costs with its changes, in halves: a kept pair that goes costs too."""
-        kept = self.task.request.kept or set()
-        still = sum(pair in kept for pair in self.built.pairs)
-        return (-1 if self.task.request.maximize else 1) * (cost + still * (self.task.request.change or 0)
-                                                         + 2 * self._past_cost())
+        """What a plan costs with its changes, in halves: a kept pair that goes costs too, if it is possible now."""
+        request = self.task.request
+        still = (request.kept or set()).intersection(self.built.pairs)
+        still -= full_pairs(self.task.roster, request.fixed, still)
+        return (-1 if request.maximize else 1) * (cost + len(still) * (request.change or 0) + 2 * self._past_cost())
 
     def _past_cost(self) -> int:
         sign = -1 if self.task.request.maximize else 1
@@ -257,7 +258,7 @@ class _Stages:
         """How even a plan is."""
         found, month = [], self.task.month
         for rule in even_rules(self.task.rules.rules):
-            persons = even_counted(self.built.making.work, rule)
+            persons = even_counted(self.built.making, rule)
             counts = dict.fromkeys(persons, 0)
             for pair in plan.pairs:
                 shift = month.shifts.get(pair.object)

@@ -36,11 +36,17 @@ def changes_of(roster: Roster, plan: NamedPlan, kept: OldPlan) -> Changes:
     """What changed from an earlier plan, in the order of persons."""
     before, now = pairs_of(kept.known), pairs_of(plan.pairs)
     left = [pair for pair in sorted(kept.known) if (pair.person, pair.object) not in now]
-    past = Counter(pair.person for pair in plan.pairs if pair.object in roster.past)
-    full = {(pair.person, pair.object) for pair in left
-            if roster.tasks_of(pair.person) <= past[pair.person] or roster.capacity_of(pair.object) == 0}
+    full = full_pairs(roster, plan.pairs, [(pair.person, pair.object) for pair in left])
     return Changes([pair for pair in plan.pairs if (pair.person, pair.object) not in before],
                    [pair for pair in left if (pair.person, pair.object) not in full], _lost(roster, kept, full, now))
+
+
+def full_pairs(roster: Roster, given: Iterable[Paired], pairs: Iterable[Numbered]) -> Set[Numbered]:
+    """Those of some pairs whose person takes no more than it has in the past, which `given` has, or whose object takes
+    nobody."""
+    past = Counter(pair.person for pair in given if pair.object in roster.past)
+    return {(person, object_) for person, object_ in pairs
+            if roster.tasks_of(person) <= past[person] or roster.capacity_of(object_) == 0}
 
 
 def _lost(roster: Roster, kept: OldPlan, full: Set[Numbered], now: Set[Numbered]) -> List[Lost]:

@@ -4,7 +4,7 @@ import unicodedata
 from bisect import bisect_left
 from datetime import date, timedelta
 from functools import lru_cache
-from typing import FrozenSet, List, NamedTuple, Optional, Sequence, Tuple
+from typing import Dict, FrozenSet, List, NamedTuple, Optional, Sequence, Tuple
 
 DAY_NAMES = ("Mon", "Tue", "Wed", "Thu", "Fri", "Sat", "Sun")
 SATURDAY = 5
@@ -42,10 +42,11 @@ class _Written(NamedTuple):
 
 
 class Dates(NamedTuple):
-    """The dates of some names, None where these aren't dates with a year; then `why` says which one isn't."""
+    """The dates of some names, None where these aren't dates with a year; then `why` says which one, `name`, isn't."""
 
     all: Optional[List[date]]
     why: str = ""
+    name: str = ""
 
 
 def weekdays_of(word: str, languages: Sequence[Sequence[Sequence[str]]] = LANGUAGES) -> FrozenSet[int]:
@@ -63,12 +64,17 @@ def _day_words(name: str) -> List[str]:
 
 
 @lru_cache(16)
-def weekends_among(names: Tuple[str, ...]) -> FrozenSet[str]:
-    """The names whose first word for a day of the week is one for Saturday or Sunday: in the languages that have all
-    these words, or in any if none has."""
+def weekdays_among(names: Tuple[str, ...]) -> Dict[str, FrozenSet[int]]:
+    """The days of the week that the first word for one may mean in each name that has any: in the languages that have
+    all these words, or in any if none has."""
     words = {name: own[0] for name, own in zip(names, map(_day_words, names)) if own}
     fitting = [week for week in LANGUAGES if all(weekdays_of(word, (week,)) for word in words.values())]
-    return frozenset(name for name, word in words.items() if min(weekdays_of(word, fitting or LANGUAGES)) >= SATURDAY)
+    return {name: weekdays_of(word, fitting or LANGUAGES) for name, word in words.items()}
+
+
+def weekends_among(names: Tuple[str, ...]) -> FrozenSet[str]:
+    """The names whose first word for a day of the week is one for Saturday or Sunday."""
+    return frozenset(name for name, days in weekdays_among(names).items() if min(days) >= SATURDAY)
 
 
 def has_weekday(name: str) -> bool:
@@ -95,11 +101,11 @@ def dates_of(names: Sequence[str]) -> Dates:
     for name in names:
         found = _written(name)
         if found is None:
-            return Dates(None, f"{name} is no date")
+            return Dates(None, f"{name} is no date", name)
         written.append(found)
     wrong = [own.name for own in written if own.year is not None and _dated(own) is None]
     if wrong:
-        return Dates(None, f"{wrong[0]} is no day of the calendar")
+        return Dates(None, f"{wrong[0]} is no day of the calendar", wrong[0])
     if all(own.year is None for own in written):
         return Dates(None, f"no date has a year: {names[0]}" if names else "there are none")
     return _all_dated(written, sorted(found for found in map(_dated, written) if found is not None))
@@ -110,9 +116,9 @@ def _all_dated(written: Sequence[_Written], anchors: Sequence[date]) -> Dates:
     for own in written:
         found = _dated(own) if own.year is not None else _nearest(own, anchors)
         if found is None:
-            return Dates(None, f"{own.name} is no day of the calendar")
+            return Dates(None, f"{own.name} is no day of the calendar", own.name)
         if own.weekdays and found.weekday() not in own.weekdays:
-            return Dates(None, f"{own.name} is a {DAY_NAMES[found.weekday()]}")
+            return Dates(None, f"{own.name} is a {DAY_NAMES[found.weekday()]}", own.name)
         dates.append(found)
     return Dates(dates)
 

@@ -98,7 +98,7 @@ def read_groups(path: str, roster: Roster, has_earlier: bool = False) -> Groups:
         reading.take(line, cells)
     if not reading.lines:
         sheet.refuse("no line after the title", line)
-    return reading.found._replace(earlier=tuple(reading.earlier))
+    return reading.found._replace(earlier=tuple(reading.earlier), lines=tuple(reading.group_lines))
 
 
 class _Groups:
@@ -110,6 +110,7 @@ class _Groups:
         self.found = Groups(title[1], [], {}, {}, {}, self._kind is not None)
         self.earlier: List[Earlier] = []
         self.lines: Dict[int, int] = {}
+        self.group_lines: List[int] = []
         self._numbers: Dict[str, int] = {}
         self._earlier_lines: Dict[str, int] = {}
 
@@ -128,7 +129,9 @@ class _Groups:
         self.lines[object_] = line
         number = self._numbers.setdefault(spellings(group)[0], len(found.names))
         found.of_objects[object_] = number
-        found.names.extend([group] if number == len(found.names) else [])
+        if number == len(found.names):
+            found.names.append(group)
+            self.group_lines.append(line)
         found.times.update({object_: times} if times else {})
         found.kinds.update({object_: kind} if kind else {})
 

@@ -3,11 +3,11 @@ the first day."""
 from datetime import date
 from typing import Dict, FrozenSet, List, NamedTuple, Optional, Sequence, Set, Tuple
 
-from .blocks import labels_of, without_group
-from .dates import SATURDAY, are_weekdays, dates_of, has_year, weekends_among
+from .blocks import without_group
+from .dates import SATURDAY, are_weekdays, dates_of, has_year, spellings, weekends_among
 from .names import quoted
-from .roster import Earlier, Groups, Roster
-from .sheets import RosterFault
+from .roster import Groups, Roster
+from .sheets import RosterFault, item_of
 from .times import Times
 
 WEEK = 7
@@ -120,68 +120,83 @@ def month_of(roster: Roster, groups: Groups, path: str, before: Optional[Before]
     Raises `RosterFault` where some groups are dates and others aren't, where two groups are one day, or where an
     earlier object isn't before the first day.
     """
-    days, are_dates = _days_of(groups, path)
-    _refuse_same_day(groups, days[:len(groups.names)], path)
-    kinds = groups.kinds if groups.has_kinds else dict(enumerate(labels_of(roster)))
-    shifts = {object_: Shift(days[group], kinds.get(object_, ""), groups.times.get(object_))
+    days = _days_of(groups, path)
+    _refuse_same_day(groups, days.planned, path)
+    kinds = groups.kinds if groups.has_kinds else {object_: _kind_in(roster.objects[object_], groups.names[group])
+                                                   for object_, group in groups.of_objects.items()}
+    shifts = {object_: Shift(days.planned[group], kinds.get(object_, NO_KIND), groups.times.get(object_))
               for object_, group in groups.of_objects.items()}
-    planned = days[:len(groups.names)]
     past = {shifts[object_].day for object_ in roster.past}
-    begin, last = min(planned), max(planned)
-    start = min((day for day in planned if day not in past), default=last + 1)
-    earlier = _earlier_shifts(groups, days[len(groups.names):], begin, path)
+    begin, last = min(days.planned), max(days.planned)
+    start = min((day for day in days.planned if day not in past), default=last + 1)
+    earlier = _earlier_shifts(groups, days.earlier, begin, path)
     worked = {} if before is None else _worked(roster, before, earlier)
     known = min((shift.day for shift in earlier.values()), default=begin)
-    names = dict(zip(days, [*groups.names, *_earlier_names(groups)]))
-    return Month(shifts, names, are_dates, known, begin, start, last, worked)
+    names = {**dict(zip(days.planned, groups.names)), **{day: name for name, day in days.earlier.items()}}
+    return Month(shifts, names, days.are_dates, known, begin, start, last, worked)
 
 
-def _earlier_names(groups: Groups) -> List[str]:
-    return list(dict.fromkeys(one.group for one in groups.earlier))
+class _Days(NamedTuple):
+    """The days of the groups, those of earlier groups by their names, and whether all are dates."""
+
+    planned: List[int]
+    earlier: Dict[str, int]
+    are_dates: bool
 
 
-def _days_of(groups: Groups, path: str) -> Tuple[List[int], bool]:
-    """The days of the groups, and then of earlier ones; and whether they are dates."""
-    names = _earlier_names(groups)
-    dates = dates_of([*groups.names, *names])
+def _days_of(groups: Groups, path: str) -> _Days:
+    names = list(dict.fromkeys(one.group for one in groups.earlier))
+    dates, count = dates_of([*groups.names, *names]), len(groups.names)
     if dates.all is not None:
-        return [day.toordinal() for day in dates.all], True
+        days = [day.toordinal() for day in dates.all]
+        return _Days(days[:count], dict(zip(names, days[count:])), True)
     if any(map(has_year, [*groups.names, *names])):
-        raise RosterFault(path, f"{dates.why}: with rules each day is a date, or none is")
-    return [*range(len(groups.names)), *range(-len(names), 0)], False
+        lines = {**{one.group: one.line for one in reversed(groups.earlier)}, **dict(zip(groups.names, groups.lines))}
+        raise _fault(path, f"{dates.why}: with rules each day is a date, or none is", lines.get(dates.name))
+    return _Days(list(range(count)), dict(zip(names, range(-len(names), 0))), False)
 
 
 def _refuse_same_day(groups: Groups, days: Sequence[int], path: str) -> None:
     first: Dict[int, str] = {}
+    lines = dict(zip(groups.names, groups.lines))
     for name, day in zip(groups.names, days):
         before = first.setdefault(day, name)
         if before != name:
-            raise RosterFault(path, f"{quoted(before)} and {quoted(name)} are one day: rules need one name for it")
+            raise _fault(path, f"{quoted(before)} and {quoted(name)} are one day: rules need one name for it",
+                         lines.get(name))
 
 
-def _earlier_shifts(groups: Groups, days: Sequence[int], begin: int, path: str) -> Dict[str, Shift]:
+def _fault(path: str, text: str, line: Optional[int]) -> RosterFault:
+    """What is wrong with a day, in the second column of a line, where days come from a file."""
+    return RosterFault(path, text, line, None if line is None else 2)
+
+
+def _earlier_shifts(groups: Groups, days: Dict[str, int], begin: int, path: str) -> Dict[str, Shift]:
     """The days and kinds of objects of earlier days, which are before the first day of the plan."""
-    of_names = dict(zip(_earlier_names(groups), days))
     for one in groups.earlier:
-        if of_names[one.group] >= begin or one.group in groups.names:
+        if days[one.group] >= begin or one.group in groups.names:
             raise RosterFault(path, f"the roster has no object {quoted(one.name)}, and {one.group} isn't before its "
                               "first day", one.line, 1)
-    return {one.name: Shift(of_names[one.group], one.kind or _label_of(one, groups), one.times)
-            for one in groups.earlier}
+    return {one.name: Shift(days[one.group], one.kind if one.kind or groups.has_kinds
+                            else _kind_in(one.name, one.group), one.times) for one in groups.earlier}
 
 
-def _label_of(one: Earlier, groups: Groups) -> str:
-    """The kind of an earlier object, where no column has kinds: its name without that of its day."""
-    return "" if groups.has_kinds else without_group(one.name, one.group)
+def _kind_in(name: str, day: str) -> str:
+    """The kind of an object, where no column has kinds: its name without that of its day, as that may be written."""
+    return next((kind for kind in (without_group(name, one) for one in spellings(day)) if kind != name), name)
 
 
 def _worked(roster: Roster, before: Before, earlier: Dict[str, Shift]) -> Dict[Tuple[int, int], List[Shift]]:
     """What persons of the roster had before. Objects whose day isn't known are left out; `undated` names them."""
     worked: Dict[Tuple[int, int], List[Shift]] = {}
+    first: Dict[Tuple[str, str], int] = {}
     for person, object_, line in before.pairs:
         if object_ in roster.object_numbers:
             raise RosterFault(before.path, f"{quoted(object_)} is planned now: a plan of earlier days is needed", line,
                               2)
+        if first.setdefault((person, object_), line) != line:
+            raise RosterFault(before.path, f"the pair {person}, {object_} a second time, after {item_of(before.path)} "
+                              f"{first[person, object_]}", line)
         number, shift = roster.person_numbers.get(person), earlier.get(object_)
         if number is not None and shift is not None:
             worked.setdefault((number, shift.day), []).append(shift)

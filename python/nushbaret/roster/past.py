@@ -80,7 +80,7 @@ def _with_persons(roster: Roster, names: Sequence[str]) -> Roster:
     numbers = {name: number for number, name in enumerate(new, len(roster.persons))}
     tasks = {**(roster.tasks or {}), **dict.fromkeys(numbers.values(), 0)}
     return roster._replace(persons=roster.persons + new, person_numbers={**roster.person_numbers, **numbers},
-                           tasks=tasks)
+                           tasks=tasks, gone=frozenset(numbers.values()))
 
 
 def _with_pairs(roster: Roster, added: Sequence[Triple]) -> Roster:

@@ -105,7 +105,7 @@ class Earlier(NamedTuple):
 class Groups(NamedTuple):
     """Groups of objects of which nobody takes two: their title, their names in the order of the file, the group of each
     object that is in one, and when objects begin and end, where the file says it; their kinds, if a column has them;
-    and objects of earlier days."""
+    objects of earlier days; and the first line of each group, where a file has them."""
 
     title: str
     names: List[str]
@@ -114,6 +114,7 @@ class Groups(NamedTuple):
     kinds: Dict[int, str] = {}
     has_kinds: bool = False
     earlier: Sequence[Earlier] = ()
+    lines: Sequence[int] = ()
 
 
 class Roster(NamedTuple):
@@ -123,7 +124,8 @@ class Roster(NamedTuple):
     alone decide, `least` says of persons and of objects how many they take at least, where it isn't 0. `rounded` says
     whether any cost was changed by rounding, `has_bom` whether the file began with a BOM, `is_matrix` whether it is a
     matrix, and `by_persons` whether the pairs stand person by person. `encoding` is that of the file, and `reading` how
-    other files are read. Of the objects in `past` nothing is planned."""
+    other files are read. Of the objects in `past` nothing is planned, and of the persons in `gone` the past alone is
+    known."""
 
     persons: List[str]
     objects: List[str]
@@ -147,6 +149,7 @@ class Roster(NamedTuple):
     encoding: str = "utf-8"
     reading: Reading = Reading()
     past: FrozenSet[int] = frozenset()
+    gone: FrozenSet[int] = frozenset()
 
     @property
     def ruled(self) -> bool:

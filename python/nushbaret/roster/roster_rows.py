@@ -108,17 +108,20 @@ def _bounded(making: Making, own: Sum, bounds: Bounds, side: int, number: int, m
     """Bounds the count of a person (side 0) or an object; the variables by which it may be missed, with their
     factors."""
     roster = making.roster
-    said = Said(bounds_text(bounds, roster.titles[1 - side], len(roster.objects if side == 0 else roster.persons)),
-                (roster.persons, roster.objects)[side][number])
-    person = number if side == 0 else None
+    name, person = (roster.persons, roster.objects)[side][number], number if side == 0 else None
+
+    def said(own_bounds: Bounds) -> Said:
+        limit = len(roster.objects if side == 0 else roster.persons)
+        return Said(bounds_text(own_bounds, roster.titles[1 - side], limit), name)
+
     if not (may_miss and bounds.least):
-        making.rows.add(own, bounds.least or None, bounds.most, said, person)
+        making.rows.add(own, bounds.least or None, bounds.most, said(bounds), person)
         return {}
-    making.rows.add(own, None, bounds.most, said, person)
+    making.rows.add(own, None, bounds.most, said(Bounds(0, bounds.most)), person)
     bits = making.rows.bits(bounds.least)
     for variable, factor in bits.items():
         own.add(variable, factor)
-    making.rows.add(own, bounds.least, None, said, person)
+    making.rows.add(own, bounds.least, None, said(bounds), person)
     return bits
 
 

@@ -5,7 +5,7 @@ from ..counts.nodes import Bounds
 from .month import Month
 from .rule_file import EVEN, Rule
 from .rule_rows import Making
-from .sums import Sum, Work
+from .sums import Sum
 
 
 class Even(NamedTuple):
@@ -29,10 +29,15 @@ def even_rules(rules: Sequence[Rule]) -> List[Rule]:
     return [rule for rule in rules if rule.what == EVEN]
 
 
-def even_counted(work: Work, rule: Rule) -> List[int]:
-    """The persons that a rule compares: those who may have any of its shifts."""
-    days = _days(work.month, rule)
-    return [person for person in rule.persons if any(work.may_have(person, day, rule.kinds) for day in days)]
+def even_counted(making: Making, rule: Rule) -> List[int]:
+    """The persons that a rule compares: those who have, or may have, any of its shifts. Who takes none may not, and
+    nobody may have a shift that takes nobody."""
+    work, days = making.work, _days(making.month, rule)
+    shifts = {object_ for object_ in work.objects(rule.kinds) if making.month.shifts[object_].day in days
+              and making.capacities[object_].most > 0}
+    may = {person for person, object_ in work.variables if object_ in shifts and making.roster.tasks_of(person) > 0}
+    return [person for person in rule.persons if person in may or any(work.had(person, day, rule.kinds)
+                                                                      for day in days)]
 
 
 def _days(month: Month, rule: Rule) -> List[int]:
@@ -52,7 +57,7 @@ def add_evenness(making: Making, spreads: Sequence[int], is_measured: bool) -> E
 def _sums(making: Making, rule: Rule) -> Dict[int, Sum]:
     """The count of each person that a rule compares."""
     days = _days(making.month, rule)
-    return {person: making.work.sum(person, days, rule.kinds) for person in even_counted(making.work, rule)}
+    return {person: making.work.sum(person, days, rule.kinds) for person in even_counted(making, rule)}
 
 
 def _measured(making: Making, rule: Rule) -> Dict[int, int]:

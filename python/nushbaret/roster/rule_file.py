@@ -167,10 +167,10 @@ class _RuleReader:
         return frozenset(found)
 
     def _persons(self, line: RuleLine) -> Tuple[int, ...]:
-        """The persons that a line names; everybody where it names none."""
+        """The persons that a line names; everybody where it names none, except those who are gone."""
         numbers = self._roster.person_numbers
         if not line.names:
-            return tuple(range(len(self._roster.persons)))
+            return tuple(person for person in range(len(self._roster.persons)) if person not in self._roster.gone)
         between = r"\s*[;|]\s*" if re.search("[;|]", line.names) else r"\s*,\s*"
         names = [line.names] if line.names in numbers else re.split(between, line.names)
         for name in names:

@@ -3,14 +3,15 @@ import contextlib
 import sys
 from typing import Callable, Iterator, List, NamedTuple, Optional, Sequence, Tuple
 
-from .answer import Answer, Request, counted, listed, named
+from .answer import Answer, Request
 from .by_rules import COSTS, Progress, Proved, Task, answer_by_rules
 from .groups import Broken, Paired
 from .interrupts import interrupts_raise
-from .month import Before, Month, month_of, undated
-from .roster import Groups, Roster, named_pairs
+from .month import Before, Month, month_of
+from .roster import Roster, named_pairs
 from .rule_file import Rules, read_rules
 from .rules_kept import broken_by, plan_of
+from .unruled import days_in_order, kinds_alike, left_out, other_holidays, without_day, without_kind
 from .words import Options, WordsFault
 
 DEFAULT_SECONDS = 60
@@ -31,34 +32,16 @@ def read_ruling(options: Options, roster: Roster, say: Callable[[str], object]) 
     if options.before is not None:
         before = Before(options.before, [(pair.person, pair.object, pair.line)
                                          for pair in named_pairs(options.before, roster)])
-    for line in (*_without_day(roster, roster.groups, options.groups), *_left_out(roster, before)):
+    for line in (*without_day(roster, f"{options.groups}: no line for"),
+                 *without_kind(roster, f"{options.groups}: no kind of"), *left_out(roster, before)):
         say(line)
     month = month_of(roster, roster.groups, options.groups, before)
+    for line in kinds_alike(options.groups, month):
+        say(line)
     rules = read_rules(options.rules, roster, month)
+    for line in (*other_holidays(rules, month), *days_in_order(options.groups, rules, month)):
+        say(line)
     return Ruling(month._replace(holidays=rules.holidays), rules)
-
-
-def _without_day(roster: Roster, groups: Groups, path: str) -> Iterator[str]:
-    """The objects without a day."""
-    numbers = [object_ for object_ in range(len(roster.objects)) if object_ not in groups.of_objects]
-    if numbers:
-        yield (f"{path}: no line for {named(numbers, roster.titles[1], roster.objects)}: no rule looks at "
-               f"{'it' if len(numbers) == 1 else 'them'}")
-
-
-def _left_out(roster: Roster, before: Optional[Before]) -> Iterator[str]:
-    """What of an earlier plan no rule looks at."""
-    if before is None:
-        return
-    gone = [person for person in dict.fromkeys(person for person, _, _ in before.pairs)
-            if person not in roster.person_numbers]
-    if gone:
-        yield f"{before.path}: the roster has no {listed(gone, list(range(len(gone))))}"
-    names = [] if roster.groups is None else undated(roster.groups, before)
-    if names:
-        shown = listed(names, list(range(len(names))))
-        yield (f"{before.path}: the groups' file doesn't list {counted(len(names), roster.titles[1])} ({shown}): no "
-               "rule looks at them")
 
 
 def broken_rules_of(ruling: Ruling, roster: Roster, pairs: Sequence[Paired]) -> List[Broken]:

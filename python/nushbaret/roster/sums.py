@@ -68,7 +68,11 @@ class Rows:
         if low is None and high is None:
             return
         self.said[said.text] = said
-        self.rows.append(Row(low, terms, high, said.text, person))
+        if low is not None and high is not None and low > high:
+            # A proof gives each row one multiplier, and this one needs one for each side.
+            self.rows += [Row(low, terms, None, said.text, person), Row(None, terms, high, said.text, person)]
+        else:
+            self.rows.append(Row(low, terms, high, said.text, person))
 
     def model(self, costs: Optional[Sequence[int]] = None, more: Sequence[Row] = ()) -> Model:
         """The model, with its own costs or others, and maybe more rows."""
@@ -130,11 +134,6 @@ class Work:
             else:
                 self.sum(person, [day], kinds, factor, found)
         return found
-
-    def may_have(self, person: int, day: int, kinds: Kinds = None) -> bool:
-        """Whether a person has, or may have, a shift of some kinds on a day."""
-        spot = person, day
-        return any(is_of(shift, kinds) for shift, _ in self._open.get(spot, ())) or self.had(person, day, kinds)
 
     def had(self, person: int, day: int, kinds: Kinds = None) -> bool:
         """Whether a person had a shift of some kinds on a past day."""

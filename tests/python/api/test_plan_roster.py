@@ -2,6 +2,7 @@
 import datetime
 import subprocess
 import unittest
+import warnings
 from decimal import Decimal
 from fractions import Fraction
 
@@ -31,6 +32,14 @@ REFUSED = (({"rules": [("resst", "Night > Early")]}, ValueError, "rules, line 1,
            ({"rows": [(0, {("Ada", "Early 2027-03-05"): 0.5}, 1, "x")]}, ValueError,
             "rows: 'x': whole numbers are needed"), ({"rows": [(2, {("Ada", "Early 2027-03-05"): 1}, 1, "x")]},
                                                      ValueError, "rows: 'x': at least 2 and at most 1"),
+           ({"rules": [*RULES, ("Night per month", "0", [])]}, ValueError,
+            "rules, line 3, column 3: an empty list of names"),
+           ({"rules": [("Night per month", "0", ["Ada", ""])]}, ValueError, "rules, line 1, column 3: an empty name"),
+           ({"days": {**SHIFTS, "Cover": None}}, ValueError, "None is no day: an object without one isn't in days"),
+           ({"days": {**SHIFTS, "Cover": float("nan")}}, ValueError, "nan is no day"),
+           ({"before": [("Ada", None, "Night")]}, ValueError, "None is no day"),
+           ({"before": [("Ada", "2027-03-04", "Night")] * 2}, ValueError,
+            "before, line 2: the pair Ada, Night 2027-03-04, earlier a second time, after line 1"),
            ({"kinds": {"Late": "Late"}}, ValueError, "kinds: there is no object 'Late'"),
            ({"costs": {("Ada", "Early 2027-03-05"): float("nan")}}, ValueError,
             "the cost of ('Ada', 'Early 2027-03-05') is nan, which isn't finite"),
@@ -67,6 +76,35 @@ class Plans(InFolder):
         self.assertEqual(planned(maximize=True).cost, 44)
         self.assertEqual(planned(fixed=[("Cleo", "Night 2027-03-05")]).cost, 15)
         self.assertEqual(planned(before=[("Cleo", DAYS[0] - datetime.timedelta(1), "Night")]).cost, 8)
+
+    def test_what_no_rule_looks_at(self):
+        """Objects without a day, and persons of earlier days without a cost, are named to the caller, at its line."""
+        costs = {**COSTS, ("Ada", "Cover"): 5, ("Ben", "Cover"): 4, ("Ben", "Visit"): 1}
+        for given, lines in (({"costs": {**COSTS, ("Ben", "Cover"): 4}},
+                              ["days: none for 1 object (Cover): no rule looks at it"]),
+                             ({"costs": costs, "before": [("Zoe", DAYS[0] - datetime.timedelta(1), "Night")]},
+                              ["days: none for 2 objects (Cover, Visit): no rule looks at them",
+                               "before: the roster has no Zoe"]),
+                             ({"costs": COSTS, "kinds": {shift: shift[:5] for shift in list(SHIFTS)[1:]}},
+                              ["kinds: none for 1 object (Early 2027-03-05): no rule of kinds looks at it"]),
+                             ({"costs": COSTS, "rules": [("holiday", "2027-03-09")]},
+                              ["rules: 1 holiday isn't a day of the roster (2027-03-09)"]),
+                             ({"costs": COSTS, "kinds": {shift: shift[0] if number else "n" for number, shift in
+                                                         enumerate(reversed(SHIFTS))}, "rules": []},
+                              ["kinds: the kinds 'N', 'n' differ in case or spaces alone"])):
+            with warnings.catch_warnings(record=True) as caught:
+                warnings.simplefilter("always")
+                costs, rules = given.pop("costs"), given.pop("rules", RULES)
+                self.assertEqual(nushbaret.plan_roster(costs, SHIFTS, rules, tasks=TASKS, seconds=900, **given).proved,
+                                 "best")
+            self.assertEqual([str(own.message) for own in caught], lines)
+            self.assertEqual({(own.category, own.filename) for own in caught}, {(UserWarning, __file__)})
+
+    def test_no_warning(self):
+        with warnings.catch_warnings():
+            warnings.simplefilter("error")
+            self.assertEqual(planned(seconds=Decimal(900), before=[("Cleo", DAYS[0] - datetime.timedelta(1),
+                                                                    "Night")]).cost, 8)
 
     def test_exact_costs(self):
         for unit, cost in ((Decimal("0.1"), Decimal("0.6")), (Fraction(1, 3), Fraction(2)), (0.25, Decimal("1.5"))):

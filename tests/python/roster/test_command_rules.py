@@ -4,6 +4,10 @@ import unittest
 from unittest import mock
 
 from nushbaret.roster import ruling
+from nushbaret.roster.answer import NamedPlan
+from nushbaret.roster.by_rules import Proved
+from nushbaret.roster.output import rule_texts
+from nushbaret.roster.roster import read_roster
 from nushbaret.rows import finding
 from nushbaret.rows.model import Finding
 from commands import Runs
@@ -76,6 +80,37 @@ class Earlier(Files):
             self.assertNotIn("breaks", self.run_words(*WORDS, "--before", "b.csv", "--compare", "o.csv")[1])
 
 
+@unittest.skipUnless(optimize, "SciPy isn't there")
+class KindsInNames(Files):
+    """Without a column of kinds, a shift's kind is its name without its day, however that is written there."""
+
+    def test_earlier_days(self):
+        """Ada had a night before the first day, so Ben takes the early shift, at 9 instead of 1."""
+        for earlier, first in (("2027-02-28", "2027-03-01"), ("28.02.2027", "01.03.2027"), ("28.2.2027", "1.3.2027"),
+                               ("So 28.02.2027", "Mo 01.03.2027")):
+            for name in "Night {}", "{} Night":
+                self.file("s.csv", f"n,s,c\nAda,Early {first},1\nBen,Early {first},9\n")
+                self.file("d.csv", f"s,d\n{name.format(earlier)},{earlier}\nEarly {first},{first}\n")
+                self.file("t.csv", "n,l,m\nAda,0,1\nBen,0,1\n")
+                self.file("b.csv", f"n,s\nAda,{name.format(earlier)}\n")
+                self.rules("rest,Night > Early,")
+                status, out, err = self.run_words(*WORDS, "--before", "b.csv")
+                self.assertEqual((status, err, out.splitlines()[1:]), (0, "", [f"Ben: Early {first}, 9",
+                                                                             "without: Ada"]), name)
+
+    def test_days_in_two_spellings(self):
+        """A name may have its day as another line has it, and two names of a day the same kind: Ada takes one of the
+        three nights, at 1 instead of 9."""
+        shifts = ("Night 01.03.2027", "01.03.2027"), ("Night 2027-03-02", "2027-03-02"), ("02.03.2027 Night",
+                                                                                          "02.03.2027")
+        self.file("s.csv", "n,s,c\n" + "".join(f"{person},{shift},{cost}\n" for person, cost in (("Ada", 1), ("Ben", 9))
+                                               for shift, _ in shifts))
+        self.file("d.csv", "s,d\n" + "".join(",".join(shift) + "\n" for shift in shifts))
+        self.file("t.csv", "n,l,m\nAda,0,3\nBen,0,3\n")
+        self.rules("Night per month,1,Ada")
+        self.assertEqual(self.run_words(*WORDS)[1].splitlines()[0].split(",")[0], "least c: 19")
+
+
 class NoDay(Files):
     @unittest.skipUnless(optimize, "SciPy isn't there")
     def test_a_shift_without_a_line(self):
@@ -83,6 +118,158 @@ class NoDay(Files):
         self.file("d.csv", DAYS.replace("Night 2027-03-08,2027-03-08,Night\n", ""))
         self.assertIn("d.csv: no line for 1 object (Night 2027-03-08): no rule looks at it\n",
                       self.run_words(*WORDS)[2])
+
+
+class Said(Files):
+    """What a rule doesn't see, though it seems to, is said on standard error."""
+
+    @unittest.skipUnless(optimize, "SciPy isn't there")
+    def test_kinds_alike(self):
+        self.file("d.csv", DAYS.replace("2027-03-06,Night", "2027-03-06,night"))
+        self.assertEqual(self.run_words(*WORDS)[2],
+                         "d.csv: the kinds 'Night', 'night' differ in case or spaces alone\n")
+
+    @unittest.skipUnless(optimize, "SciPy isn't there")
+    def test_shifts_without_a_kind(self):
+        for old, new, said in (("2027-03-06,Night", "2027-03-06,",
+                                "1 object (Night 2027-03-06): no rule of kinds looks at it"),
+                               ("Early\n", " \n", "4 objects (Early 2027-03-05, Early 2027-03-06, Early 2027-03-07, "
+                                "Early 2027-03-08): no rule of kinds looks at them")):
+            self.file("d.csv", DAYS.replace(old, new))
+            self.rules("Night per month,4,")
+            self.assertEqual(self.run_words(*WORDS)[::2], (0, f"d.csv: no kind of {said}\n"))
+
+    @unittest.skipUnless(optimize, "SciPy isn't there")
+    def test_holidays_on_other_days(self):
+        for days, said in ((("2027-03-05", "08.03.2027"), ""),
+                           (("2027-03-05", "2026-03-05"), "r.csv: 1 holiday isn't a day of the roster (2026-03-05)\n"),
+                           (("09.03.2027", "2027-03-04"), "r.csv: 2 holidays aren't days of the roster (2027-03-04, "
+                            "2027-03-09)\n")):
+            self.rules(*(f"holiday,{day}," for day in days))
+            self.assertEqual(self.run_words(*WORDS)[::2], (0, said))
+
+
+@unittest.skipUnless(optimize, "SciPy isn't there")
+class DaysOfTheWeek(Files):
+    """Days that aren't dates count one after the other, seven to a week, whatever their words for days of the week."""
+
+    def said(self, days, rule):
+        self.file("s.csv", "," + ",".join(f"Early {day}" for day in days) + "\n" + "".join(
+            f"{nurse}{',1' * len(days)}\n" for nurse in ("Ada", "Ben")))
+        self.file("d.csv", "shift,day\n" + "".join(f"Early {day},{day}\n" for day in days))
+        self.file("t.csv", "person,least,most\nAda,0,99\nBen,0,99\n")
+        self.rules(rule)
+        status, _, err = self.run_words(*WORDS)
+        self.assertEqual(status, 0)
+        return err
+
+    def test_what_is_said(self):
+        week = ["Mo", "Di", "Mi", "Do", "Fr", "Sa", "So"]
+        for days, rule, lines in (
+                ([f"{day} {number}" for number in (1, 2) for day in week], "shifts per week,7,", []),
+                (week[2:] + [f"{day} 2" for day in week], "days in a row,9,", []),
+                (week[2:] + [f"{day} 2" for day in week], "shifts per week,7,",
+                 ["weeks begin with Mi: only those of dates begin on Monday"]),
+                ([f"{day} {number}" for number in (1, 2) for day in week[:5]], "shifts per week,7,",
+                 ["Mo 2 counts as the day after Fr 1: only dates leave days out"]),
+                (["Lundi", "Mercredi", "Jeudi"], "rest,Early > Early,Ada",
+                 ["Mercredi counts as the day after Lundi: only dates leave days out"]),
+                ([f"T{number}" for number in range(9)], "shifts per week,7,", []),
+                (["A", "Tue", "B", "Thu"], "shifts per week,7,", [])):
+            self.assertEqual(self.said(days, rule), "".join(f"d.csv: {line}\n" for line in lines), days)
+
+
+class NoSum(Files):
+    """Hours that no number of shifts has: two of 7.7 are 15.4, and three 23.1."""
+
+    @unittest.skipUnless(optimize, "SciPy isn't there")
+    def test_hours_between_two_sums(self):
+        self.rules("hours of,shift 7.7,", "hours per month,16-23,Ada")
+        self.expect(1, "no plan keeps these rules, proved: together they can't hold:\n  hours per month: 16-23 (Ada)\n",
+                    "", *WORDS)
+
+
+class Gone(Files):
+    """Zoe isn't in the roster any more, and keeps her past; a rule for everybody isn't for her."""
+
+    @unittest.skipUnless(optimize, "SciPy isn't there")
+    def test_everybody(self):
+        shifts = [f"D {day}" for day in ("Mon", "Tue", "Wed", "Thu", "Fri")]
+        self.files({"s.csv": "," + ",".join(shifts) + "\nAda,1,1,1,1,1\nBen,2,2,2,2,2\n",
+                    "d.csv": "shift,day\n" + "".join(f"{shift},{shift[2:]}\n" for shift in shifts),
+                    "t.csv": "nurse,least,most\nAda,0,5\nBen,0,5\n", "k.csv": "a,b\nZoe,D Mon\nAda,D Tue\n"})
+        words = (*WORDS, "--keep", "k.csv", "--past", "Tue")
+        for rule, even in ("shifts per month,2-,", []), ("even,D,", ["even: D: 2 each"]):
+            self.rules(rule)
+            status, out, _ = self.run_words(*words)
+            lines = out.splitlines()
+            self.assertEqual((status, lines[0]), (0, "least cost: 6, proved: no plan that keeps the rules costs less"))
+            self.assertEqual(lines[3:4 + len(even)], ["Zoe: D Mon, 0 (past)", *even])
+        self.rules('shifts per month,2-,"Ada,Zoe"')
+        self.assertEqual(self.run_words(*words)[:2], (1, "around the past, no plan keeps these rules, proved: together "
+                                                      "they can't hold:\n  shifts per month: 2- (Zoe)\n"))
+
+
+class TakesNone(Files):
+    """Who takes none may not have any, so evenness is among the others."""
+
+    @unittest.skipUnless(optimize, "SciPy isn't there")
+    def test_evenness(self):
+        """Seven nights of Ada, Ben and Cleo, at 1, 2 and 3 each, are 3, 2 and 2, where Eve takes none or may have a
+        night alone that takes nobody; else 2, 2, 1 and two of Eve's, at 0."""
+        nights = [f"N {day}" for day in range(1, 8)]
+        self.file("d.csv", "shift,day\n" + "".join(f"{night},{night[2:]}\n" for night in [*nights, "N 8"]))
+        self.rules("even,N,")
+        self.file("p.csv", "shift,least,most\n" + "".join(f"{night},1,1\n" for night in nights) + "N 8,0,0\n")
+        for eve, most, cost, even in (",0" * 7 + ",0", 0, 13, "2 to 3"), ("," * 7 + ",0", 8, 13, "2 to 3"), (
+                ",0" * 7 + ",0", 8, 9, "1 to 2"):
+            self.file("s.csv", f",{','.join(nights)},N 8\n" + "".join(
+                f"{nurse}{f',{own}' * 7},\n" for nurse, own in (("Ada", 1), ("Ben", 2), ("Cleo", 3))) + f"Eve{eve}\n")
+            self.file("t.csv", f"nurse,least,most\nAda,0,8\nBen,0,8\nCleo,0,8\nEve,0,{most}\n")
+            out = self.run_words(*WORDS, "--places", "p.csv")[1].splitlines()
+            self.assertEqual((out[0], [line for line in out if line.startswith(("even", "proved"))]),
+                             (f"least cost: {cost}, proved: no plan that keeps the rules costs less",
+                              [f"even: N: {even}"]))
+
+
+class Missed(Files):
+    """Where least counts may be missed and rules still can't be kept, the reasons have greatest counts alone. A plan
+    that misses more may be better than what is proved best."""
+
+    def test_not_proved_best(self):
+        roster, plan = read_roster("s.csv", None, None, False), NamedPlan([], 6, [], [], {})
+        proved = Proved("within", 60, 2, missing=1, least_missing=1)
+        self.assertEqual(rule_texts.first_lines(roster, plan, proved, False), [
+            "1 missing in all, proved: no plan that keeps the rules misses less",
+            "cost of 0 pairs 6, proved: no plan that keeps the rules and misses no more is more than 2 better"])
+        self.assertEqual(rule_texts.even_lines(roster, Proved("best", 60, otherwise=proved, otherwise_cost=5), False), [
+            "without the rules of evenness: cost 5, proved: no plan that keeps the other rules and misses no more is "
+            "more than 2 better"])
+
+    @unittest.skipUnless(optimize, "SciPy isn't there")
+    def test_reasons(self):
+        """Ada must have a shift, and each takes one nurse, where she and Ben go together."""
+        self.files({"s.csv": "nurse,shift,c\n" + "".join(f"{nurse},{shift},1\n" for nurse in ("Ada", "Ben")
+                                                         for shift in ("X", "Y")),
+                    "d.csv": "shift,day\nX,Mon\nY,Tue\n", "t.csv": "nurse,least,most\nAda,0,2\nBen,0,2\n"})
+        self.rules("shifts per month,1-,Ada", 'together,,"Ada, Ben"')
+        self.expect(1, "no plan keeps these rules, proved: together they can't hold:\n  at most 1 nurse (X, Y)\n"
+                    "  shifts per month: 1- (Ada)\n  together: Ada, Ben (X, Y)\n", "", *WORDS, "--as-many-as-can")
+
+
+    @unittest.skipUnless(optimize, "SciPy isn't there")
+    def test_evenness(self):
+        """Ada has two shifts and Ben none, where two are missing; no shifts at all are more even and cost less."""
+        self.files({"s.csv": "nurse,shift,c\nAda,X,1\nAda,Y,1\nBen,Z,5\nBen,Z2,5\n",
+                    "d.csv": "shift,day,kind\nX,Mon,A\nY,Tue,A\nZ,Tue,B\nZ2,Tue,B\n",
+                    "t.csv": "nurse,least,most\nAda,0,2\nBen,0,2\n"})
+        self.rules("even,A,", "even,shift,", "shifts per month,0,Ben")
+        status, out, _ = self.run_words(*WORDS, "--as-many-as-can")
+        self.assertEqual((status, out.splitlines()[-4:]), (1, [
+            "even: A: 2 each", "even: shift: 0 to 2",
+            "proved: no plan that keeps the rules and misses no more is more even",
+            "without the rules of evenness: least c 2, proved: no plan that keeps the other rules and misses no more "
+            "costs less"]))
 
 
 class NoWeekend(Files):
@@ -222,6 +409,20 @@ class Plans(Files):
                 {"sentence": "Night per month: 1", "about": ["Ada", "Ben", "Cleo"]}]}))
         self.assertEqual(self.read("o.html").count('<p class="short">'), 3)
 
+    def test_days_that_are_refused(self):
+        """The first line of the day is named, among the planned days and the earlier ones."""
+        for old, new, where, why in (
+                ("8,2027-03-08,Early", "8,8 March,Early", "line 8, column 2", "8 March is no date"),
+                ("2027-03-06,Night", "2027-02-30,Night", "line 5, column 2", "2027-02-30 is no day of the calendar"),
+                ("2027-03-06,Night", "Sun 2027-03-06,Night", "line 5, column 2", "Sun 2027-03-06 is a Sat"),
+                ("Night 2027-03-04,2027-03-04", "Night 2027-03-04,4/3", "line 13, column 2", "4/3 is no date")):
+            self.file("d.csv", (DAYS + EARLIER).replace(old, new, 1))
+            self.file("b.csv", "person,object\nCleo,Night 2027-03-03\n")
+            self.refused(3, f"d.csv, {where}: {why}: with rules each day is a date, or none is", *WORDS, "--before",
+                         "b.csv")
+        self.file("d.csv", DAYS.replace("2027-03-06,Night", "Sat 2027-03-06,Night"))
+        self.refused(3, "d.csv, line 5, column 2: '2027-03-06' and 'Sat 2027-03-06' are one day", *WORDS)
+
     def test_fixed_and_together(self):
         self.file("f.csv", "person,object\nCleo,Night 2027-03-05\nCleo,Early 2027-03-06\n")
         self.expect(1, "no plan keeps these rules, proved: together they can't hold:\n  fixed (Cleo: Night 2027-03-05, "
@@ -245,6 +446,20 @@ class Plans(Files):
         self.assertEqual((with_cost[0], with_cost[4:]), ("least cost with changes: 15 (cost 15), proved: no plan that "
                                                          "keeps the rules costs less", ["k.csv: no pair changes"]))
 
+    def test_what_is_not_possible_now_is_no_change(self):
+        """Ben takes none now, and a shift takes nobody: of the kept plan two pairs can still be, and stay."""
+        self.file("t.csv", "person,at least,at most\nAda,0,4\nBen,0,0\nCleo,0,4\n")
+        self.file("p.csv", "shift,at least,at most\n" + "".join(f"{shift},0,{int(shift != 'Night 2027-03-08')}\n"
+                                                                for shift in WISHES.split("\n")[0].split(",")[1:]))
+        self.file("k.csv", "a,b\nAda,Night 2027-03-05\nBen,Early 2027-03-06\nBen,Night 2027-03-06\nCleo,Early "
+                  "2027-03-07\nAda,Night 2027-03-08\n")
+        out = self.run_words(*WORDS, "--places", "p.csv", "--keep", "k.csv", "--change-cost", "20")[1].splitlines()
+        self.assertEqual((out[0], out[-3:]), ("least cost with changes: 1 (cost 1), proved: no plan that keeps the "
+                                              "rules costs less", ["k.csv: no pair changes", "  Ben: Early 2027-03-06, "
+                                                                   "Night 2027-03-06 not possible now (takes none)",
+                                                                   "  Ada: Night 2027-03-08 not possible now (takes "
+                                                                   "none)"]))
+
     def test_before(self):
         """Who worked the night before the first day has no early shift on it, and nights in a row look back."""
         self.file("d.csv", DAYS + EARLIER)
@@ -262,6 +477,13 @@ class Plans(Files):
         self.assertEqual(out, "around the past, no plan keeps these rules, proved: together they can't hold:\n"
                          "  fixed (Cleo: Night 2027-03-05)\n  Night in a row: 1 (Cleo)\n")
         self.refused(3, "d.csv, line 10, column 1: the roster has no object 'Early 2027-03-03'", *WORDS)
+
+    def test_before_twice(self):
+        """A line that stands twice would count twice."""
+        self.file("d.csv", DAYS + EARLIER)
+        self.file("b.csv", "person,object\nCleo,Night 2027-03-04\nBen,Night 2027-03-04\nCleo,Night 2027-03-04\n")
+        self.refused(3, "b.csv, line 4: the pair Cleo, Night 2027-03-04 a second time, after line 2", *WORDS,
+                     "--before", "b.csv")
 
     def test_past(self):
         """What is past stays, whatever rules it breaks, and rules look at it."""

@@ -11,7 +11,9 @@ class Reading(unittest.TestCase):
         self.assertEqual(dates_of(names).all, [date(*one) for one in dates])
 
     def refused(self, names, why):
-        self.assertEqual(dates_of(names), (None, why))
+        """Where one name is no date, it is the one with which the words begin."""
+        name = "" if why.startswith(("no date has", "there are")) else why.partition(" is ")[0]
+        self.assertEqual(dates_of(names), (None, why, name))
 
     def test_forms(self):
         self.expect(["2027-03-01", "01.03.2027", "1.3.2027", "Mo 01.03.", "Mon, 2027-03-01", "Mo. 1. 3. 2027",

@@ -3,6 +3,7 @@ searches through all plans."""
 import json
 import random
 import unittest
+from typing import Any, Dict, List, NamedTuple, Optional, Set, Tuple
 
 from nushbaret.roster.past import groups_before
 from nushbaret.roster.roster import Groups
@@ -151,6 +152,21 @@ class ChangesBesideAllPlans(Month):
         self.assertGreater(gone, 50)
 
 
+class Kept(NamedTuple):
+    """A drawn case, the costs of the kept plan's pairs in its file, what a change costs, which objects are past, and
+    the words of the command."""
+
+    case: Drawn
+    costs: Dict[Tuple[int, int], Any]
+    change: Optional[int]
+    objects: Set[int]
+    words: List[str]
+
+    @property
+    def past(self):
+        return {pair for pair in self.costs if pair[1] in self.objects}
+
+
 class Past(Month):
     def rest(self, case, past, objects):
         """What is to be planned after the past: costs, and bounds of persons and objects."""
@@ -170,50 +186,65 @@ class Past(Month):
                  for row in case.costs]
         return costs, rows, columns
 
-    def test_beside_all_plans(self):
-        draw, passed, forbidden, missed_some = random.Random(52), 0, 0, 0
-        for number in range(CASES):
+    def drawn(self, draw):
+        """A case with groups, a kept plan and its costs in its file, and what is past; the words of the command. None
+        where nothing is kept."""
+        case = Drawn(draw, 3)
+        while len(case.groups) < 2:
             case = Drawn(draw, 3)
-            while len(case.groups) < 2:
-                case = Drawn(draw, 3)
-            kept, change, before = drawn_pairs(draw, case, 0.4), draw.choice((None, 1, 3)), draw.choice((0, 1, 1, 1))
-            objects = {object_ for group in case.groups[:before] for object_ in group}
-            file_costs = {pair: draw.choice((0, 1, 5, "")) for pair in sorted(kept)}
-            self.table("k.csv", "a,b,c", [(f"p{person}", f"o{object_}", cost)
-                                          for (person, object_), cost in file_costs.items()])
-            if not kept:
-                continue
-            words = self.words(case) + ["--keep", "k.csv", "--past", f"g{before}", "--as-many-as-can"]
-            words += ["--change-cost", str(change)] if change else []
-            past = {pair for pair in kept if pair[1] in objects}
-            possible = {pair for pair in kept - past if pair in case.pairs()}
-            worth = sum(case.pairs()[pair] if pair in case.pairs() else file_costs[pair] or 0 for pair in past)
-            with self.subTest(case=number):
-                status, out, err = self.run_words(*words)
-                self.assertIn(status, (0, 1), err)
-                plan = self.plan()
-                own = numbers(pair for pair in plan["pairs"] if not pair.get("past"))
-                self.assertEqual(numbers(pair for pair in plan["pairs"] if pair.get("past")), past)
+        kept, change, before = drawn_pairs(draw, case, 0.4), draw.choice((None, 1, 3)), draw.choice((0, 1, 1, 1))
+        objects = {object_ for group in case.groups[:before] for object_ in group}
+        costs = {pair: draw.choice((0, 1, 5, "")) for pair in sorted(kept)}
+        if not kept:
+            return None
+        self.table("k.csv", "a,b,c", [(f"p{person}", f"o{object_}", cost) for (person, object_), cost in costs.items()])
+        words = self.words(case) + ["--keep", "k.csv", "--past", f"g{before}", "--as-many-as-can"]
+        return Kept(case, costs, change, objects, words + (["--change-cost", str(change)] if change else []))
 
-                def judged(missed, cost, pairs):
-                    changes = len(set(pairs) ^ possible)
-                    return (missed, 2 * cost + change * changes) if change else (missed, cost, changes)
+    def best_of_all(self, those, own):
+        """What is missed and the cost of the plan's pairs, of which no plan of the rest is better."""
+        case, possible = those.case, {pair for pair in set(those.costs) - those.past if pair in those.case.pairs()}
 
-                plans = list(drawn.plans_by_counts(*self.rest(case, past, objects), case.groups))
-                found = next(those for those in plans if set(those[2]) == own)
-                self.assertEqual(judged(*found), min(judged(*those) for those in plans))
-                self.assertEqual(plan["cost"], str(worth + (-found[1] if case.maximize else found[1])))
-                self.assertEqual((status, bool(plan.get("short"))), (int(found[0] > 0), found[0] > 0))
-                passing = [person for person in range(len(case.persons))
-                           if sum(own[0] == person for own in past) > case.persons[person][1]]
-                self.assertEqual([person for person in range(len(case.persons)) if f"k.csv: p{person} has " in err],
-                                 passing)
-                refused = {person for person, object_ in past if (person, object_) not in case.pairs()}
-                self.assertEqual({person for person in range(len(case.persons))
-                                  if f"p{person} keeps what the roster doesn't allow" in err}, refused)
-            passed, forbidden, missed_some = (passed + bool(passing), forbidden + bool(refused),
-                                              missed_some + (found[0] > 0))
-        self.assertGreater(min(passed, forbidden, missed_some), 50)
+        def judged(missed, cost, pairs):
+            changes = len(set(pairs) ^ possible)
+            return (missed, 2 * cost + those.change * changes) if those.change else (missed, cost, changes)
+
+        plans = list(drawn.plans_by_counts(*self.rest(case, those.past, those.objects), case.groups))
+        found = next(plan for plan in plans if set(plan[2]) == own)
+        self.assertEqual(judged(*found), min(judged(*plan) for plan in plans))
+        return found
+
+    def check_said(self, those, err):
+        """Who has more in the past than it takes, and who has what isn't allowed: both are said, of nobody else."""
+        case = those.case
+        passing = [person for person in range(len(case.persons))
+                   if sum(own[0] == person for own in those.past) > case.persons[person][1]]
+        self.assertEqual([person for person in range(len(case.persons)) if f"k.csv: p{person} has " in err], passing)
+        refused = {person for person, object_ in those.past if (person, object_) not in case.pairs()}
+        self.assertEqual({person for person in range(len(case.persons))
+                          if f"p{person} keeps what the roster doesn't allow" in err}, refused)
+        return bool(passing), bool(refused)
+
+    def check(self, those):
+        """The past stands, and what is planned around it is the best of all plans."""
+        status, _, err = self.run_words(*those.words)
+        self.assertIn(status, (0, 1), err)
+        plan, case = self.plan(), those.case
+        self.assertEqual(numbers(pair for pair in plan["pairs"] if pair.get("past")), those.past)
+        missed, cost, _ = self.best_of_all(those, numbers(pair for pair in plan["pairs"] if not pair.get("past")))
+        worth = sum(case.pairs()[pair] if pair in case.pairs() else those.costs[pair] or 0 for pair in those.past)
+        self.assertEqual(plan["cost"], str(worth + (-cost if case.maximize else cost)))
+        self.assertEqual((status, bool(plan.get("short"))), (int(missed > 0), missed > 0))
+        return (*self.check_said(those, err), missed > 0)
+
+    def test_beside_all_plans(self):
+        draw, seen = random.Random(52), [0, 0, 0]
+        for number in range(CASES):
+            those = self.drawn(draw)
+            if those is not None:
+                with self.subTest(case=number):
+                    seen = list(map(sum, zip(seen, self.check(those))))
+        self.assertGreater(min(seen), 50)
 
     def week(self):
         for name in ("week.csv", "week_places.csv", "week_tasks.csv", "week_days.csv"):

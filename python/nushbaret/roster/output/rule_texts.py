@@ -53,11 +53,21 @@ def _cost_line(roster: Roster, plan: NamedPlan, proved: Proved, maximize: bool) 
     title += f" of {len(plan.pairs)} pairs" if proved.missing else ""
     if proved.kind == BEST:
         less = "has more" if maximize else "costs less"
-        others = "no plan that keeps the rules and misses no more" if proved.missing else "no plan that keeps the rules"
-        return f"{'greatest' if maximize else 'least'} {title}: {own}, proved: {others} {less}"
+        return f"{'greatest' if maximize else 'least'} {title}: {own}, proved: {_no_plan(proved)} {less}"
     if proved.better is None:
         return f"{title} {own}, nothing proved in {proved.seconds:g} s"
-    return f"{title} {own}, proved: no plan is more than {better_text(roster, proved)} better"
+    return f"{title} {own}, {_within(roster, proved, 'the rules')}"
+
+
+def _no_plan(proved: Proved, rules: str = "the rules") -> str:
+    """Which plans are meant; where least counts are missed those that miss more aren't."""
+    return f"no plan that keeps {rules}" + (" and misses no more" if proved.missing else "")
+
+
+def _within(roster: Roster, proved: Proved, rules: str) -> str:
+    """By how much a plan may be better at most."""
+    plan = _no_plan(proved, rules) if proved.missing else "no plan"
+    return f"proved: {plan} is more than {better_text(roster, proved)} better"
 
 
 def better_text(roster: Roster, proved: Proved) -> str:
@@ -71,7 +81,7 @@ def even_lines(roster: Roster, proved: Proved, maximize: bool) -> List[str]:
     lines = [f"{even.sentence}: {even.least}" + (f" to {even.most}" if even.most > even.least else " each")
              for even in proved.even]
     if any(even.most - even.least > 1 for even in proved.even):
-        lines.append("proved: no plan that keeps the rules is more even" if proved.is_most_even
+        lines.append(f"proved: {_no_plan(proved)} is more even" if proved.is_most_even
                      else "a more even plan may exist")
     other = proved.otherwise
     if other is not None and proved.otherwise_cost is not None:
@@ -82,9 +92,9 @@ def even_lines(roster: Roster, proved: Proved, maximize: bool) -> List[str]:
 
 def _otherwise(roster: Roster, cost: str, other: Proved, maximize: bool) -> str:
     if other.kind == BEST:
-        return (f"{'greatest' if maximize else 'least'} {cost}, proved: no plan that keeps the other rules "
+        return (f"{'greatest' if maximize else 'least'} {cost}, proved: {_no_plan(other, 'the other rules')} "
                 f"{'has more' if maximize else 'costs less'}")
-    return cost if other.better is None else f"{cost}, proved: no plan is more than {better_text(roster, other)} better"
+    return cost if other.better is None else f"{cost}, {_within(roster, other, 'the other rules')}"
 
 
 def as_content(roster: Roster, proved: Proved) -> Content:
