@@ -276,12 +276,39 @@ class Forms(unittest.TestCase):
         self.assertEqual(nushbaret.check(frame, ["late", "night"], [0, 0, 0], missing="forbid").why,
                          "row Ben may not have column night")
         self.assertEqual(nushbaret.compare(frame, ["early", "late"], missing="forbid").worse, 4)
+        for judge in lambda *plan, **rows: nushbaret.check(frame, *plan, result.prices, **rows, missing="forbid"), \
+                lambda *plan, **rows: nushbaret.compare(frame, *plan, **rows, missing="forbid"):
+            for plan, rows, words in ((["noon", "early"], {}, r"columns\[0\]: the frame has no label 'noon'"),
+                                      (["late", ["early"]], {}, r"columns\[1\]: the frame has no label \['early'\]"),
+                                      (["late", "early"], {"rows": ["Ada", "Cleo"]}, r"rows\[1\]: .* no label 'Cleo'")):
+                with self.assertRaisesRegex(ValueError, words):
+                    judge(plan, **rows)
         frame.loc["Ben"] = [None, 3, None]
         frame.loc["Cleo"] = [None, 1, None]
         with self.assertRaisesRegex(nushbaret.Infeasible, "rows Ben, Cleo may have column late only") as caught:
             nushbaret.solve(frame, missing="forbid")
         self.assertEqual(caught.exception.rows.tolist(), [1, 2])
         self.assertEqual(str(pickle.loads(pickle.dumps(caught.exception))), str(caught.exception))
+
+    @unittest.skipUnless(pd, "pandas isn't there")
+    def test_labels_that_come_twice(self):
+        """Nobody knows which one is meant."""
+        frame = pd.DataFrame([[4, 1], [2, 3]], index=["Ada", "Ada"], columns=["early", "early"])
+        result = nushbaret.solve(frame)
+        for call in (lambda: nushbaret.check(frame, ["early", "early"], result.prices),
+                     lambda: nushbaret.compare(frame, ["early", "early"]),
+                     lambda: nushbaret.check(frame, [1, 0], result.prices, rows=["Ada", "Ada"]),
+                     lambda: result.without("Ada", 0), lambda: result.without(0, "early")):
+            with self.assertRaisesRegex(ValueError, "the frame has the label '(early|Ada)' several times"):
+                call()
+        self.assertTrue(nushbaret.check(frame, [1, 0], result.prices))
+        self.assertEqual(result.without(0, 1).cost, 7)
+
+    @unittest.skipUnless(pd, "pandas isn't there")
+    def test_dates_as_labels(self):
+        frame = pd.DataFrame([[4, 1], [2, 3]], columns=pd.date_range("2026-05-01", periods=2))
+        for dates in frame.columns, frame.columns.to_numpy(), frame.columns.to_pydatetime():
+            self.assertEqual(nushbaret.compare(frame, list(dates)).worse, 4)
 
     @unittest.skipUnless(pd, "pandas isn't there")
     def test_numbers_in_frames(self):
