@@ -5,7 +5,7 @@ from typing import Any, List, NamedTuple, Optional, Set
 
 from ..costs import kinds, printing, reading
 from ..costs.limits import GREATEST_COST, MOST_PERSONS
-from ..costs.problem import AssignmentProblem, rows_of_any
+from ..costs.problem import AssignmentProblem, judge_row, row_in_list, rows_of_any
 from ..costs.source import Source
 from ..lap import doubles, library, proved
 from .results import Result
@@ -15,6 +15,7 @@ from .solve import solve
 _MOST_WHOLE = 2**53
 # From so many costs on an array is worth making.
 _FEW = 32
+_AS_PRINTED = reading.Manner(False)
 
 
 class Assigner:
@@ -55,9 +56,9 @@ class Assigner:
     def update(self, row: int, costs: Any) -> None:
         """Gives a row, counted from 0, other costs.
 
-        IndexError where there is no row of this number, ValueError where there aren't as many costs as columns. What is
-        wrong with a cost is raised by `result`. An earlier result keeps its plan and cost; what reads its costs again
-        raises ValueError.
+        IndexError where there is no row of this number, ValueError where there aren't as many costs as columns,
+        TypeError where they are no list. What is wrong with a cost is raised by `result`. An earlier result keeps its
+        plan and cost; what reads its costs again raises ValueError.
 
         >>> import nushbaret
         >>> assigner = nushbaret.Assigner([[4, 1], [2, 3]])
@@ -68,6 +69,7 @@ class Assigner:
         row = reading.whole_number(row, "row")
         if not 0 <= row < len(self._costs):
             raise IndexError(f"row {row}: there are {len(self._costs)} rows")
+        costs = row_of_any(costs, row)
         if len(costs) != len(self._costs[row]):
             raise ValueError(f"row {row} has {len(self._costs[row])} costs, and {len(costs)} were given")
         self._write(row, costs)
@@ -79,7 +81,7 @@ class Assigner:
     def _write(self, row: int, costs: Any) -> None:
         """Gives the copy this row. An array of numbers that can't hold others becomes one of objects."""
         if not hasattr(self._costs, "dtype"):
-            self._costs[row] = list(printing.of_buffer(costs))
+            self._costs[row] = list(row_in_list(costs, _AS_PRINTED))
             return
         numpy = reading.numpy_of(self._costs)
         kind = None if len(set(map(type, costs))) == 1 else object
@@ -154,11 +156,20 @@ class Assigner:
         return proved.ResultParts(shape, answer, numpy.arange(n), chosen, own, True)
 
 
+def row_of_any(costs: Any, row: int) -> Any:
+    """A row's costs, which can be read twice; TypeError or ValueError where they are no row."""
+    judge_row(costs, row, _AS_PRINTED)
+    try:
+        return costs if hasattr(costs, "__len__") else list(costs)
+    except TypeError:
+        raise TypeError(f"row {row} is {costs!r}: it must be a list of costs") from None
+
+
 def copied(costs: Any) -> Any:
     """A matrix as an array, or as a list of lists, that the caller can't change."""
     numpy = reading.numpy_of(costs)
     if numpy is None:
-        return [list(row) for row in rows_of_any(costs, reading.Manner(False))]
+        return [list(row) for row in rows_of_any(costs, _AS_PRINTED)]
     return as_printed(numpy, numpy.array(costs, subok=isinstance(costs, numpy.ma.MaskedArray)))
 
 

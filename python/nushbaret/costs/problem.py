@@ -131,16 +131,33 @@ def rows_of_any(costs: Any, manner: exact.Manner) -> List[Any]:
     if isinstance(costs, (dict, set, frozenset)) or isinstance(costs, str) and not costs:
         raise ValueError(f"expected a matrix (2-D array), got a {type(costs).__name__}")
     try:
-        rows = [row if hasattr(row, "__len__") else list(row) for row in costs]
+        rows = [row if hasattr(row, "__len__") and getattr(row, "ndim", 1) != 0 else list(row) for row in costs]
     except TypeError:
         raise ValueError("expected a matrix (2-D array)") from None
     for place, row in enumerate(rows):
-        if isinstance(row, (str, bytes)):
-            raise (ValueError if manner.doubles
-                   else TypeError)(f"Cannot cast array data: row {place} is the text {row!r}")
-        if isinstance(row, (dict, set, frozenset)):
-            raise TypeError(f"Cannot cast array data: row {place} is a {type(row).__name__}, which has no order")
-    return rows if manner.doubles else list(map(printing.of_buffer, rows))
+        judge_row(row, place, manner)
+    return [row_in_list(row, manner) for row in rows]
+
+
+def judge_row(row: Any, place: int, manner: exact.Manner) -> None:
+    """Refuses what is no row of a matrix."""
+    if isinstance(row, (str, bytes)):
+        raise (ValueError if manner.doubles else TypeError)(f"Cannot cast array data: row {place} is the text {row!r}")
+    if isinstance(row, (dict, set, frozenset)):
+        raise TypeError(f"Cannot cast array data: row {place} is a {type(row).__name__}, which has no order")
+    if getattr(row, "ndim", 1) != 1:
+        raise ValueError(f"expected a matrix (2-D array): row {place} has {row.ndim} dimensions")
+
+
+def row_in_list(row: Any, manner: exact.Manner) -> Any:
+    """A row of NumPy's as a list of Python's numbers, where it has no mask and these are the same; any other one as it
+    is, but floats of fewer bits as what they print as."""
+    numpy = exact.loaded_numpy()
+    if numpy is None or type(row) is not numpy.ndarray or row.dtype.kind not in "biuf" or row.dtype.itemsize > 8:
+        return row if manner.doubles else printing.of_buffer(row)
+    if row.dtype.kind == "f" and row.dtype.itemsize < 8 and not manner.doubles:
+        row = printing.of_array(numpy, row)
+    return row.tolist()
 
 
 def _rows_of(costs: Any, manner: exact.Manner) -> Tuple[List[Any], int]:

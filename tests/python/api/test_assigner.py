@@ -164,6 +164,12 @@ class Rows(unittest.TestCase):
             changed.update(1, np.ma.array([2**60, 1], mask=True))
             with self.assertRaisesRegex(ValueError, "-- \\(masked\\) at row 1, column 0"):
                 changed.result
+            changed = nushbaret.Assigner([[4, 1], [2, 3]])
+            changed.update(0, masked[0])
+            with self.assertRaisesRegex(ValueError, "-- \\(masked\\) at row 0, column 1$"):
+                changed.result
+            changed.update(0, plain[0])
+            self.assertEqual(changed.result.cost, 3)
 
     def test_no_matrices(self):
         for wrong in 5, [1, 2], {(1, 2): 3, (3, 4): 5}, [b"ab", b"cd"], [{1: 2, 3: 4}, [5, 6]]:
@@ -172,6 +178,32 @@ class Rows(unittest.TestCase):
             with self.assertRaises((ValueError, TypeError)) as seen:
                 nushbaret.Assigner(wrong)
             self.assertEqual(str(seen.exception), str(wanted.exception))
+
+    def test_no_rows(self):
+        wrong = [(5, TypeError, "row 1 is 5: it must be a list of costs"), (None, TypeError, "row 1 is None"),
+                 ({1, 2}, TypeError, "row 1 is a set, which has no order"),
+                 ({0: 3, 1: 5}, TypeError, "row 1 is a dict, which has no order"),
+                 ("ab", TypeError, "row 1 is the text 'ab'")]
+        if np:
+            wrong += [(np.eye(2), ValueError, "row 1 has 2 dimensions"), (np.array(5), ValueError, "row 1 has 0 dimen")]
+        for form in [[[1, 2], [3, 5]]] + ([np.array([[1, 2], [3, 5]])] if np else []):
+            assigner = nushbaret.Assigner(form)
+            for costs, fault, words in wrong:
+                with self.assertRaisesRegex(fault, words):
+                    assigner.update(1, costs)
+                self.assertEqual(assigner.result.cost, 5)
+            assigner.update(1, (cost for cost in (0, 5)))
+            self.assertEqual(assigner.result.cost, 2)
+
+    @unittest.skipUnless(np, "NumPy isn't there")
+    def test_rows_of_numpys_in_lists(self):
+        """An Assigner of lists begins at the last plan too where it gets arrays."""
+        assigner = nushbaret.Assigner(list(np.array([[0.5, 0.25], [1, 2]])))
+        with mock.patch.object(_assigner, "solve", side_effect=AssertionError):
+            self.assertEqual(assigner.result.cost, Decimal("1.25"))
+            for row in [0.125, 1], [0.1, 1]:
+                assigner.update(1, np.array(row))
+                self.assertEqual(assigner.result.cost, Decimal(str(row[0])) + Decimal("0.25"))
 
     def test_refusals(self):
         assigner = nushbaret.Assigner([[1, 2], [3, 5]])
