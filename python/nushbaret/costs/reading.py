@@ -166,9 +166,11 @@ class _NumberReader:
             return self._whole(int(value))
         if kind != "f":
             return self._refuse(place, repr(value)) if kind == "c" else self._of_any(place, value)
-        if self.manner.doubles or not -math.inf < value < math.inf:
+        if not -math.inf < value < math.inf:
             return self.number(place, float(value))
-        return printing.of_scalar(value)
+        if not self.manner.doubles:
+            return printing.of_scalar(value)
+        return float(value) if value.dtype.itemsize <= 8 else Fraction(*value.as_integer_ratio())
 
     def _held(self, place: int, value: Any) -> Any:
         """What an array of no dimension holds, unless a mask covers it."""
