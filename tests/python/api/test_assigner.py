@@ -9,7 +9,7 @@ from unittest import mock
 import nushbaret
 from nushbaret.api import assigner as _assigner
 from drawn import best, drawing, exactly, proves
-from optional import np
+from optional import np, pd, sparse
 from ways import extension, longer_call
 
 
@@ -178,6 +178,36 @@ class Rows(unittest.TestCase):
             with self.assertRaises((ValueError, TypeError)) as seen:
                 nushbaret.Assigner(wrong)
             self.assertEqual(str(seen.exception), str(wanted.exception))
+
+    @unittest.skipUnless(pd, "pandas isn't there")
+    def test_frames(self):
+        """Columns of several kinds are exact, and results have the labels."""
+        frames = (pd.DataFrame({"early": [2**60 + 1, 2**60], "late": [0.5, 0.25]}, index=["Ada", "Ben"]),
+                  pd.DataFrame({"early": np.array([0.1, 0.2], "f4"), "late": [0.5, 0.25]}, index=["Ada", "Ben"]),
+                  pd.DataFrame({"early": pd.array([1, 2], "Int64"), "late": [1, 3]}, index=["Ada", "Ben"]),
+                  pd.DataFrame([[0.1, 5], [0.25, 9]], index=["Ada", "Ben"], columns=["early", "late"]))
+        for frame, cost in zip(frames, (Decimal("1152921504606846976.5"), Decimal("0.35"), 3, Decimal("5.25"))):
+            assigner, before = nushbaret.Assigner(frame), frame.copy()
+            self.assertEqual((assigner.result.cost, assigner.result.verify().why), (cost, ""))
+            self.assertEqual([row for row, _ in assigner.result.pairs], ["Ada", "Ben"])
+            assigner.update(0, np.ma.array([1, 2], mask=[False, True]))
+            with self.assertRaisesRegex(ValueError, r"-- \(masked\)"):
+                assigner.result
+            # By labels, whatever their order is.
+            assigner.update(1, pd.Series({"late": 0.125, "early": 9}))
+            assigner.update(0, {"late": 9, "early": 1})
+            self.assertEqual((assigner.result.cost, assigner.result.pairs),
+                             (Decimal("1.125"), [("Ada", "early"), ("Ben", "late")]))
+            self.assertEqual(assigner.result.without("Ada", "early").cost, 18)
+            with self.assertRaisesRegex(ValueError, "row 1 has 'night', which is no column"):
+                assigner.update(1, pd.Series({"late": 3, "night": 5}))
+            pd.testing.assert_frame_equal(frame, before)
+
+    @unittest.skipUnless(sparse, "SciPy isn't there")
+    def test_sparse_matrices(self):
+        for kind in "csr", "csc", "coo", "lil", "dok", "bsr", "dia":
+            with self.assertRaisesRegex(ValueError, "expected a matrix .*, got a sparse one"):
+                nushbaret.Assigner(sparse.eye(2, format=kind))
 
     def test_no_rows(self):
         wrong = [(5, TypeError, "row 1 is 5: it must be a list of costs"), (None, TypeError, "row 1 is None"),
