@@ -22,6 +22,11 @@ def _is_of_pandas(value: Any, kind: str) -> bool:
     return pandas is not None and isinstance(value, getattr(pandas, kind, ()))
 
 
+def _is_bool(value: Any) -> bool:
+    """Whether this is a bool, also one of NumPy's: as a label it is no number."""
+    return isinstance(value, bool) or getattr(getattr(value, "dtype", None), "kind", "") == "b"
+
+
 class Numbers:
     """The numbers of rows or columns that the caller gives one by one: a whole number is one, anything else a label of
     the frame. `fault` is raised where the frame hasn't this label, and ValueError where it has it several times."""
@@ -33,7 +38,7 @@ class Numbers:
 
     def of(self, value: Any, name: str) -> int:
         """The number of a row or column; `name` is what the caller calls it."""
-        if self.labels is None or hasattr(value, "__index__"):
+        if self.labels is None or hasattr(value, "__index__") and not _is_bool(value):
             return whole_number(value, name)
         number = self._number(value)
         if number is None:
@@ -79,6 +84,9 @@ def _by_names(values: Any, what: str, kind: str, names: Sequence[Any]) -> List[A
             raise ValueError(f"{what} has {name!r} twice")
         held[name] = value
     known = set(names)
+    if len(known) < len(names):
+        several = next(name for place, name in enumerate(names) if name in names[:place])
+        raise ValueError(f"{what} is by names, and the frame has the {kind} {several!r} several times: give a list")
     unknown = [name for name in held if name not in known]
     if unknown:
         raise ValueError(f"{what} has {unknown[0]!r}, which is no {kind}")

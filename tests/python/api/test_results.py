@@ -303,6 +303,22 @@ class Forms(unittest.TestCase):
                 call()
         self.assertTrue(nushbaret.check(frame, [1, 0], result.prices))
         self.assertEqual(result.without(0, 1).cost, 7)
+        for call, word in ((lambda: nushbaret.check(frame, {"Ada": 1}, result.prices), "columns"),
+                           (lambda: nushbaret.check(frame, [1, 0], {"early": 0}), "prices"),
+                           (lambda: nushbaret.solve(frame, start={"early": 0}), "start"),
+                           (lambda: nushbaret.assign_counts(frame, {"Ada": 1}), "row_counts"),
+                           (lambda: nushbaret.assign_counts(frame, 1, {"early": 1}), "column_counts")):
+            with self.assertRaisesRegex(ValueError, f"{word} is by names, and the frame has the .* several times"):
+                call()
+
+    @unittest.skipUnless(pd, "pandas isn't there")
+    def test_bools_as_labels(self):
+        frame = pd.DataFrame([[4, 1], [2, 3]], index=[True, False], columns=[True, False])
+        result = nushbaret.solve(frame)
+        self.assertEqual(result.pairs, [(True, False), (False, True)])
+        for columns in [False, True], np.array([False, True]):
+            self.assertTrue(nushbaret.check(frame, columns, result.prices))
+        self.assertEqual(nushbaret.solve(frame + np.array([[0, 0], [0, -9]])).without(False, False).cost, 3)
 
     @unittest.skipUnless(pd, "pandas isn't there")
     def test_dates_as_labels(self):
