@@ -502,12 +502,35 @@ def _is_less(problem: AssignmentProblem, place: int, other: int) -> bool:
 
 def of_sparse_matrix(matrix: Any, manner: exact.Manner) -> AssignmentProblem:
     """The problem of a sparse matrix of SciPy's, whose stored entries are its pairs, also those that are 0."""
+    if getattr(matrix, "format", "") in ("bsr", "dia"):
+        _judge_zeros(matrix)
     once = getattr(matrix, "has_canonical_format", False)
     entries = matrix.tocoo(copy=not once)
     if not once:
         entries.sum_duplicates()
     n_rows, n_columns = matrix.shape
     return of_pairs(n_rows, n_columns, entries.row, entries.col, entries.data, manner)
+
+
+def _judge_zeros(matrix: Any) -> None:
+    """Refuses a 0 in a stored block or diagonal: it may be a cost, or stand where there is no pair."""
+    for row, column in _zeros_of_blocks(matrix) if matrix.format == "bsr" else _zeros_of_diagonals(matrix):
+        raise ValueError(f"the sparse matrix has 0 at row {row}, column {column}, which may be a cost, or no pair as "
+                         f"its format {matrix.format} fills up with 0: give listed pairs, or leave each 0 out by "
+                         "tocsr() and eliminate_zeros()")
+
+
+def _zeros_of_blocks(matrix: Any) -> Iterable[Tuple[int, int]]:
+    entries = matrix.tocoo(copy=False)
+    return zip(entries.row[entries.data == 0].tolist(), entries.col[entries.data == 0].tolist())
+
+
+def _zeros_of_diagonals(matrix: Any) -> Iterable[Tuple[int, int]]:
+    n_rows, n_columns = matrix.shape
+    for offset, costs in zip(matrix.offsets.tolist(), matrix.data):
+        begin = max(0, offset)
+        for place in (costs[begin:min(n_columns, n_rows + offset)] == 0).nonzero()[0].tolist():
+            yield begin + place - offset, begin + place
 
 
 def of_whole_numbers(n_rows: int, n_columns: int, rows: Sequence[int], columns: Sequence[int],

@@ -240,6 +240,28 @@ class BesideScipy(unittest.TestCase):
             self.assertEqual(nushbaret.solve_sparse(form).cost, 12)
         self.assertEqual((twice.nnz, twice.data.tolist()), (3, [3, 4, 5]))
 
+    def test_blocks_and_diagonals(self):
+        """A 0 in a stored block or on a diagonal may be a cost, or fill where there is no pair."""
+        blocks = sparse.csr_matrix(np.array([[1, 2, 0, 0], [3, 5, 0, 0], [0, 0, 4, 7], [0, 0, 6, 0]])).tobsr((2, 2))
+        with self.assertRaisesRegex(ValueError, "has 0 at row 3, column 3, which may be a cost, or no pair .* bsr fill"):
+            nushbaret.solve(blocks)
+        self.assertEqual(nushbaret.solve(blocks + sparse.eye(4).tobsr((2, 2))).cost, 5 + 6)
+        without = blocks.tocsr()
+        without.eliminate_zeros()
+        self.assertEqual(nushbaret.solve(without).cost, 5 + 13)
+        full = np.array([[2, 1, 0, 0], [3, 4, 1, 0], [0, 5, 2, 6]])
+        for form in full, full[:, :3], full.T:
+            matrix = sparse.dia_matrix(form)
+            self.assertEqual(nushbaret.solve(matrix).cost, nushbaret.solve(matrix.tocsr()).cost)
+        for data, offset, row, column in ([0, 1, 2], 0, 0, 0), ([9, 1, 0], 1, 1, 2), ([1, 0, 9], -1, 2, 1):
+            matrix = sparse.dia_matrix(([data], [offset]), (3, 3))
+            for call in nushbaret.solve, nushbaret.solve_sparse, nushbaret.bottleneck:
+                with self.assertRaisesRegex(ValueError, f"has 0 at row {row}, column {column}, which may be .* dia fi"):
+                    call(matrix)
+        # What is beyond the matrix counts for nothing.
+        self.assertEqual(nushbaret.solve(sparse.dia_matrix(([[3, 1, 0]], [0]), (2, 2))).cost, 4)
+        self.assertEqual(nushbaret.solve(sparse.dia_matrix(([[0, 1, 2]], [1]), (2, 3))).cost, 3)
+
 
 if __name__ == "__main__":
     unittest.main()
