@@ -334,6 +334,24 @@ class Forms(unittest.TestCase):
             self.assertEqual(str(nushbaret.solve(costs).to_frame()["cost"].dtype), kind)
         self.assertEqual(nushbaret.solve([[0.1, 1], [1, 0.3]]).to_frame()["cost"].tolist(), [0.1, 0.3])
 
+    def test_plans_of_changed_costs(self):
+        """Where the plan is still best, what reads the costs again is right for them as they are now."""
+        for before, after, unique, next_cost in (([[1], [2]], [[1], [1]], False, 1), ([[1], [3]], [[1], [2]], True, 2),
+                                                 ([[0.1], [0.2]], [[0.1], [0.1]], False, Decimal("0.1")),
+                                                 ([[2.5], [1.0]], [[2.0], [1.0]], True, 2),
+                                                 ([[-1.0, 2.5]], [[-1.0, 2.0]], True, 2)):
+            for form in [before] + ([np.array(before)] if np else []):
+                costs = form.copy() if form is not before else [list(row) for row in before]
+                result = nushbaret.solve(costs)
+                for place, row in enumerate(after):
+                    costs[place][:] = row
+                try:
+                    self.assertEqual((result.is_unique, result.next_best().cost), (unique, next_cost), (before, after))
+                except ValueError as fault:
+                    self.assertIn("the costs were changed after the call", str(fault))
+                    self.assertEqual(before, [[-1.0, 2.5]])
+                self.assertEqual(sum(result.row_duals) + sum(result.column_duals), result.cost)
+
     def test_words(self):
         for call, words in ((lambda: nushbaret.solve([[None]]), "row 0 may have no column$"),
                             (lambda: nushbaret.solve([["a"]]), "row 0, column 0 is 'a', which is no number"),
