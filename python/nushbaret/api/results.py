@@ -50,7 +50,7 @@ class Result(Lasting):
     Row `rows[k]` has column `columns[k]`; numbers are from 0, and rows rise. They are NumPy arrays if the costs are
     one, and lists otherwise. A result can be pickled and copied, and its attributes can't be set. It keeps no copy of
     the costs: where it needs them again, it reads those of the call, and raises ValueError where they were changed so
-    that the plan is no longer best.
+    that its duals no longer prove the plan best.
 
     >>> import nushbaret
     >>> result = nushbaret.solve([[4, 1, 3], [2, 0, 5], [3, 2, 2]])
@@ -232,8 +232,8 @@ class Result(Lasting):
         IndexError
             If the row or the column isn't one of the problem.
         ValueError
-            If the costs were changed after the call, so that the plan is no longer best, or if the frame has the label
-            several times.
+            If the costs were changed after the call, so that the duals no longer prove the plan best, or if the frame
+            has the label several times.
 
         >>> import nushbaret
         >>> nushbaret.solve([[4, 1], [2, 3]]).without(0, 1).cost

@@ -14,8 +14,7 @@ from ..lap.paths import Subproblem
 from ..lap.ranking import Ranking
 from ..lap.solving import Outcome, solved
 
-CHANGED = ("the costs were changed after the call, and the plan and its duals are no longer best for them: solve them "
-           "again")
+CHANGED = "the costs were changed after the call, and the plan's duals no longer prove it best: solve them again"
 
 
 def result_parts(problem: AssignmentProblem, answer: proved.Assignment) -> proved.ResultParts:

@@ -51,7 +51,7 @@ class Ranking:
                                 [of_duals * dual for dual in column_duals], 0, NOBODY)
 
     def has_duals(self) -> bool:
-        """Whether the duals are exact: no pair, nor staying out, has a reduced cost below 0."""
+        """Whether the duals are exact: no reduced cost is below 0, also that of staying out."""
         rows, columns = self.whole.row_duals, self.whole.column_duals
         return all(cost >= dual + columns[column] for row, dual in enumerate(rows)
                    for column, cost in self.paths.choices(row))
