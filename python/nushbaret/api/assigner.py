@@ -6,7 +6,7 @@ from typing import Any, List, NamedTuple, Optional, Set
 
 from ..costs import kinds, naming, printing, reading
 from ..costs.limits import GREATEST_COST, MOST_PERSONS
-from ..costs.problem import AssignmentProblem, Labels, judge_row, row_in_list, rows_of_any
+from ..costs.problem import AssignmentProblem, Labels, judge_row, row_in_list, rows_of_any, rows_of_view
 from ..costs.source import Source
 from ..lap import doubles, library, proved
 from .results import Result
@@ -187,7 +187,8 @@ def copied(costs: Any) -> Any:
     if numpy is None:
         if hasattr(costs, "tocsr"):
             raise ValueError("expected a matrix (2-D array), got a sparse one: an Assigner takes lists and arrays")
-        return [list(row) for row in rows_of_any(costs, _AS_PRINTED)]
+        held = rows_of_view if isinstance(costs, memoryview) else rows_of_any
+        return [list(row) for row in held(costs, _AS_PRINTED)]
     if naming.is_frame(costs):
         costs = reading.array_of_frame(numpy, costs, _AS_PRINTED)
     return as_printed(numpy, numpy.array(costs, subok=isinstance(costs, numpy.ma.MaskedArray)))

@@ -188,23 +188,37 @@ def native(view: memoryview) -> memoryview:
 
 
 def _of_view(view: memoryview, manner: exact.Manner) -> AssignmentProblem:
-    """Of a memoryview of two dimensions: borrowed if it has the library's own kind of numbers."""
-    if view.ndim != 2:
-        raise ValueError(f"expected a matrix (2-D array), got a {view.ndim} array")
-    n_rows, n_columns = view.shape or (0, 0)
+    """Of a memoryview: borrowed if it has the library's own kind of numbers."""
+    n_rows, n_columns = _shape_of(view)
     _judge_size(n_rows, n_columns)
     view = native(view)
     kind = view.format
     own = kind in ("q", "l") and view.itemsize == 8 and view.c_contiguous and not view.readonly
     if own and not manner.decimals and view.nbytes:
         return AssignmentProblem(n_rows, n_columns, manner.maximize, WholeNumbers(BorrowedNumbers(view)))
+    rows = rows_of_view(view, manner)
+    return _dense(n_rows, n_columns, manner, exact.of_rows(rows, n_columns, manner, _place_in(n_columns, None)))
+
+
+def _shape_of(view: memoryview) -> Tuple[int, int]:
+    if view.ndim != 2:
+        raise ValueError(f"expected a matrix (2-D array), got a {view.ndim} array")
+    n_rows, n_columns = view.shape or (0, 0)
+    return n_rows, n_columns
+
+
+def rows_of_view(view: memoryview, manner: exact.Manner) -> Any:
+    """The rows of a memoryview as lists."""
+    _shape_of(view)
+    view = native(view)
+    kind = view.format
     try:
         rows: Any = view.tolist()
     except NotImplementedError:
         raise TypeError(f"Cannot cast array data: Python doesn't read a buffer of the format {kind!r}") from None
     if kind in ("e", "f") and not manner.doubles:
         rows = [[printing.shortest(cost, kind) for cost in row] for row in rows]
-    return _dense(n_rows, n_columns, manner, exact.of_rows(rows, n_columns, manner, _place_in(n_columns, None)))
+    return rows
 
 
 def _of_array(numpy: Any, costs: Any, manner: exact.Manner, labels: Labels) -> AssignmentProblem:

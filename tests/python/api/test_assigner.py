@@ -203,6 +203,18 @@ class Rows(unittest.TestCase):
                 assigner.update(1, pd.Series({"late": 3, "night": 5}))
             pd.testing.assert_frame_equal(frame, before)
 
+    def test_buffers(self):
+        for kind in "d", "f", "q", "i":
+            held = memoryview(array(kind, [1, 2, 3, 5]))
+            assigner = nushbaret.Assigner(held.cast("B").cast(kind, (2, 2)))
+            self.assertEqual(assigner.result.cost, 5)
+            assigner.update(1, held[:2])
+            self.assertEqual(assigner.result.cost, 3)
+            with self.assertRaisesRegex(ValueError, r"expected a matrix \(2-D array\), got a 1 array"):
+                nushbaret.Assigner(held)
+        self.assertEqual(nushbaret.Assigner(memoryview(array("f", [0.1])).cast("B").cast("f", (1, 1))).result.cost,
+                         Decimal("0.1"))
+
     @unittest.skipUnless(sparse, "SciPy isn't there")
     def test_sparse_matrices(self):
         for kind in "csr", "csc", "coo", "lil", "dok", "bsr", "dia":
