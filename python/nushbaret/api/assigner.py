@@ -1,6 +1,5 @@
 """A problem whose rows change one after the other: the plan and the prices of before are where the next search
 begins."""
-import sys
 from array import array
 from typing import Any, List, NamedTuple, Optional, Set
 
@@ -125,8 +124,8 @@ class Assigner:
         """The costs as they are now, in a frame where the first ones were in one, unless a mask covers some."""
         if self._labels is None or hasattr(self._costs, "mask") and self._costs.mask.any():
             return self._costs
-        numpy = reading.numpy_of(self._costs)
-        return sys.modules["pandas"].DataFrame(self._costs.view(numpy.ndarray), *self._labels, copy=False)
+        import pandas  # type: ignore
+        return pandas.DataFrame(self._costs.view(reading.numpy_of(self._costs).ndarray), *self._labels, copy=False)
 
     def _found(self, numbers: "SquareCosts") -> Optional[proved.ResultParts]:
         """What a result is made of, from the state of before; None where this way finds nothing that is sure to be

@@ -34,7 +34,8 @@ class Numbers:
     def __init__(self, labels: Optional[List[Any]], fault: Type[Exception]):
         self.labels, self.fault = labels, fault
         self.known: Dict[Any, int] = {}
-        self.several = {label for place, label in enumerate(labels or ()) if self.known.setdefault(label, place) < place}
+        self.several = {label for place, label in enumerate(labels or ())
+                        if self.known.setdefault(label, place) < place}
 
     def of(self, value: Any, name: str) -> int:
         """The number of a row or column; `name` is what the caller calls it."""

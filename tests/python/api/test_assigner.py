@@ -1,5 +1,9 @@
 """A matrix whose rows change: after each change the cost is that of a fresh solve, compared with a slow search too."""
 import math
+import os
+import pickle
+import subprocess
+import sys
 import unittest
 from array import array
 from decimal import Decimal
@@ -202,6 +206,16 @@ class Rows(unittest.TestCase):
             with self.assertRaisesRegex(ValueError, "row 1 has 'night', which is no column"):
                 assigner.update(1, pd.Series({"late": 3, "night": 5}))
             pd.testing.assert_frame_equal(frame, before)
+
+    @unittest.skipUnless(pd, "pandas isn't there")
+    def test_frames_in_another_process(self):
+        """An Assigner of a frame loads pandas where nobody has."""
+        assigner = nushbaret.Assigner(pd.DataFrame([[4, 1], [2, 3]], index=["Ada", "Ben"], columns=["early", "late"]))
+        code = "import pickle, sys; print(pickle.load(sys.stdin.buffer).result.pairs)"
+        top = os.path.dirname(os.path.dirname(nushbaret.__file__))
+        ran = subprocess.run([sys.executable, "-c", code], input=pickle.dumps(assigner), capture_output=True,
+                             check=True, env={**os.environ, "PYTHONPATH": top})
+        self.assertEqual(ran.stdout.decode().strip(), "[('Ada', 'late'), ('Ben', 'early')]")
 
     def test_buffers(self):
         for kind in "d", "f", "q", "i":
