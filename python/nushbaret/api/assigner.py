@@ -3,9 +3,9 @@ begins."""
 from array import array
 from typing import Any, List, NamedTuple, Optional, Set
 
-from ..costs import kinds, printing, reading
+from ..costs import kinds, naming, printing, reading
 from ..costs.limits import GREATEST_COST, MOST_PERSONS
-from ..costs.problem import AssignmentProblem, rows_of_any
+from ..costs.problem import AssignmentProblem, Labels, judge_row, row_in_list, rows_of_any, rows_of_view
 from ..costs.source import Source
 from ..lap import doubles, library, proved
 from .results import Result
@@ -15,6 +15,7 @@ from .solve import solve
 _MOST_WHOLE = 2**53
 # From so many costs on an array is worth making.
 _FEW = 32
+_AS_PRINTED = reading.Manner(False)
 
 
 class Assigner:
@@ -31,7 +32,7 @@ class Assigner:
     Parameters
     ----------
     costs : matrix
-        A list of rows or a NumPy array, as `solve` takes it. It is copied.
+        A list of rows, a NumPy array or a DataFrame, as `solve` takes it. It is copied.
     maximize : bool, optional
         Whether to find the greatest sum, not the least.
 
@@ -44,8 +45,12 @@ class Assigner:
     ([0, 1, 2], 2)
     """
 
+    # Pickles of older releases have none.
+    _labels: Labels = None
+
     def __init__(self, costs: Any, maximize: bool = False):
         self._maximize = bool(maximize)
+        self._labels = (list(costs.index), list(costs.columns)) if naming.is_frame(costs) else None
         self._costs = copied(costs)
         self._changed: Set[int] = set()
         self._numbers: Optional[SquareCosts] = None
@@ -55,9 +60,11 @@ class Assigner:
     def update(self, row: int, costs: Any) -> None:
         """Gives a row, counted from 0, other costs.
 
-        IndexError where there is no row of this number, ValueError where there aren't as many costs as columns. What is
-        wrong with a cost is raised by `result`. An earlier result keeps its plan and cost; what reads its costs again
-        raises ValueError.
+        A Series gives a frame's row by the labels of its columns.
+
+        IndexError where there is no row of this number, ValueError where there aren't as many costs as columns,
+        TypeError where they are no list. What is wrong with a cost is raised by `result`. An earlier result keeps its
+        plan and cost; what reads its costs again raises ValueError.
 
         >>> import nushbaret
         >>> assigner = nushbaret.Assigner([[4, 1], [2, 3]])
@@ -68,6 +75,9 @@ class Assigner:
         row = reading.whole_number(row, "row")
         if not 0 <= row < len(self._costs):
             raise IndexError(f"row {row}: there are {len(self._costs)} rows")
+        if self._labels is not None and naming.is_named(costs):
+            costs = naming.listed(costs, f"row {row}", "column", len(self._labels[1]), self._labels[1])
+        costs = row_of_any(costs, row)
         if len(costs) != len(self._costs[row]):
             raise ValueError(f"row {row} has {len(self._costs[row])} costs, and {len(costs)} were given")
         self._write(row, costs)
@@ -79,7 +89,7 @@ class Assigner:
     def _write(self, row: int, costs: Any) -> None:
         """Gives the copy this row. An array of numbers that can't hold others becomes one of objects."""
         if not hasattr(self._costs, "dtype"):
-            self._costs[row] = list(printing.of_buffer(costs))
+            self._costs[row] = list(row_in_list(costs, _AS_PRINTED))
             return
         numpy = reading.numpy_of(self._costs)
         kind = None if len(set(map(type, costs))) == 1 else object
@@ -107,8 +117,15 @@ class Assigner:
         self._changed.clear()
         if found is None:
             self._state = None
-            return solve(self._costs, self._maximize)
-        return Result(Source(self._costs, None, None, None, reading.Manner(self._maximize)), found)
+            return solve(self._given(), self._maximize)
+        return Result(Source(self._given(), None, None, None, reading.Manner(self._maximize)), found)
+
+    def _given(self) -> Any:
+        """The costs as they are now, in a frame where the first ones were in one, unless a mask covers some."""
+        if self._labels is None or hasattr(self._costs, "mask") and self._costs.mask.any():
+            return self._costs
+        import pandas  # type: ignore
+        return pandas.DataFrame(self._costs.view(reading.numpy_of(self._costs).ndarray), *self._labels, copy=False)
 
     def _found(self, numbers: "SquareCosts") -> Optional[proved.ResultParts]:
         """What a result is made of, from the state of before; None where this way finds nothing that is sure to be
@@ -143,7 +160,7 @@ class Assigner:
 
     def _of(self, numbers: "SquareCosts", answer: proved.Assignment) -> proved.ResultParts:
         n, decimals, flat = numbers.n, numbers.decimals, numbers.flat
-        shape = AssignmentProblem(n, n, self._maximize, kinds.shape(decimals))
+        shape = AssignmentProblem(n, n, self._maximize, kinds.shape(decimals), labels=self._labels)
         own = [flat[place + item] for place, item in zip(range(-1, n * n - 1, n), answer.objects)]
         if not hasattr(self._costs, "dtype"):
             columns = [item - 1 for item in answer.objects]
@@ -154,11 +171,25 @@ class Assigner:
         return proved.ResultParts(shape, answer, numpy.arange(n), chosen, own, True)
 
 
+def row_of_any(costs: Any, row: int) -> Any:
+    """A row's costs, which can be read twice; TypeError or ValueError where they are no row."""
+    judge_row(costs, row, _AS_PRINTED)
+    try:
+        return costs if hasattr(costs, "__len__") else list(costs)
+    except TypeError:
+        raise TypeError(f"row {row} is {costs!r}: it must be a list of costs") from None
+
+
 def copied(costs: Any) -> Any:
     """A matrix as an array, or as a list of lists, that the caller can't change."""
     numpy = reading.numpy_of(costs)
     if numpy is None:
-        return [list(row) for row in rows_of_any(costs, reading.Manner(False))]
+        if hasattr(costs, "tocsr"):
+            raise ValueError("expected a matrix (2-D array), got a sparse one: an Assigner takes lists and arrays")
+        held = rows_of_view if isinstance(costs, memoryview) else rows_of_any
+        return [list(row) for row in held(costs, _AS_PRINTED)]
+    if naming.is_frame(costs):
+        costs = reading.array_of_frame(numpy, costs, _AS_PRINTED)
     return as_printed(numpy, numpy.array(costs, subok=isinstance(costs, numpy.ma.MaskedArray)))
 
 

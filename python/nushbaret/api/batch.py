@@ -1,5 +1,6 @@
 """SciPy's call by the short way, and many matrices of one shape in one call."""
-from typing import Any, List, Sequence, Tuple, overload
+from collections.abc import Mapping, Set
+from typing import Any, Iterator, List, Sequence, Tuple, overload
 
 from ..costs import reading
 from ..lap import direct
@@ -47,7 +48,7 @@ def linear_sum_assignment_batch(costs: Any, maximize: bool = False) -> Tuple[Any
     """
     numpy = reading.numpy_of(costs)
     if numpy is None:
-        pairs = [_one(matrix, maximize, place) for place, matrix in enumerate(costs)]
+        pairs = [_one(matrix, maximize, place) for place, matrix in enumerate(_matrices(costs))]
         return [rows for rows, _ in pairs], [columns for _, columns in pairs]
     costs = numpy.asanyarray(costs)
     if costs.ndim != 3:
@@ -59,6 +60,17 @@ def linear_sum_assignment_batch(costs: Any, maximize: bool = False) -> Tuple[Any
     for place in numpy.flatnonzero(rows[:, 0] < 0).tolist() if is_done else range(len(costs)):
         rows[place], columns[place] = _one(costs[place], maximize, place)
     return rows, columns
+
+
+def _matrices(costs: Any) -> Iterator[Any]:
+    """The matrices of a list."""
+    shown = type(costs).__name__
+    try:
+        if not isinstance(costs, (str, bytes, memoryview, Mapping, Set)):
+            return iter(costs)
+    except TypeError:
+        shown = "0 array"
+    raise ValueError(f"expected matrices (3-D array), got a {shown}")
 
 
 def _one(matrix: Any, maximize: bool, place: int) -> Tuple[Any, Any]:

@@ -8,7 +8,7 @@ from ..costs.problem import AssignmentProblem, costs_of_pairs
 from ..costs.source import Source
 from ..lap.checking import counted
 from ..lap.proved import read_prices
-from .results import Result, number_of
+from .results import Result
 from .solve import solve_problem
 from .solved import ratios_of, sum_of
 from .verdicts import Verdict, verdict_on
@@ -34,9 +34,10 @@ def _pairs_of(problem: AssignmentProblem, columns: Any, rows: Any) -> List[Tuple
     of_rows, of_columns = problem.labels or (None, None)
     if rows is None and isinstance(columns, Mapping):
         columns = naming.listed(columns, "columns", "row", problem.n_rows, of_rows)
-    columns = [None if column is None else number_of(column, of_columns, f"columns[{place}]")
+    row_numbers, column_numbers = naming.Numbers(of_rows, ValueError), naming.Numbers(of_columns, ValueError)
+    columns = [None if column is None else column_numbers.of(column, f"columns[{place}]")
                for place, column in enumerate(_listed(columns, "columns"))]
-    rows = range(len(columns)) if rows is None else [number_of(row, of_rows, f"rows[{place}]")
+    rows = range(len(columns)) if rows is None else [row_numbers.of(row, f"rows[{place}]")
                                                      for place, row in enumerate(_listed(rows, "rows"))]
     if len(rows) != len(columns):
         raise ValueError(f"there are {len(rows)} rows and {len(columns)} columns: a plan pairs them one by one")
@@ -90,8 +91,8 @@ def check(costs: Any, columns: Any, prices: Any, rows: Any = None, maximize: boo
     Raises
     ------
     ValueError, TypeError
-        As in `solve`, or if a number of the plan is none of the problem's, a row is in it twice, or there aren't as
-        many prices as columns.
+        As in `solve`, or if a number or a label of the plan is none of the problem's, a row is in it twice, or there
+        aren't as many prices as columns.
 
     Notes
     -----

@@ -2,9 +2,10 @@
 from functools import cached_property
 from typing import Any, Dict, List, NamedTuple, Optional, Tuple, Union
 
+from ..costs.naming import Numbers
 from ..costs.numbers import Number
 from ..costs.problem import AssignmentProblem, renewed
-from ..costs.reading import manner, whole_number
+from ..costs.reading import manner
 from ..costs.source import FixedProblem, Source, problem_of
 from ..lap import library, proved
 from ..lap.ranking import has_other
@@ -49,7 +50,7 @@ class Result(Lasting):
     Row `rows[k]` has column `columns[k]`; numbers are from 0, and rows rise. They are NumPy arrays if the costs are
     one, and lists otherwise. A result can be pickled and copied, and its attributes can't be set. It keeps no copy of
     the costs: where it needs them again, it reads those of the call, and raises ValueError where they were changed so
-    that the plan is no longer best.
+    that its duals no longer prove the plan best.
 
     >>> import nushbaret
     >>> result = nushbaret.solve([[4, 1, 3], [2, 0, 5], [3, 2, 2]])
@@ -231,7 +232,8 @@ class Result(Lasting):
         IndexError
             If the row or the column isn't one of the problem.
         ValueError
-            If the costs were changed after the call, so that the plan is no longer best.
+            If the costs were changed after the call, so that the duals no longer prove the plan best, or if the frame
+            has the label several times.
 
         >>> import nushbaret
         >>> nushbaret.solve([[4, 1], [2, 3]]).without(0, 1).cost
@@ -239,7 +241,7 @@ class Result(Lasting):
         """
         shape = self._shape
         rows, columns = shape.labels or (None, None)
-        row, column = number_of(row, rows, "row"), number_of(column, columns, "column")
+        row, column = Numbers(rows, IndexError).of(row, "row"), Numbers(columns, IndexError).of(column, "column")
         if not (0 <= row < shape.n_rows and 0 <= column < shape.n_columns):
             raise IndexError(f"row {row}, column {column}: there are {shape.n_rows} rows and {shape.n_columns} columns")
         with library.limited(timeout):
@@ -248,12 +250,3 @@ class Result(Lasting):
             raise infeasible(problem)
         return Result(source, result_parts(problem, answer))
 
-
-def number_of(value: Any, labels: Optional[List[Any]], name: str) -> int:
-    """The number of a row or column that the caller gave by a name: a whole number is one, anything else is a label."""
-    if labels is None or hasattr(value, "__index__"):
-        return whole_number(value, name)
-    try:
-        return labels.index(value)
-    except ValueError:
-        raise IndexError(f"{name}: the frame has no label {value!r}") from None

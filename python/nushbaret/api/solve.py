@@ -141,7 +141,7 @@ def solve_sparse(n_rows: Any, n_columns: Optional[int] = None, rows: Any = None,
     n_rows, n_columns : int
         How many rows and columns there are, 0 to 4194304 each. Or one sparse matrix of SciPy's instead of these and of
         the three lists; its stored entries are the pairs, also those that are 0. Entries of one place add up, as in
-        SciPy.
+        SciPy. A 0 in the formats bsr and dia is refused, since they fill up with 0.
     rows, columns, costs : lists or NumPy arrays of one length
         Row rows[k] may have column columns[k] at costs[k]; numbers from 0. A pair that is given several times counts
         once, at its least cost, also under maximize. Costs are as those of `solve`.

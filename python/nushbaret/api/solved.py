@@ -14,8 +14,7 @@ from ..lap.paths import Subproblem
 from ..lap.ranking import Ranking
 from ..lap.solving import Outcome, solved
 
-CHANGED = ("the costs were changed after the call, and the plan and its duals are no longer best for them: solve them "
-           "again")
+CHANGED = "the costs were changed after the call, and the plan's duals no longer prove it best: solve them again"
 
 
 def result_parts(problem: AssignmentProblem, answer: proved.Assignment) -> proved.ResultParts:
@@ -79,7 +78,8 @@ class SolvedProblem:
             prices, unit = self._exact_prices()
         elif self.pairs[0]:
             prices = proved.whole_prices(self.answer)
-        costs = [number * (unit.denominator // denominator) for number, denominator in self.ratios]
+        # A changed problem may have a greater unit than the costs had at the call.
+        costs = [number * unit.denominator // denominator for number, denominator in self.ratios]
         return proved.duals_of(self.shape, self.answer, prices, list(zip(*self.pairs)), costs), unit
 
     def _exact_prices(self) -> exact_duals.ExactPrices:
@@ -109,7 +109,17 @@ class SolvedProblem:
 
     def ranking(self, problem: Optional[AssignmentProblem] = None) -> Ranking:
         """The plans of the problem, from this one on. Without a problem it is that of the call, checked."""
-        return Ranking(problem or self.checked(), self.pairs, self.ratios, *self.duals)
+        duals, unit = self.duals
+        if problem is not None:
+            return Ranking(problem, self.pairs, self.ratios, duals, unit)
+        problem = self.checked()
+        # The costs at the call may have had a finer unit.
+        ratios = [Fraction(*ratio).as_integer_ratio() for ratio in self.ratios]
+        ranking = Ranking(problem, self.pairs, ratios, proved.as_checked(duals, self.pairs[0]), unit)
+        # Prices in parts of the unit of the costs may be somewhat off, and prove the plan.
+        if problem.unit.denominator % unit.denominator and not ranking.has_duals():
+            raise ValueError(CHANGED)
+        return ranking
 
     def without(self, row: int, column: int) -> Tuple[Union[Source, FixedProblem], AssignmentProblem, Outcome]:
         """The problem with one pair forbidden, and the library's answer. The search begins at the prices and the other

@@ -1,9 +1,10 @@
 """Values that a caller gives for rows or columns: in their order, or by their names."""
 import sys
 from collections.abc import Mapping, Set
-from typing import Any, Dict, List, Optional, Sequence
+from typing import Any, Dict, List, Optional, Sequence, Type
 
 from . import printing
+from .reading import whole_number
 
 
 def is_frame(costs: Any) -> bool:
@@ -19,6 +20,44 @@ def is_named(values: Any) -> bool:
 def _is_of_pandas(value: Any, kind: str) -> bool:
     pandas = sys.modules.get("pandas")
     return pandas is not None and isinstance(value, getattr(pandas, kind, ()))
+
+
+def _is_bool(value: Any) -> bool:
+    """Whether this is a bool, also one of NumPy's: as a label it is no number."""
+    return isinstance(value, bool) or getattr(getattr(value, "dtype", None), "kind", "") == "b"
+
+
+class Numbers:
+    """The numbers of rows or columns that the caller gives one by one: a whole number is one, anything else a label of
+    the frame. `fault` is raised where the frame hasn't this label, and ValueError where it has it several times."""
+
+    def __init__(self, labels: Optional[List[Any]], fault: Type[Exception]):
+        self.labels, self.fault = labels, fault
+        self.known: Dict[Any, int] = {}
+        self.several = {label for place, label in enumerate(labels or ())
+                        if self.known.setdefault(label, place) < place}
+
+    def of(self, value: Any, name: str) -> int:
+        """The number of a row or column; `name` is what the caller calls it."""
+        if self.labels is None or hasattr(value, "__index__") and not _is_bool(value):
+            return whole_number(value, name)
+        number = self._number(value)
+        if number is None:
+            raise self.fault(f"{name}: the frame has no label {value!r}")
+        if self.labels[number] in self.several:
+            raise ValueError(f"{name}: the frame has the label {value!r} several times, so give a number")
+        return number
+
+    def _number(self, value: Any) -> Optional[int]:
+        """The first number of a label. One that is equal may have another hash."""
+        try:
+            number = self.known.get(value)
+        except TypeError:
+            number = None
+        try:
+            return (self.labels or []).index(value) if number is None else number
+        except ValueError:
+            return None
 
 
 def listed(values: Any, what: str, kind: str, number: int, labels: Optional[Sequence[Any]]) -> List[Any]:
@@ -46,6 +85,9 @@ def _by_names(values: Any, what: str, kind: str, names: Sequence[Any]) -> List[A
             raise ValueError(f"{what} has {name!r} twice")
         held[name] = value
     known = set(names)
+    if len(known) < len(names):
+        several = next(name for place, name in enumerate(names) if name in names[:place])
+        raise ValueError(f"{what} is by names, and the frame has the {kind} {several!r} several times: give a list")
     unknown = [name for name in held if name not in known]
     if unknown:
         raise ValueError(f"{what} has {unknown[0]!r}, which is no {kind}")

@@ -63,13 +63,18 @@ def of_scalar(value: Any) -> Any:
 
 
 def of_buffer(values: Any) -> Any:
-    """What the small floats of an `array`, or of a view or an array of one dimension, print as; any other values as
-    they are."""
+    """What the small floats of an `array`, or of a view or an array of one dimension without a mask, print as; any
+    other values as they are."""
     letter = getattr(values, "typecode", None) or getattr(values, "format",
                                                           None) or getattr(getattr(values, "dtype", None), "char", None)
-    if letter not in _LETTERS or getattr(values, "ndim", 1) != 1:
+    if letter not in _LETTERS or getattr(values, "ndim", 1) != 1 or _has_mask(values):
         return values
     return [shortest(value, letter) for value in values.tolist()]
+
+
+def _has_mask(values: Any) -> bool:
+    numpy = sys.modules.get("numpy")
+    return hasattr(numpy, "ma") and isinstance(values, numpy.ma.MaskedArray)  # type: ignore[union-attr]
 
 
 @lru_cache(maxsize=1)

@@ -131,16 +131,33 @@ def rows_of_any(costs: Any, manner: exact.Manner) -> List[Any]:
     if isinstance(costs, (dict, set, frozenset)) or isinstance(costs, str) and not costs:
         raise ValueError(f"expected a matrix (2-D array), got a {type(costs).__name__}")
     try:
-        rows = [row if hasattr(row, "__len__") else list(row) for row in costs]
+        rows = [row if hasattr(row, "__len__") and getattr(row, "ndim", 1) != 0 else list(row) for row in costs]
     except TypeError:
         raise ValueError("expected a matrix (2-D array)") from None
     for place, row in enumerate(rows):
-        if isinstance(row, (str, bytes)):
-            raise (ValueError if manner.doubles
-                   else TypeError)(f"Cannot cast array data: row {place} is the text {row!r}")
-        if isinstance(row, (dict, set, frozenset)):
-            raise TypeError(f"Cannot cast array data: row {place} is a {type(row).__name__}, which has no order")
-    return rows if manner.doubles else list(map(printing.of_buffer, rows))
+        judge_row(row, place, manner)
+    return [row_in_list(row, manner) for row in rows]
+
+
+def judge_row(row: Any, place: int, manner: exact.Manner) -> None:
+    """Refuses what is no row of a matrix."""
+    if isinstance(row, (str, bytes)):
+        raise (ValueError if manner.doubles else TypeError)(f"Cannot cast array data: row {place} is the text {row!r}")
+    if isinstance(row, (dict, set, frozenset)):
+        raise TypeError(f"Cannot cast array data: row {place} is a {type(row).__name__}, which has no order")
+    if getattr(row, "ndim", 1) != 1:
+        raise ValueError(f"expected a matrix (2-D array): row {place} has {row.ndim} dimensions")
+
+
+def row_in_list(row: Any, manner: exact.Manner) -> Any:
+    """A row of NumPy's as a list of Python's numbers, where it has no mask and these are the same; any other one as it
+    is, but floats of fewer bits as what they print as."""
+    numpy = exact.loaded_numpy()
+    if numpy is None or type(row) is not numpy.ndarray or row.dtype.kind not in "biuf" or row.dtype.itemsize > 8:
+        return row if manner.doubles else printing.of_buffer(row)
+    if row.dtype.kind == "f" and row.dtype.itemsize < 8 and not manner.doubles:
+        row = printing.of_array(numpy, row)
+    return row.tolist()
 
 
 def _rows_of(costs: Any, manner: exact.Manner) -> Tuple[List[Any], int]:
@@ -171,23 +188,37 @@ def native(view: memoryview) -> memoryview:
 
 
 def _of_view(view: memoryview, manner: exact.Manner) -> AssignmentProblem:
-    """Of a memoryview of two dimensions: borrowed if it has the library's own kind of numbers."""
-    if view.ndim != 2:
-        raise ValueError(f"expected a matrix (2-D array), got a {view.ndim} array")
-    n_rows, n_columns = view.shape or (0, 0)
+    """Of a memoryview: borrowed if it has the library's own kind of numbers."""
+    n_rows, n_columns = _shape_of(view)
     _judge_size(n_rows, n_columns)
     view = native(view)
     kind = view.format
     own = kind in ("q", "l") and view.itemsize == 8 and view.c_contiguous and not view.readonly
     if own and not manner.decimals and view.nbytes:
         return AssignmentProblem(n_rows, n_columns, manner.maximize, WholeNumbers(BorrowedNumbers(view)))
+    rows = rows_of_view(view, manner)
+    return _dense(n_rows, n_columns, manner, exact.of_rows(rows, n_columns, manner, _place_in(n_columns, None)))
+
+
+def _shape_of(view: memoryview) -> Tuple[int, int]:
+    if view.ndim != 2:
+        raise ValueError(f"expected a matrix (2-D array), got a {view.ndim} array")
+    n_rows, n_columns = view.shape or (0, 0)
+    return n_rows, n_columns
+
+
+def rows_of_view(view: memoryview, manner: exact.Manner) -> Any:
+    """The rows of a memoryview as lists."""
+    _shape_of(view)
+    view = native(view)
+    kind = view.format
     try:
         rows: Any = view.tolist()
     except NotImplementedError:
         raise TypeError(f"Cannot cast array data: Python doesn't read a buffer of the format {kind!r}") from None
     if kind in ("e", "f") and not manner.doubles:
         rows = [[printing.shortest(cost, kind) for cost in row] for row in rows]
-    return _dense(n_rows, n_columns, manner, exact.of_rows(rows, n_columns, manner, _place_in(n_columns, None)))
+    return rows
 
 
 def _of_array(numpy: Any, costs: Any, manner: exact.Manner, labels: Labels) -> AssignmentProblem:
@@ -485,12 +516,35 @@ def _is_less(problem: AssignmentProblem, place: int, other: int) -> bool:
 
 def of_sparse_matrix(matrix: Any, manner: exact.Manner) -> AssignmentProblem:
     """The problem of a sparse matrix of SciPy's, whose stored entries are its pairs, also those that are 0."""
+    if getattr(matrix, "format", "") in ("bsr", "dia"):
+        _judge_zeros(matrix)
     once = getattr(matrix, "has_canonical_format", False)
     entries = matrix.tocoo(copy=not once)
     if not once:
         entries.sum_duplicates()
     n_rows, n_columns = matrix.shape
     return of_pairs(n_rows, n_columns, entries.row, entries.col, entries.data, manner)
+
+
+def _judge_zeros(matrix: Any) -> None:
+    """Refuses a 0 in a stored block or diagonal: it may be a cost, or stand where there is no pair."""
+    for row, column in _zeros_of_blocks(matrix) if matrix.format == "bsr" else _zeros_of_diagonals(matrix):
+        raise ValueError(f"the sparse matrix has 0 at row {row}, column {column}, which may be a cost, or no pair as "
+                         f"its format {matrix.format} fills up with 0: give listed pairs, or leave each 0 out by "
+                         "tocsr() and eliminate_zeros()")
+
+
+def _zeros_of_blocks(matrix: Any) -> Iterable[Tuple[int, int]]:
+    entries = matrix.tocoo(copy=False)
+    return zip(entries.row[entries.data == 0].tolist(), entries.col[entries.data == 0].tolist())
+
+
+def _zeros_of_diagonals(matrix: Any) -> Iterable[Tuple[int, int]]:
+    n_rows, n_columns = matrix.shape
+    for offset, costs in zip(matrix.offsets.tolist(), matrix.data):
+        begin = max(0, offset)
+        for place in (costs[begin:min(n_columns, n_rows + offset)] == 0).nonzero()[0].tolist():
+            yield begin + place - offset, begin + place
 
 
 def of_whole_numbers(n_rows: int, n_columns: int, rows: Sequence[int], columns: Sequence[int],

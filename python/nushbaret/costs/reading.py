@@ -7,9 +7,10 @@ import operator
 import struct
 import sys
 from array import array
+from collections.abc import Sequence
 from fractions import Fraction
 from itertools import chain
-from typing import Any, Callable, List, NamedTuple, NoReturn, Optional, Tuple
+from typing import Any, Callable, List, NamedTuple, NoReturn, Optional, Tuple, Type
 
 from . import kinds, parts, printing
 from .limits import FEW, GREATEST_COST, Numbers
@@ -25,6 +26,8 @@ _PLAIN = frozenset((int, float, bool, type(None)))
 # Doubles that are whole stay so below this; a greater one may print as another whole number.
 _MOST_WHOLE = 2.0**53
 _SAMPLE = 32
+# How messages show what a mask covers.
+_MASKED = "-- (masked)"
 # The greatest whole number of 64 bits with a sign.
 _MOST_64 = 2**63 - 1
 
@@ -107,13 +110,8 @@ def exact_ratio(value: Any) -> Ratio:
 
 def refuse_invalid(where: str, value: Any) -> NoReturn:
     shown = str(value).lower()
-    hint = (": None or an infinite cost forbids a pair, and missing=\"forbid\" takes nan so" if "nan" in shown
-            or shown == "--" else "")
+    hint = ": None or an infinite cost forbids a pair, and missing=\"forbid\" takes nan so" if "nan" in shown else ""
     raise ValueError(f"matrix contains invalid numeric entries: {value} at {where}{hint}")
-
-
-def refuse_kind(where: str, value: Any) -> NoReturn:
-    raise TypeError(f"Cannot cast array data: {where} is {value!r}, which is no number") from None
 
 
 def is_nan(value: Any) -> bool:
@@ -137,15 +135,17 @@ class _NumberReader:
             return float(value) if math.isfinite(value) else self._infinite(place, float(value))
         if isinstance(value, decimal.Decimal):
             return _simple(value) if value.is_finite() else self._infinite(place, value)
-        if isinstance(value, (int, numbers.Integral)):
+        if isinstance(value, int):
+            return self._whole(int(value))
+        kind = getattr(getattr(value, "dtype", None), "kind", "")
+        if kind:
+            return self._of_numpy(place, value, kind)
+        if isinstance(value, numbers.Integral):
             return self._whole(int(value))
         if isinstance(value, numbers.Rational):
             fraction = Fraction(int(value.numerator), int(value.denominator))
             return fraction if fraction.denominator > 1 else int(fraction)
-        kind = getattr(getattr(value, "dtype", None), "kind", "")
-        if kind == "b":
-            return int(value)
-        return self._of_numpy(place, value) if kind == "f" else self._of_any(place, value)
+        return self._of_any(place, value)
 
     def _whole(self, value: int) -> int:
         if self.manner.doubles and abs(value) > _MOST_WHOLE:
@@ -156,24 +156,52 @@ class _NumberReader:
         if is_nan(value) or (value < 0) != self.manner.maximize:
             refuse_invalid(self.where(place), str(value).lower().replace("infinity", "inf"))
 
-    def _of_numpy(self, place: int, value: Any) -> Any:
-        """A float of NumPy's of another size than Python's."""
-        if self.manner.doubles or not -math.inf < value < math.inf:
+    def _of_numpy(self, place: int, value: Any, kind: str) -> Any:
+        """A number of NumPy's, or an array of no dimension that holds one."""
+        if getattr(value, "ndim", 0):
+            return self._refuse(place, "an array", ValueError)
+        if isinstance(value, getattr(loaded_numpy(), "ndarray", ())):
+            return self._held(place, value)
+        if kind in "biu":
+            return self._whole(int(value))
+        if kind != "f":
+            return self._refuse(place, repr(value)) if kind == "c" else self._of_any(place, value)
+        if not -math.inf < value < math.inf:
             return self.number(place, float(value))
-        return printing.of_scalar(value)
+        if not self.manner.doubles:
+            return printing.of_scalar(value)
+        return float(value) if value.dtype.itemsize <= 8 else Fraction(*value.as_integer_ratio())
+
+    def _held(self, place: int, value: Any) -> Any:
+        """What an array of no dimension holds, unless a mask covers it."""
+        if getattr(value, "mask", False):
+            return None if self.manner.forbid_nan else refuse_invalid(self.where(place), _MASKED)
+        return self.number(place, value[()])
 
     def _of_any(self, place: int, value: Any) -> Any:
         """What a call of SciPy's makes a double of; elsewhere only what stands for a whole number."""
         if not self.manner.doubles:
-            if isinstance(value, (str, bytes, complex)) or not hasattr(value, "__index__"):
-                return refuse_invalid(self.where(place), "nan") if is_nan(value) else refuse_kind(self.where(place),
-                                                                                                  value)
-            return operator.index(value)
+            return self._counted(place, value)
         try:
             return self.number(place, float(value))
-        except TypeError as fault:
-            raise TypeError(f"Cannot cast array data: {self.where(place)} is {value!r}, which is no number: "
-                            f"{fault}") from None
+        except TypeError:
+            return self._refuse(place, repr(value), ValueError if isinstance(value, Sequence) else TypeError)
+
+    def _counted(self, place: int, value: Any) -> int:
+        """The whole number that something stands for."""
+        if is_nan(value):
+            refuse_invalid(self.where(place), "nan")
+        try:
+            if not isinstance(value, (str, bytes, complex)):
+                return operator.index(value)
+        except TypeError:
+            pass
+        return self._refuse(place, repr(value))
+
+    def _refuse(self, place: int, shown: str, as_scipy: Type[Exception] = TypeError) -> NoReturn:
+        """Refuses what is no number, in a call of SciPy's by the error that SciPy raises."""
+        kind = as_scipy if self.manner.doubles else TypeError
+        raise kind(f"Cannot cast array data: {self.where(place)} is {shown}, which is no number") from None
 
 
 def _simple(value: decimal.Decimal) -> Any:
@@ -271,7 +299,7 @@ def _packed(rows: Any, length: int) -> Optional[Numbers]:
     try:
         for place, row in enumerate(rows):
             _pack(pack, whole, 8 * length * place, row)
-    except (struct.error, TypeError, ValueError, OverflowError):
+    except (struct.error, TypeError, ValueError, OverflowError, DeprecationWarning):
         return None
     return whole
 
@@ -338,7 +366,7 @@ def of_array(numpy: Any, values: Any, manner: Manner, where: Where) -> ReadCosts
             return _of_values(numpy, parts.in_order(numpy, values), manner, where)
         masked = numpy.flatnonzero(mask)
         if not manner.forbid_nan:
-            refuse_invalid(where(int(masked[0])), "-- (masked)")
+            refuse_invalid(where(int(masked[0])), _MASKED)
         values = values.copy()
         values[mask] = 0
         read = _of_values(numpy, values.ravel(), manner, where)

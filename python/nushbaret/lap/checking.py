@@ -120,17 +120,18 @@ def _objects(problem: AssignmentProblem, pairs: List[Tuple[int, int]], n: int, m
 
 def _in_words(problem: AssignmentProblem, pairs: List[Tuple[int, int]], prices: List[int], code: str,
               info: library.Info) -> Optional[CheckOutcome]:
-    if code == "SLACK":
-        return _better_off(problem, *oriented(problem, info.person - 1, info.object - 1))
-    if code == "OVERPRICED":
-        return _overpriced(problem, prices, info.object - 1)
     if code in ("PRICE_RANGE", "COST"):
         return None
+    used = {column for _, column in pairs}
+    overpriced = [column for column, price in enumerate(prices) if price and column not in used]
+    if code == "OVERPRICED":
+        return _overpriced(problem, prices, info.object - 1)
+    if code == "SLACK":
+        row, column = oriented(problem, info.person - 1, info.object - 1)
+        return _overpriced(problem, prices, column) if column in overpriced else _better_off(problem, row, column)
     if code != "BEST":
         return proved.refuse(code, info)
     # Where rows are more the library has seen the prices of the matched columns alone.
-    used = {column for _, column in pairs}
-    overpriced = [column for column, price in enumerate(prices) if price and column not in used]
     return _overpriced(problem, prices, overpriced[0]) if overpriced else CheckOutcome()
 
 

@@ -224,6 +224,16 @@ def duals_of(problem: AssignmentProblem, found: Assignment, prices: List[int], p
     return Duals(*row_and_column_duals(problem, of_persons, of_objects, out), out)
 
 
+def as_checked(duals: Duals, rows: Sequence[int]) -> Duals:
+    """The duals with the same columns that a check of the prices proves: an unmatched row has the greatest of the
+    matched rows, which are given."""
+    matched = set(rows)
+    if not matched or len(matched) == len(duals.rows):
+        return duals
+    out = max(duals.rows[row] for row in matched)
+    return Duals([dual if row in matched else out for row, dual in enumerate(duals.rows)], duals.columns, out)
+
+
 def whole_prices(found: Assignment) -> List[int]:
     """The prices of an answer, the least 0."""
     prices: List[int] = found.prices.tolist()

@@ -50,6 +50,12 @@ class Ranking:
         self.whole = Subproblem(own, self.sign * cost, [of_duals * dual for dual in row_duals],
                                 [of_duals * dual for dual in column_duals], 0, NOBODY)
 
+    def has_duals(self) -> bool:
+        """Whether the duals are exact: no reduced cost is below 0, also that of staying out."""
+        rows, columns = self.whole.row_duals, self.whole.column_duals
+        return all(cost >= dual + columns[column] for row, dual in enumerate(rows)
+                   for column, cost in self.paths.choices(row))
+
     def wait(self, part: Subproblem) -> None:
         """Puts a part in line: at first by the least columns that its best plans can begin with."""
         insort(self.costs, part.cost)

@@ -1,5 +1,9 @@
 """A matrix whose rows change: after each change the cost is that of a fresh solve, compared with a slow search too."""
 import math
+import os
+import pickle
+import subprocess
+import sys
 import unittest
 from array import array
 from decimal import Decimal
@@ -9,7 +13,7 @@ from unittest import mock
 import nushbaret
 from nushbaret.api import assigner as _assigner
 from drawn import best, drawing, exactly, proves
-from optional import np
+from optional import np, pd, sparse
 from ways import extension, longer_call
 
 
@@ -164,6 +168,12 @@ class Rows(unittest.TestCase):
             changed.update(1, np.ma.array([2**60, 1], mask=True))
             with self.assertRaisesRegex(ValueError, "-- \\(masked\\) at row 1, column 0"):
                 changed.result
+            changed = nushbaret.Assigner([[4, 1], [2, 3]])
+            changed.update(0, masked[0])
+            with self.assertRaisesRegex(ValueError, "-- \\(masked\\) at row 0, column 1$"):
+                changed.result
+            changed.update(0, plain[0])
+            self.assertEqual(changed.result.cost, 3)
 
     def test_no_matrices(self):
         for wrong in 5, [1, 2], {(1, 2): 3, (3, 4): 5}, [b"ab", b"cd"], [{1: 2, 3: 4}, [5, 6]]:
@@ -172,6 +182,84 @@ class Rows(unittest.TestCase):
             with self.assertRaises((ValueError, TypeError)) as seen:
                 nushbaret.Assigner(wrong)
             self.assertEqual(str(seen.exception), str(wanted.exception))
+
+    @unittest.skipUnless(pd, "pandas isn't there")
+    def test_frames(self):
+        """Columns of several kinds are exact, and results have the labels."""
+        frames = (pd.DataFrame({"early": [2**60 + 1, 2**60], "late": [0.5, 0.25]}, index=["Ada", "Ben"]),
+                  pd.DataFrame({"early": np.array([0.1, 0.2], "f4"), "late": [0.5, 0.25]}, index=["Ada", "Ben"]),
+                  pd.DataFrame({"early": pd.array([1, 2], "Int64"), "late": [1, 3]}, index=["Ada", "Ben"]),
+                  pd.DataFrame([[0.1, 5], [0.25, 9]], index=["Ada", "Ben"], columns=["early", "late"]))
+        for frame, cost in zip(frames, (Decimal("1152921504606846976.5"), Decimal("0.35"), 3, Decimal("5.25"))):
+            assigner, before = nushbaret.Assigner(frame), frame.copy()
+            self.assertEqual((assigner.result.cost, assigner.result.verify().why), (cost, ""))
+            self.assertEqual([row for row, _ in assigner.result.pairs], ["Ada", "Ben"])
+            assigner.update(0, np.ma.array([1, 2], mask=[False, True]))
+            with self.assertRaisesRegex(ValueError, r"-- \(masked\)"):
+                assigner.result
+            # By labels, whatever their order is.
+            assigner.update(1, pd.Series({"late": 0.125, "early": 9}))
+            assigner.update(0, {"late": 9, "early": 1})
+            self.assertEqual((assigner.result.cost, assigner.result.pairs),
+                             (Decimal("1.125"), [("Ada", "early"), ("Ben", "late")]))
+            self.assertEqual(assigner.result.without("Ada", "early").cost, 18)
+            with self.assertRaisesRegex(ValueError, "row 1 has 'night', which is no column"):
+                assigner.update(1, pd.Series({"late": 3, "night": 5}))
+            pd.testing.assert_frame_equal(frame, before)
+
+    @unittest.skipUnless(pd, "pandas isn't there")
+    def test_frames_in_another_process(self):
+        """An Assigner of a frame loads pandas where nobody has."""
+        assigner = nushbaret.Assigner(pd.DataFrame([[4, 1], [2, 3]], index=["Ada", "Ben"], columns=["early", "late"]))
+        code = "import pickle, sys; print(pickle.load(sys.stdin.buffer).result.pairs)"
+        top = os.path.dirname(os.path.dirname(nushbaret.__file__))
+        ran = subprocess.run([sys.executable, "-c", code], input=pickle.dumps(assigner), capture_output=True,
+                             check=True, env={**os.environ, "PYTHONPATH": top})
+        self.assertEqual(ran.stdout.decode().strip(), "[('Ada', 'late'), ('Ben', 'early')]")
+
+    def test_buffers(self):
+        for kind in "d", "f", "q", "i":
+            held = memoryview(array(kind, [1, 2, 3, 5]))
+            assigner = nushbaret.Assigner(held.cast("B").cast(kind, (2, 2)))
+            self.assertEqual(assigner.result.cost, 5)
+            assigner.update(1, held[:2])
+            self.assertEqual(assigner.result.cost, 3)
+            with self.assertRaisesRegex(ValueError, r"expected a matrix \(2-D array\), got a 1 array"):
+                nushbaret.Assigner(held)
+        self.assertEqual(nushbaret.Assigner(memoryview(array("f", [0.1])).cast("B").cast("f", (1, 1))).result.cost,
+                         Decimal("0.1"))
+
+    @unittest.skipUnless(sparse, "SciPy isn't there")
+    def test_sparse_matrices(self):
+        for kind in "csr", "csc", "coo", "lil", "dok", "bsr", "dia":
+            with self.assertRaisesRegex(ValueError, "expected a matrix .*, got a sparse one"):
+                nushbaret.Assigner(sparse.eye(2, format=kind))
+
+    def test_no_rows(self):
+        wrong = [(5, TypeError, "row 1 is 5: it must be a list of costs"), (None, TypeError, "row 1 is None"),
+                 ({1, 2}, TypeError, "row 1 is a set, which has no order"),
+                 ({0: 3, 1: 5}, TypeError, "row 1 is a dict, which has no order"),
+                 ("ab", TypeError, "row 1 is the text 'ab'")]
+        if np:
+            wrong += [(np.eye(2), ValueError, "row 1 has 2 dimensions"), (np.array(5), ValueError, "row 1 has 0 dimen")]
+        for form in [[[1, 2], [3, 5]]] + ([np.array([[1, 2], [3, 5]])] if np else []):
+            assigner = nushbaret.Assigner(form)
+            for costs, fault, words in wrong:
+                with self.assertRaisesRegex(fault, words):
+                    assigner.update(1, costs)
+                self.assertEqual(assigner.result.cost, 5)
+            assigner.update(1, (cost for cost in (0, 5)))
+            self.assertEqual(assigner.result.cost, 2)
+
+    @unittest.skipUnless(np, "NumPy isn't there")
+    def test_rows_of_numpys_in_lists(self):
+        """An Assigner of lists begins at the last plan too where it gets arrays."""
+        assigner = nushbaret.Assigner(list(np.array([[0.5, 0.25], [1, 2]])))
+        with mock.patch.object(_assigner, "solve", side_effect=AssertionError):
+            self.assertEqual(assigner.result.cost, Decimal("1.25"))
+            for row in [0.125, 1], [0.1, 1]:
+                assigner.update(1, np.array(row))
+                self.assertEqual(assigner.result.cost, Decimal(str(row[0])) + Decimal("0.25"))
 
     def test_refusals(self):
         assigner = nushbaret.Assigner([[1, 2], [3, 5]])

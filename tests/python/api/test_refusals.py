@@ -45,6 +45,15 @@ class Refused(unittest.TestCase):
         self.refused(TypeError, "rows and columns of listed pairs are given together", solve([[1]]).verify, [1],
                      rows=[0])
 
+    def test_batches(self):
+        for wrong, shown in ((5, "0 array"), (None, "0 array"), (2.5, "0 array"), (object(), "0 array"), ("ab", "str"),
+                             (b"ab", "bytes"), ({1: [[1]]}, "dict"), ({1}, "set"),
+                             (memoryview(bytes(8)).cast("B", (2, 2, 2)), "memoryview")):
+            self.refused(ValueError, f"expected matrices (3-D array), got a {shown}",
+                         nushbaret.linear_sum_assignment_batch, wrong)
+        self.refused(ValueError, "matrix 1: expected a matrix", nushbaret.linear_sum_assignment_batch, [[[1]], 5])
+        self.assertEqual(nushbaret.linear_sum_assignment_batch(iter([[[1, 2]], [[3]]])), ([[0], [0]], [[0], [0]]))
+
     def test_ranges(self):
         solve = nushbaret.solve
         self.assertEqual(solve([[MOST, -MOST], [0, MOST]]).cost, -MOST)

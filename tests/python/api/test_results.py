@@ -276,6 +276,13 @@ class Forms(unittest.TestCase):
         self.assertEqual(nushbaret.check(frame, ["late", "night"], [0, 0, 0], missing="forbid").why,
                          "row Ben may not have column night")
         self.assertEqual(nushbaret.compare(frame, ["early", "late"], missing="forbid").worse, 4)
+        for judge in lambda *plan, **rows: nushbaret.check(frame, *plan, result.prices, **rows, missing="forbid"), \
+                lambda *plan, **rows: nushbaret.compare(frame, *plan, **rows, missing="forbid"):
+            for plan, rows, words in ((["noon", "early"], {}, r"columns\[0\]: the frame has no label 'noon'"),
+                                      (["late", ["early"]], {}, r"columns\[1\]: the frame has no label \['early'\]"),
+                                      (["late", "early"], {"rows": ["Ada", "Cleo"]}, r"rows\[1\]: .* no label 'Cleo'")):
+                with self.assertRaisesRegex(ValueError, words):
+                    judge(plan, **rows)
         frame.loc["Ben"] = [None, 3, None]
         frame.loc["Cleo"] = [None, 1, None]
         with self.assertRaisesRegex(nushbaret.Infeasible, "rows Ben, Cleo may have column late only") as caught:
@@ -284,12 +291,66 @@ class Forms(unittest.TestCase):
         self.assertEqual(str(pickle.loads(pickle.dumps(caught.exception))), str(caught.exception))
 
     @unittest.skipUnless(pd, "pandas isn't there")
+    def test_labels_that_come_twice(self):
+        """Nobody knows which one is meant."""
+        frame = pd.DataFrame([[4, 1], [2, 3]], index=["Ada", "Ada"], columns=["early", "early"])
+        result = nushbaret.solve(frame)
+        for call in (lambda: nushbaret.check(frame, ["early", "early"], result.prices),
+                     lambda: nushbaret.compare(frame, ["early", "early"]),
+                     lambda: nushbaret.check(frame, [1, 0], result.prices, rows=["Ada", "Ada"]),
+                     lambda: result.without("Ada", 0), lambda: result.without(0, "early")):
+            with self.assertRaisesRegex(ValueError, "the frame has the label '(early|Ada)' several times"):
+                call()
+        self.assertTrue(nushbaret.check(frame, [1, 0], result.prices))
+        self.assertEqual(result.without(0, 1).cost, 7)
+        for call, word in ((lambda: nushbaret.check(frame, {"Ada": 1}, result.prices), "columns"),
+                           (lambda: nushbaret.check(frame, [1, 0], {"early": 0}), "prices"),
+                           (lambda: nushbaret.solve(frame, start={"early": 0}), "start"),
+                           (lambda: nushbaret.assign_counts(frame, {"Ada": 1}), "row_counts"),
+                           (lambda: nushbaret.assign_counts(frame, 1, {"early": 1}), "column_counts")):
+            with self.assertRaisesRegex(ValueError, f"{word} is by names, and the frame has the .* several times"):
+                call()
+
+    @unittest.skipUnless(pd, "pandas isn't there")
+    def test_bools_as_labels(self):
+        frame = pd.DataFrame([[4, 1], [2, 3]], index=[True, False], columns=[True, False])
+        result = nushbaret.solve(frame)
+        self.assertEqual(result.pairs, [(True, False), (False, True)])
+        for columns in [False, True], np.array([False, True]):
+            self.assertTrue(nushbaret.check(frame, columns, result.prices))
+        self.assertEqual(nushbaret.solve(frame + np.array([[0, 0], [0, -9]])).without(False, False).cost, 3)
+
+    @unittest.skipUnless(pd, "pandas isn't there")
+    def test_dates_as_labels(self):
+        frame = pd.DataFrame([[4, 1], [2, 3]], columns=pd.date_range("2026-05-01", periods=2))
+        for dates in frame.columns, frame.columns.to_numpy(), frame.columns.to_pydatetime():
+            self.assertEqual(nushbaret.compare(frame, list(dates)).worse, 4)
+
+    @unittest.skipUnless(pd, "pandas isn't there")
     def test_numbers_in_frames(self):
         for costs, kind in (([[4, 1], [2, 3]], "int64"), ([[0.5, 0.1], [0.3, 1]], "float64"),
                             ([[Decimal("0.1")]], "float64"), ([[Decimal("0.12345678901234567890123")]], "object"),
                             ([[10**30]], "object"), ([[Fraction(1, 3)]], "object")):
             self.assertEqual(str(nushbaret.solve(costs).to_frame()["cost"].dtype), kind)
         self.assertEqual(nushbaret.solve([[0.1, 1], [1, 0.3]]).to_frame()["cost"].tolist(), [0.1, 0.3])
+
+    def test_plans_of_changed_costs(self):
+        """Where the plan is still best, what reads the costs again is right for them as they are now."""
+        for before, after, unique, next_cost in (([[1], [2]], [[1], [1]], False, 1), ([[1], [3]], [[1], [2]], True, 2),
+                                                 ([[0.1], [0.2]], [[0.1], [0.1]], False, Decimal("0.1")),
+                                                 ([[2.5], [1.0]], [[2.0], [1.0]], True, 2),
+                                                 ([[-1.0, 2.5]], [[-1.0, 2.0]], True, 2)):
+            for form in [before] + ([np.array(before)] if np else []):
+                costs = form.copy() if form is not before else [list(row) for row in before]
+                result = nushbaret.solve(costs)
+                for place, row in enumerate(after):
+                    costs[place][:] = row
+                try:
+                    self.assertEqual((result.is_unique, result.next_best().cost), (unique, next_cost), (before, after))
+                except ValueError as fault:
+                    self.assertIn("the costs were changed after the call", str(fault))
+                    self.assertEqual(before, [[-1.0, 2.5]])
+                self.assertEqual(sum(result.row_duals) + sum(result.column_duals), result.cost)
 
     def test_words(self):
         for call, words in ((lambda: nushbaret.solve([[None]]), "row 0 may have no column$"),

@@ -63,10 +63,12 @@ class Errors(unittest.TestCase):
                   np.ma.array([[1.0, 0], [2, 4]], mask=[[0, 1], [0, 0]]), np.array([[np.nan, 1]]),
                   np.array([[-np.inf, 1]]), sparse.coo_matrix(np.eye(2)), sparse.csr_matrix(np.eye(2)),
                   [np.array([1, 2]), np.array([3, 5])], [[np.float32(0.5), np.int8(1)]],
-                  [deque([1, 2]), deque([3, 5])], [deque([[1], [2]]), deque([[3], [5]])]]
+                  [deque([1, 2]), deque([3, 5])], [deque([[1], [2]]), deque([[3], [5]])],
+                  [[1, [2]], [3, 4]], [[1, (2,)], [3, 4]], [[1, np.zeros(1)], [3, 4]], [[1, {2}], [3, 4]],
+                  [np.eye(2), np.eye(2)], [np.array(1), np.array(2)], [[np.timedelta64(3, "ns"), 1]]]
         if pd:
             arrays += [pd.DataFrame([[2, 1]]), pd.DataFrame([[2, 1]], dtype="Int64"), [[pd.NA, 1]],
-                       pd.DataFrame([[pd.NA, 1]]), pd.Series([1, 2])]
+                       pd.DataFrame([[pd.NA, 1]]), pd.Series([1, 2]), [pd.DataFrame([[5, 6], [7, 8]])] * 2]
         for costs in [costs for costs, _ in PLAIN if not hasattr(costs, "__next__")] + arrays:
             self.assertEqual(found_by(nushbaret.linear_sum_assignment, costs),
                              found_by(optimize.linear_sum_assignment, costs), repr(costs))

@@ -368,6 +368,17 @@ class Ends(unittest.TestCase):
             self.skipTest("long doubles are doubles here")
         costs = np.array([[np.longdouble("1e400"), 1]])
         self.assertEqual((nushbaret.solve(costs).cost, nushbaret.solve(costs, maximize=True).cost), (1, 10**400))
+        for form in costs, [list(costs[0])]:
+            self.assertEqual([nushbaret.linear_sum_assignment(form, most)[1][0] for most in (False, True)], [1, 0])
+
+    def test_long_doubles_that_are_no_doubles(self):
+        """SciPy's call takes them as they are, too: it refuses arrays of them, and rounds those in lists."""
+        if np.finfo(np.longdouble).nmant <= 52:
+            self.skipTest("long doubles are doubles here")
+        more = 1 + np.finfo(np.longdouble).eps
+        for costs in np.array([[more, 1], [1, more]]), [[more, 1], [1, more]]:
+            self.assertEqual([list(nushbaret.linear_sum_assignment(costs, most)[1]) for most in (False, True)],
+                             [[1, 0], [0, 1]])
 
 
 @unittest.skipUnless(pd, "pandas isn't there")

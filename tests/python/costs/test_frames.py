@@ -51,6 +51,16 @@ class Frames(unittest.TestCase):
                                                                                                 [2, 3, 9]]))],
                          [[0, 1], [1, 0]])
 
+    def test_series_as_rows(self):
+        """Short floats are the decimals that they print as."""
+        for kind in "float16", "float32", "float64", "Float32":
+            rows = [pd.Series([0.1, 0.7], dtype=kind), pd.Series([0.2, 0.3], dtype=kind)]
+            self.assertEqual(nushbaret.solve(rows).cost, Decimal("0.4"), kind)
+            assigner = nushbaret.Assigner([[5, 5], [5, 5]])
+            for place, row in enumerate(rows):
+                assigner.update(place, row)
+            self.assertEqual(assigner.result.cost, Decimal("0.4"), kind)
+
     def test_kinds(self):
         for costs, wanted in (([[4.5, 1.25, 9], [2, 3, 9]], "3.25"), ([[4, None, 9], [2, 3, 1]], "5"),
                               ([["4", 1, 9], [2, 3, 9]], None)):

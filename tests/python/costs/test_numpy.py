@@ -1,11 +1,12 @@
 """Costs in NumPy's arrays: kinds, layouts, what comes back; and, where SciPy is there, drawn problems compared with its
 solver."""
 import unittest
+import warnings
 from decimal import Decimal
 
 import nushbaret
 from at_once import in_eight_threads
-from optional import np, optimize, sparse
+from optional import np, optimize, pd, sparse
 
 
 @unittest.skipUnless(np, "NumPy isn't there")
@@ -146,6 +147,59 @@ class Arrays(unittest.TestCase):
                          (1, [1], [1]))
 
 
+@unittest.skipUnless(np, "NumPy isn't there")
+class InLists(unittest.TestCase):
+    """Rows and numbers of NumPy's in lists of Python's."""
+
+    def refused(self, kind, words, call, *given, **named):
+        with warnings.catch_warnings(), self.assertRaisesRegex(kind, words):
+            warnings.simplefilter("error")
+            call(*given, **named)
+
+    def test_rows(self):
+        for kind in "?", "i1", "u8", "f2", "f4", ">f4", "f8", ">i2", "g", "O":
+            rows = list(np.array([[4, 1, 3], [2, 0, 5], [3, 2, 2]]).astype(kind))
+            self.assertEqual(nushbaret.solve(rows).cost, 2 if kind == "?" else 5, kind)
+            rows[0] = rows[0] / 10 if kind != "?" else rows[0]
+            result = nushbaret.solve(rows)
+            self.assertEqual((result.cost, result.rows), (2 if kind == "?" else Decimal("2.4"), [0, 1, 2]), kind)
+            self.assertEqual(nushbaret.linear_sum_assignment(rows)[0], [0, 1, 2])
+        self.assertEqual(nushbaret.solve([np.array([2**64 - 1, 2**63], np.uint64)]).cost, 2**63)
+
+    def test_masked_rows(self):
+        for kind in "f8", "f4", "f2", "i8", "u1", "?", "O", "g":
+            masked = np.ma.array([1, 0, 1], mask=[0, 1, 0]).astype(kind)
+            rows = [masked, [2, 0, 5], [3, 2, 2]]
+            for call in nushbaret.solve, nushbaret.linear_sum_assignment, nushbaret.bottleneck:
+                self.refused(ValueError, r"-- \(masked\) at row 0, column 1$", call, rows)
+            self.refused(ValueError, r"-- \(masked\) at costs\[1\] \(row 0, column 1\)$", nushbaret.solve_sparse, 1, 3,
+                         [0, 0, 0], [0, 1, 2], list(masked))
+            self.assertEqual(nushbaret.solve(rows, missing="forbid").columns, [0, 1, 2])
+            self.assertEqual(list(nushbaret.linear_sum_assignment(rows, missing="forbid")[1]), [0, 1, 2])
+
+    def test_numbers(self):
+        for number, cost in ((np.array(0.25), "0.25"), (np.array(0.1, "f4"), "0.1"), (np.array(0.1, object), "0.1"),
+                             (np.array(7), "7"), (np.bool_(True), "1"), (np.uint64(2**64 - 1), str(2**64 - 1))):
+            self.assertEqual(nushbaret.solve([[number]]).cost, Decimal(cost))
+        no_number = r"row 0, column 1 is .*, which is no number"
+        for wrong in (np.timedelta64(3, "ns"), np.timedelta64(3, "D"), np.datetime64(3, "ns"), np.complex64(1 + 2j),
+                      np.void(b"a"), np.zeros(1), np.zeros(3), np.zeros((2, 2)), [1]):
+            self.refused(TypeError, no_number, nushbaret.solve, [[1, wrong], [2, 3]])
+        # SciPy's call drops what is imaginary, with a warning.
+        self.refused(TypeError, no_number, nushbaret.linear_sum_assignment, [[1, np.complex64(1 + 2j)], [2, 3]])
+
+    def test_no_rows(self):
+        two = np.eye(2)
+        for wrong in [two, two], [np.array(5), np.array(6)], [two, [1, 2]]:
+            for call in nushbaret.solve, nushbaret.linear_sum_assignment:
+                self.refused(ValueError, r"expected a matrix \(2-D array\)", call, wrong)
+        if pd:
+            # Each has its columns' labels when it is gone through, and these are no costs.
+            frame = pd.DataFrame([[5, 6], [7, 8]])
+            for call in nushbaret.solve, nushbaret.linear_sum_assignment:
+                self.refused(ValueError, r"expected a matrix \(2-D array\)", call, [frame, frame])
+
+
 @unittest.skipUnless(optimize, "SciPy isn't there")
 class BesideScipy(unittest.TestCase):
     def test_drawn(self):
@@ -185,6 +239,28 @@ class BesideScipy(unittest.TestCase):
         for form in twice, twice.tocsr():
             self.assertEqual(nushbaret.solve_sparse(form).cost, 12)
         self.assertEqual((twice.nnz, twice.data.tolist()), (3, [3, 4, 5]))
+
+    def test_blocks_and_diagonals(self):
+        """A 0 in a stored block or on a diagonal may be a cost, or fill where there is no pair."""
+        blocks = sparse.csr_matrix(np.array([[1, 2, 0, 0], [3, 5, 0, 0], [0, 0, 4, 7], [0, 0, 6, 0]])).tobsr((2, 2))
+        with self.assertRaisesRegex(ValueError, "has 0 at row 3, column 3, which may be a cost, or no pair .* bsr"):
+            nushbaret.solve(blocks)
+        self.assertEqual(nushbaret.solve(blocks + sparse.eye(4).tobsr((2, 2))).cost, 5 + 6)
+        without = blocks.tocsr()
+        without.eliminate_zeros()
+        self.assertEqual(nushbaret.solve(without).cost, 5 + 13)
+        full = np.array([[2, 1, 0, 0], [3, 4, 1, 0], [0, 5, 2, 6]])
+        for form in full, full[:, :3], full.T:
+            matrix = sparse.dia_matrix(form)
+            self.assertEqual(nushbaret.solve(matrix).cost, nushbaret.solve(matrix.tocsr()).cost)
+        for data, offset, row, column in ([0, 1, 2], 0, 0, 0), ([9, 1, 0], 1, 1, 2), ([1, 0, 9], -1, 2, 1):
+            matrix = sparse.dia_matrix(([data], [offset]), (3, 3))
+            for call in nushbaret.solve, nushbaret.solve_sparse, nushbaret.bottleneck:
+                with self.assertRaisesRegex(ValueError, f"has 0 at row {row}, column {column}, which may be .* dia fi"):
+                    call(matrix)
+        # What is beyond the matrix counts for nothing.
+        self.assertEqual(nushbaret.solve(sparse.dia_matrix(([[3, 1, 0]], [0]), (2, 2))).cost, 4)
+        self.assertEqual(nushbaret.solve(sparse.dia_matrix(([[0, 1, 2]], [1]), (2, 3))).cost, 3)
 
 
 if __name__ == "__main__":

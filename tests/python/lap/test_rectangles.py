@@ -193,6 +193,10 @@ class Checked(unittest.TestCase):
         self.assertEqual((verdict.row, verdict.column), (1, 0))
         verdict = check([[1, None], [2, None], [3, None]], [0, None, None], [0, 3])
         self.assertEqual((verdict.why, verdict.column), ("column 1 stays unused, and column 0 is cheaper", 0))
+        # Row 0 pays 2 for column 1, and would pay 4 for column 0.
+        verdict = check([[0, 2], [None, 9], [9, 9]], [1, None, None], [4, 0])
+        self.assertEqual((verdict.why, verdict.row, verdict.column),
+                         ("column 0 stays unused, and column 1 is cheaper", None, 1))
         # The library's unit is a fifth here, and an unused column may cost one more than the cheapest.
         for price, wanted in (0, True), (0.2, True), (0.4, False):
             self.assertEqual(bool(check([[1, None], [2, None], [3, None]], [0, None, None], [0, price])), wanted)
