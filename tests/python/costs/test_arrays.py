@@ -123,9 +123,11 @@ def meaning(cell, doubles):
         return cell
     if cell.dtype.kind in "biu":
         return int(cell)
-    if doubles or not np.isfinite(cell) or cell.dtype.itemsize == 8:
+    if not np.isfinite(cell) or cell.dtype.itemsize == 8:
         return float(cell)
-    return Decimal(str(cell))
+    if not doubles:
+        return Decimal(str(cell))
+    return float(cell) if cell.dtype.itemsize < 8 else Fraction(*cell.as_integer_ratio())
 
 
 def twin(costs, doubles):
@@ -177,7 +179,7 @@ class Drawn(unittest.TestCase):
         self.assertGreater(min(ran.values()), 100)
 
     def scipys(self, form, rows, named):
-        """SciPy's call, where a float is its double."""
+        """SciPy's call, where a float of up to 64 bits is its double."""
         found, wanted = outcome(nushbaret.linear_sum_assignment, form,
                                 **named), outcome(nushbaret.linear_sum_assignment, rows, **named)
         if isinstance(wanted[0], str):
