@@ -6,8 +6,9 @@ set -euo pipefail
 cd "$(dirname "$0")/.."
 python=${PYTHON:-python3}
 export PYTHONPATH=$PWD/python PYTHONDONTWRITEBYTECODE=1
-"$python" -m unittest discover -s tests/python -p 'test_*.py'
+# Ctrl-C as usual, which what runs in the background of a script ignores.
+env --default-signal=INT "$python" -m unittest discover -s tests/python -p 'test_*.py'
 if "$python" tests/python/without_extension.py --is-here; then
-    "$python" tests/python/without_extension.py
+    env --default-signal=INT "$python" tests/python/without_extension.py
 fi
 "$python" tests/python/which_ran.py
