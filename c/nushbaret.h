@@ -81,8 +81,8 @@
 
    Each answer of a search is checked before a call returns it. Over whole numbers a slow search that is proved answers
    where nothing passes, which was seen only from records that no call wrote. So without a budget these calls return
-   NUSHBARET_BEST, NUSHBARET_HALL or a fault, whatever their lists contain; from those records one may take years. Over
-   doubles they may also return NUSHBARET_UNDECIDED.
+   NUSHBARET_BEST, NUSHBARET_HALL or a fault, whatever their lists contain. Over doubles they may also return
+   NUSHBARET_UNDECIDED.
 
    A WORKED EXAMPLE
 

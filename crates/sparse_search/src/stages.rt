@@ -202,21 +202,28 @@ impl<'a> Run<'a> {
     fn begin_cold(&mut self) {
         self.market.release_all();
         self.market.clear_prices();
-        let mut bids = FIRST_BIDS.saturating_mul(self.persons());
         if self.problem.is_square() {
             set_first_prices(self.problem, &mut self.market);
             self.looks.add(self.problem.pairs.len());
-        } else {
-            bids = bids.saturating_mul(2);
         }
         self.record.shift = 0;
         self.record.slackness = 0;
         self.record = self.record.with_stage(Stage::Bids);
-        self.record.bids = bids;
+        self.record.bids = self.most_first_bids();
+    }
+
+    fn most_first_bids(&self) -> u64 {
+        let bids = FIRST_BIDS.saturating_mul(self.persons());
+        if self.problem.is_square() {
+            bids
+        } else {
+            bids.saturating_mul(2)
+        }
     }
 
     fn first_bids(&mut self) {
-        let (scaled, first, most) = (self.scaled(), self.record.place, self.record.bids);
+        let (scaled, first) = (self.scaled(), self.record.place);
+        let most = self.record.bids.min(self.most_first_bids());
         let (ended, left) = bid_all(scaled, &mut self.market, first, most, &mut self.looks);
         self.record.place = ended;
         self.record.bids = left;
