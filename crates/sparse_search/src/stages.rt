@@ -363,8 +363,8 @@ impl<'a> Run<'a> {
         self.market.count_unserved() == 0 && self.market.count_dear() == 0
     }
 
-    // The end, after one more pass over all pairs where the search went on from a record. What no search
-    // can have left is begun again: from prices beyond all sums small pieces would never end.
+    // The end, after one more pass over all pairs where the search went on from a record. If it isn't
+    // settled then, it begins again: prices beyond all sums, which each call cuts, would never let it end.
     fn finish(&mut self) -> Option<RunEnd> {
         if self.is_resumed && self.looks.is_spent() {
             return None;
