@@ -17,9 +17,9 @@ pub record IsLeastSum (sense : Sense) (rows : List Listing) (prices : List ℤ) 
   pub reached : (v ≡ UNLISTED) ⊎ IsSumOf sense rows prices i v
 
 -- for each person its least sum
-pub record AreLeastSums (l : ListedCosts) (prices least : List ℤ) : Type 0 where
-  pub long : length least ≡ length l.rows
-  pub each : (i : ℕ) → IsNumber (length l.rows) i → IsLeastSum l.sense l.rows prices i (numbered least i (pos 0))
+pub record AreLeastSums (sense : Sense) (rows : List Listing) (prices least : List ℤ) : Type 0 where
+  pub long : length least ≡ length rows
+  pub each : (i : ℕ) → IsNumber (length rows) i → IsLeastSum sense rows prices i (numbered least i (pos 0))
 
 -- person i lists its own object, at a sum that is its number
 abbrev pub IsShown : ListedCosts → List ℕ → List ℤ → List ℤ → ℕ → Type 0

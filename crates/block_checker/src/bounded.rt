@@ -35,7 +35,7 @@ pub fn first_better(
     requires persons { length numbers.now ≡ length lists.now.rows }
     requires objects { length prices.now ≡ lists.now.m }
     requires in_range { All IsPriceInLimits prices.now }
-    requires least { AreLeastSums lists.now prices.now least.now }
+    requires least { AreLeastSums lists.now.sense lists.now.rows prices.now least.now }
     ensures { let l = lists.now in MatchOption result (IsBounded l.sense l.rows prices.now numbers.now)
         (λ p. IsFirst (HasUnder l.sense l.rows prices.now numbers.now) (length l.rows) p.0
         × IsFirst (IsUnder l.sense l.rows prices.now numbers.now p.0) l.m p.1) }

@@ -56,11 +56,29 @@ fn set_of_pairs(least: &mut [Cost], sense: Sense, pairs: Pairs<'_>, prices: &[Pr
     requires mark { least.old ≡ replicate (length least.old) UNLISTED }
     requires pairs { ArePairs (length least.old) (length prices.now) pairs }
     requires in_range { All IsPriceInLimits prices.now }
-    ensures { AreLeastOf sense pairs prices.now (length pairs.persons.now) least.new }
+    ensures { let p = pairs.entry in AreLeastOf sense p prices.now (length p.persons.now) least.new }
 {
     for k in 0..pairs.persons.len() {
         let price = prices[pairs.objects[k] as usize - 1];
-        lower(least, pairs.persons[k] as usize - 1, sum_of(sense, pairs.costs[k], price));
+        lower(
+            least,
+            pairs.persons[k] as usize - 1,
+            sum_of(sense, pairs.costs[k], price),
+        );
+    }
+}
+
+// Sets each person's least sum. The sums are marks at first.
+fn set_least(least: &mut [Cost], sense: Sense, source: Source<'_>, prices: &[Price])
+    requires mark { least.old ≡ replicate (length least.old) UNLISTED }
+    requires given { IsGiven (length least.old) (length prices.now) source }
+    requires in_range { All IsPriceInLimits prices.now }
+    ensures { AreLeastSums sense (rows_in sense (length least.old) (length prices.now) source.entry)
+        prices.now least.new }
+{
+    match source {
+        Source::Dense(costs) => set_of_rows(least, sense, costs, prices),
+        Source::Listed(pairs) => set_of_pairs(least, sense, pairs, prices),
     }
 }
 
@@ -78,14 +96,12 @@ pub fn least_sums(
 ) -> Result<Vec<Cost>, AllocError>
     requires objects { length prices.now ≡ lists.now.m }
     requires in_range { All IsPriceInLimits prices.now }
-    ensures { IfOk result (λ least. AreLeastSums lists.now prices.now least.items) }
+    ensures { IfOk result
+        (λ least. AreLeastSums lists.now.sense lists.now.rows prices.now least.items) }
 {
     // This call shows the prover that objects are few enough.
     let _objects = lists.objects();
     let mut least: Vec<Cost> = vec![in alloc; UNLISTED; lists.persons() as usize]?;
-    match lists.source() {
-        Source::Dense(costs) => set_of_rows(least.as_mut_slice(), lists.sense(), costs, prices),
-        Source::Listed(pairs) => set_of_pairs(least.as_mut_slice(), lists.sense(), pairs, prices),
-    }
+    set_least(least.as_mut_slice(), lists.sense(), lists.source(), prices);
     Ok(least)
 }

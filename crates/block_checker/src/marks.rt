@@ -1,10 +1,10 @@
 // Whether a block lists persons' own objects at their row numbers.
-ghost use Rattle.std.specs.Prelude.{◌≡◌, ◌≢◌, ◌+ℤ◌, ◌↔◌, IsTrue, length, All, IfOk};
+ghost use Rattle.std.specs.Prelude.{◌≡◌, length, All, IfOk};
 ghost use Rattle.assign_core.specs.Prices.{price_of};
 ghost use Rattle.cost_lists.specs.Exact.{IsPriceInLimits};
 ghost use Rattle.cost_lists.specs.Own.{AreOwnCosts};
 ghost use Rattle.block_checker.specs.Sums.{AreMarks};
-ghost use Rattle.block_checker.specs.inside.Marks.{AreMarksOf, IsOwnCost, IsOwnSum};
+ghost use Rattle.block_checker.specs.inside.Marks.{AreMarksOf, IsMarkOf, IsOwnCost};
 
 use assign_core::Cost;
 use cost_lists::{CostLists, Object, Price, UNLISTED};
@@ -22,23 +22,20 @@ fn price_at(prices: &[Price], object: Object) -> Price
     prices[object as usize - 1]
 }
 
-// Whether a turned cost isn't the mark, and its sum with the price is the number.
-fn is_own_sum(own: Cost, price: Price, number: Cost) -> bool
+// 1 if a turned cost isn't the mark, and its sum with the price is the number; else 0.
+fn mark_of(own: Cost, price: Price, number: Cost) -> u8
     requires cost { IsOwnCost own }
     requires price { IsPriceInLimits price }
-    ensures { IsTrue result ↔ IsOwnSum own price number }
+    ensures { IsMarkOf own price number result }
 {
-    own != UNLISTED && own + price == number
+    if own == UNLISTED {
+        return 0;
+    }
+    if own + price == number { 1 } else { 0 }
 }
 
 // A mark for each person.
-fn set_marks(
-    marks: &mut [u8],
-    own: &[Cost],
-    objects: &[Object],
-    numbers: &[Cost],
-    prices: &[Price],
-)
+fn set_marks(marks: &mut [u8], own: &[Cost], objects: &[Object], numbers: &[Cost], prices: &[Price])
     requires own { length own.now ≡ length marks.old }
     requires costs { All IsOwnCost own.now }
     requires objects { length objects.now ≡ length marks.old }
@@ -48,8 +45,30 @@ fn set_marks(
 {
     for i in 0..marks.len() {
         let price = price_at(prices, objects[i]);
-        marks[i] = is_own_sum(own[i], price, numbers[i]) as u8;
+        marks[i] = mark_of(own[i], price, numbers[i]);
     }
+}
+
+// Marks each person whose own object stands in the lists at its row number. The own costs are those of
+// the objects.
+fn mark_own(
+    marks: &mut [u8],
+    lists: &CostLists<'_>,
+    own: &[Cost],
+    objects: &[Object],
+    numbers: &[Cost],
+    prices: &[Price],
+)
+    requires long { length marks.old ≡ length lists.now.rows }
+    requires own { AreOwnCosts lists.now.sense lists.now.rows objects.now own.now }
+    requires objects { length objects.now ≡ length lists.now.rows }
+    requires numbers { length numbers.now ≡ length lists.now.rows }
+    requires in_range { All IsPriceInLimits prices.now }
+    ensures { AreMarks lists.now objects.now prices.now numbers.now marks.new }
+{
+    // This call shows the prover that the costs are in range.
+    let _persons = lists.persons();
+    set_marks(marks, own, objects, numbers, prices);
 }
 
 /// For each person 1 if the lists have its own object for it, at a sum of cost and price that is its
@@ -68,13 +87,19 @@ pub fn own_marks(
 ) -> Result<Vec<u8>, AllocError>
     requires objects { length objects.now ≡ length lists.now.rows }
     requires numbers { length numbers.now ≡ length lists.now.rows }
-    requires prices { length prices.now ≡ lists.now.m }
     requires in_range { All IsPriceInLimits prices.now }
     ensures { IfOk result
         (λ marks. AreMarks lists.now objects.now prices.now numbers.now marks.items) }
 {
     let own = lists.own_costs(alloc, objects)?;
     let mut marks = vec![in alloc; 0u8; lists.persons() as usize]?;
-    set_marks(marks.as_mut_slice(), own.as_slice(), objects, numbers, prices);
+    mark_own(
+        marks.as_mut_slice(),
+        lists,
+        own.as_slice(),
+        objects,
+        numbers,
+        prices,
+    );
     Ok(marks)
 }

@@ -12,8 +12,13 @@ IsOwnCost own = (own ≡ UNLISTED) ⊎ IsCost own
 abbrev pub IsOwnSum : ℤ → ℤ → ℤ → Type 0
 IsOwnSum own price number = (own ≢ UNLISTED) × (own +ℤ price ≡ number)
 
+-- a mark that says so
+pub record IsMarkOf (own price number : ℤ) (mark : ℕ) : Type 0 where
+  pub zero_or_one : (mark ≡ 0) ⊎ (mark ≡ 1)
+  pub one : (mark ≡ 1) ↔ IsOwnSum own price number
+
 -- the first marks say it of each person, by its place
 abbrev pub AreMarksOf : List ℤ → List ℕ → List ℤ → List ℤ → ℕ → List ℕ → Type 0
 AreMarksOf own objects numbers prices k marks =
-    (i : ℕ) → i < k → ((slice_index_or marks i 0 ≡ 0) ⊎ (slice_index_or marks i 0 ≡ 1))
-    × ((slice_index_or marks i 0 ≡ 1) ↔ IsOwnSum (slice_index_or own i (pos 0)) (price_of prices (slice_index_or objects i 0)) (slice_index_or numbers i (pos 0)))
+    (i : ℕ) → i < k →
+    IsMarkOf (slice_index_or own i (pos 0)) (price_of prices (slice_index_or objects i 0)) (slice_index_or numbers i (pos 0)) (slice_index_or marks i 0)

@@ -1,0 +1,4 @@
+pub mod LeastSums
+pub mod OwnMarks
+pub mod ListedSums
+pub mod BoundedRows
