@@ -1,9 +1,9 @@
 -- Row numbers that no sum is below.
-use Rattle.std.proofs.Common.{◌≡◌, ℕ, ℤ, pos, ◌+ℤ◌, ◌-◌, ◌≤ℤ◌, ◌<ℤ◌, ◌<◌, List, Option, None, Some, IsSome, MatchOption, length, get_or, refl, arith, sym, subst}
+use Rattle.std.proofs.Common.{◌≡◌, ℕ, ℤ, pos, ◌-◌, ◌≤ℤ◌, ◌<◌, List, Option, None, Some, IsSome, MatchOption, length, get_or, refl, arith, sym, subst}
 use Rattle.std.proofs.lemmas.Int.{ints, by_lt_z}
 use Rattle.assign_core.specs.declared.sense.Sense.{Sense}
-use Rattle.assign_core.specs.Numbered.{IsNumber, numbered}
-use Rattle.assign_core.specs.Rows.{Listing, listed_in, row_of}
+use Rattle.assign_core.specs.Numbered.{numbered}
+use Rattle.assign_core.specs.Rows.{Listing}
 use Rattle.assign_core.proofs.Listed.{listing_within}
 use Rattle.assign_core.proofs.NumberedLemmas.{numbered-index}
 use Rattle.cost_lists.specs.Blocks.{IsBounded, reduced_sum}

@@ -1,6 +1,6 @@
 -- Least sums: of one more cost, and as what persons list.
-use Rattle.std.proofs.Common.{◌≡◌, ℕ, ℤ, pos, ◌+ℤ◌, ◌-◌, ◌+◌, ◌≤ℤ◌, ◌<◌, ◌≤◌, List, Option, None, Some, length, get_or, set, replicate}
-use Rattle.std.proofs.Common.{◌⊎◌, inl, inr, nat_eq, IsSome, refl, arith, ap, sym, subst, ◌∙◌}
+use Rattle.std.proofs.Common.{◌≡◌, ℕ, ℤ, pos, ◌+◌, ◌≤ℤ◌, ◌<◌, List, length, get_or, set, replicate}
+use Rattle.std.proofs.Common.{◌⊎◌, inl, inr, arith, ap, sym, subst, ◌∙◌}
 use Rattle.std.specs.Int.{int_min}
 use Rattle.std.proofs.lemmas.Bool.Decides.{eqb_tells}
 use Rattle.std.proofs.lemmas.Int.{ints, clamps, by_lt_z}

@@ -1,18 +1,16 @@
 -- Least sums of rows and of pairs are those of what persons list.
-use Rattle.std.proofs.Common.{◌≡◌, ℕ, ℤ, pos, ◌+ℤ◌, ◌-◌, ◌+◌, ◌≤ℤ◌, ◌<◌, ◌≤◌, List, Option, None, Some, IsSome, length, get_or}
-use Rattle.std.proofs.Common.{◌⊎◌, inl, inr, refl, arith, ap, sym, subst, ◌∙◌}
+use Rattle.std.proofs.Common.{◌≡◌, ℕ, ℤ, pos, ◌+ℤ◌, ◌-◌, ◌+◌, ◌≤ℤ◌, ◌<◌, List, Option, None, Some, IsSome, length, get_or}
+use Rattle.std.proofs.Common.{inl, inr, refl, arith, ap, sym, subst, ◌∙◌}
 use Rattle.std.specs.List.{All, Contains}
 use Rattle.std.proofs.lemmas.Int.{ints}
 use Rattle.assign_core.specs.declared.sense.Sense.{Sense}
-use Rattle.assign_core.specs.Numbered.{IsNumber, numbered}
+use Rattle.assign_core.specs.Numbered.{IsNumber}
 use Rattle.assign_core.specs.Rows.{Listing, listed_in, row_of}
 use Rattle.assign_core.specs.Dense.{row_from, rows_cut}
 use Rattle.assign_core.specs.Prices.{price_of}
 use Rattle.assign_core.specs.Sparse.{IsTripleAmong}
-use Rattle.assign_core.proofs.DenseRows.{length-rows_cut}
 use Rattle.assign_core.proofs.NumberedLemmas.{numbered-index}
 use Rattle.assign_core.proofs.Orders.{le_antisymmetric}
-use Rattle.cost_lists.specs.declared.numbers.TheConstants.{UNLISTED}
 use Rattle.cost_lists.specs.declared.source.Pairs.{Pairs}
 use Rattle.cost_lists.specs.Blocks.{reduced_sum}
 use Rattle.cost_lists.specs.Given.{IsBestGiven, best_given, rows_given}
@@ -20,12 +18,11 @@ use Rattle.cost_lists.specs.Own.{minimised}
 use Rattle.cost_lists.specs.Source.{AreCosts, ArePairs, part_of, triples_in}
 use Rattle.cost_lists.proofs.BestGiven.{best_given_is}
 use Rattle.cost_lists.proofs.CutRows.{cost_read, cut_row, listed_number, part_fits, part_long}
-use Rattle.cost_lists.proofs.GivenRows.{length-rows_given, rows_list}
+use Rattle.cost_lists.proofs.GivenRows.{rows_list}
 use Rattle.cost_lists.proofs.Owns.{turned_order}
 use Rattle.cost_lists.proofs.Triples.{place_of_triple, triple_contained, triples_among}
-use Rattle.exact_checker.specs.inside.Sums.{sum_at}
 use Rattle.block_checker.specs.Sums.{AreLeastSums, IsLeastSum, IsSumOf}
-use Rattle.block_checker.specs.inside.Least.{AreLeastOf, IsLeastOf, IsLeastOfRow, IsPairOf, sum_of_pair}
+use Rattle.block_checker.specs.inside.Least.{IsLeastOf, IsLeastOfRow, IsPairOf, sum_of_pair}
 
 some_same : {a b : ℤ} → Some a ≡ Some b → a ≡ b
 some_same e = cc

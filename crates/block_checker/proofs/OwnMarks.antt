@@ -1,18 +1,17 @@
 -- What marks of own costs say of the lists.
-use Rattle.std.proofs.Common.{◌≡◌, ◌≢◌, ◌↔◌, ℕ, ℤ, pos, ◌+ℤ◌, ◌-◌, ◌≤ℤ◌, ◌<◌, List, [], Option, None, Some, unwrap_or, length, get_or, ◌⊎◌, inl, inr, refl, arith, ap, sym, subst, ◌∙◌}
+use Rattle.std.proofs.Common.{◌≡◌, ◌↔◌, ℕ, ℤ, pos, ◌+ℤ◌, ◌-◌, List, [], Option, None, Some, unwrap_or, length, get_or, ◌⊎◌, inl, inr, refl, arith, ap, sym, subst, ◌∙◌}
 use Rattle.std.specs.List.{All}
 use Rattle.std.proofs.lemmas.Int.{ints}
 use Rattle.assign_core.specs.declared.sense.Sense.{Sense}
 use Rattle.assign_core.specs.Numbered.{IsNumber, numbered}
 use Rattle.assign_core.specs.Prices.{price_of}
-use Rattle.assign_core.specs.Rows.{HasCosts, IsCost, Listing, listed_in, listed_or_zero, row_of}
+use Rattle.assign_core.specs.Rows.{HasCosts, IsCost, listed_in, listed_or_zero, row_of}
 use Rattle.assign_core.proofs.NumberedLemmas.{All-from_numbers, All-numbered, numbered-index}
 use Rattle.assign_core.proofs.RowLemmas.{IsCost-listed}
 use Rattle.cost_lists.specs.ListedCosts.{ListedCosts}
-use Rattle.cost_lists.specs.declared.numbers.TheConstants.{UNLISTED}
 use Rattle.cost_lists.specs.Own.{AreOwnCosts, minimised, turned_or_unlisted}
 use Rattle.cost_lists.proofs.Owns.{turned_range}
-use Rattle.block_checker.specs.Sums.{AreMarks, IsShown}
+use Rattle.block_checker.specs.Sums.{AreMarks}
 use Rattle.block_checker.specs.inside.Marks.{AreMarksOf, IsMarkOf, IsOwnCost, IsOwnSum}
 
 some_same : {a b : ℤ} → Some a ≡ Some b → a ≡ b

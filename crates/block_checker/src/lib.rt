@@ -3,10 +3,13 @@
 //! (`cost_lists::blocks_mean_best`).
 #![tactic(auto)]
 
+mod better;
 mod bounded;
 mod least;
 mod marks;
+mod selection;
 
+pub use better::write_better;
 pub use bounded::first_better;
 pub use least::least_sums;
 pub use marks::own_marks;

@@ -1,4 +1,4 @@
-use Rattle.std.proofs.Common.{◌≡◌, ℕ, pos, ◌-◌, ◌<◌, length, get_or, arith, sym, subst, ◌∙◌}
+use Rattle.std.proofs.Common.{◌≡◌, ℕ, pos, ◌-◌, length, get_or, arith, sym, subst, ◌∙◌}
 use Rattle.assign_core.specs.Dense.{rows_cut}
 use Rattle.assign_core.specs.Numbered.{IsNumber}
 use Rattle.assign_core.proofs.DenseRows.{length-rows_cut}

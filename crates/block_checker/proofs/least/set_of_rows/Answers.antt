@@ -1,4 +1,4 @@
-use Rattle.std.proofs.Common.{◌≢◌, ℕ, ℤ, List, pos, ◌<◌, length, get_or, arith, rules, subst, below_more, SFits, w64}
+use Rattle.std.proofs.Common.{◌≢◌, ℕ, pos, ◌<◌, length, arith, rules, subst, below_more, SFits, w64}
 use Rattle.std.proofs.lemmas.Int.{to_z-of_z}
 use Rattle.std.proofs.lemmas.List.{get_or-set_other, get_or-set_same}
 use Rattle.cost_lists.specs.Source.{part_of}
