@@ -21,5 +21,7 @@ pub use end::refuse;
 pub use fault::Fault;
 pub use form::{Form, form_of};
 pub use given::Given;
+pub use judge::{Shape, judge};
+pub use lists::lists_of;
 pub use info::Info;
 pub use solve::{solve_from, solve_given};
