@@ -99,11 +99,10 @@ static void refused(int is_sparse) {
     WANT(k > 3);
 }
 
-/* A drawn block of listed pairs, or dense: sums, marks, the first better pair and the better ones, one by one. */
-static void draw(unsigned *seed) {
+/* A drawn block of listed pairs, or dense. */
+static struct block draw(unsigned *seed) {
     struct block b;
-    size_t i, k, written = 0;
-    int is_better = 0;
+    size_t k;
     memset(&b, 0, sizeof b);
     b.n = 1 + drawn(seed) % ROWS, b.m = 1 + drawn(seed) % COLUMNS, b.is_sparse = drawn(seed) % 2, b.sense = drawn(seed) % 2;
     b.pairs = b.is_sparse ? 1 + drawn(seed) % ROOM : b.n * b.m, b.most = drawn(seed) % 4, b.room = ROOM;
@@ -113,37 +112,56 @@ static void draw(unsigned *seed) {
         b.of_objects[k] = (uint32_t)(b.is_sparse ? drawn(seed) % b.m : k % b.m) + 1;
     }
     for (k = 0; k < b.m; k++) b.prices[k] = drawn(seed) % 12;
-    for (i = 0; i < b.n; i++) b.objects[i] = drawn(seed) % (b.m + 2), b.numbers[i] = (int64_t)(drawn(seed) % 24) - 12;
-    {
-        const int32_t code = look(&b);
-        for (i = b.n; i-- > 0;) {
-            int64_t least = INT64_MAX, own = INT64_MAX, last = INT64_MIN;
-            size_t under = 0, count = 0;
-            uint32_t first = 0;
-            for (k = 0; k < b.pairs; k++) {
-                if (b.of_persons[k] != i + 1) continue;
-                if (sum(&b, k) < least) least = sum(&b, k);
-                if (b.of_objects[k] == b.objects[i] && sum(&b, k) < own) own = sum(&b, k);
-                if (sum(&b, k) < b.numbers[i]) {
-                    under++;
-                    if (first == 0 || b.of_objects[k] < first) first = b.of_objects[k];
-                }
-            }
-            WANT(b.least[i] == least && b.own[i] == (own != INT64_MAX && own == b.numbers[i]));
-            if (under > 0) is_better = 1, WANT(b.info.person <= i + 1);
-            if (under > 0 && b.info.person == i + 1) WANT(b.info.object == first);
-            for (k = 0; k < b.info.persons && code == NUSHBARET_SLACK; k++) {
-                struct block one = b;
-                if (b.better_persons[k] != i + 1) continue;
-                one.of_objects[0] = b.better_objects[k], one.costs[0] = b.better_costs[k];
-                WANT(last <= sum(&one, 0) && sum(&one, 0) < b.numbers[i]);
-                last = sum(&one, 0), count++;
-            }
-            WANT(count == (under < b.most ? under : b.most));
-            written += count;
-        }
-        WANT(code == (is_better ? NUSHBARET_SLACK : NUSHBARET_BEST) && b.info.persons == written);
+    for (k = 0; k < b.n; k++) {
+        b.objects[k] = (uint32_t)(drawn(seed) % (b.m + 2));
+        b.numbers[k] = (int64_t)(drawn(seed) % 24) - 12;
     }
+    return b;
+}
+
+/* How many pairs of a person are better, by a plain look; its least sum and its mark are right. */
+static size_t count_better(const struct block *b, size_t i, uint32_t *first) {
+    int64_t least = INT64_MAX, own = INT64_MAX;
+    size_t k, under = 0;
+    for (k = 0; k < b->pairs; k++) {
+        if (b->of_persons[k] != i + 1) continue;
+        if (sum(b, k) < least) least = sum(b, k);
+        if (b->of_objects[k] == b->objects[i] && sum(b, k) < own) own = sum(b, k);
+        if (sum(b, k) >= b->numbers[i]) continue;
+        under++;
+        if (*first == 0 || b->of_objects[k] < *first) *first = b->of_objects[k];
+    }
+    WANT(b->least[i] == least && b->own[i] == (own != INT64_MAX && own == b->numbers[i]));
+    return under;
+}
+
+/* How many of the written pairs are of a person; each is better, and they rise. */
+static size_t count_written(const struct block *b, size_t i) {
+    int64_t last = INT64_MIN;
+    size_t k, count = 0;
+    for (k = 0; k < b->info.persons; k++) {
+        struct block one = *b;
+        if (b->better_persons[k] != i + 1) continue;
+        one.of_objects[0] = b->better_objects[k], one.costs[0] = b->better_costs[k];
+        WANT(last <= sum(&one, 0) && sum(&one, 0) < b->numbers[i]);
+        last = sum(&one, 0), count++;
+    }
+    return count;
+}
+
+/* What a drawn block shows is what a plain look sees. */
+static void compare(unsigned *seed) {
+    struct block b = draw(seed);
+    const int32_t code = look(&b);
+    size_t i, written = 0, better = 0;
+    for (i = 0; i < b.n; i++) {
+        uint32_t first = 0;
+        const size_t under = count_better(&b, i, &first), count = count_written(&b, i);
+        if (under > 0 && better == 0) WANT(b.info.person == i + 1 && b.info.object == first);
+        WANT(count == (under < b.most ? under : b.most));
+        written += count, better += under;
+    }
+    WANT(code == (better > 0 ? NUSHBARET_SLACK : NUSHBARET_BEST) && b.info.persons == written);
 }
 
 void test_blocks(void) {
@@ -153,5 +171,5 @@ void test_blocks(void) {
     faults();
     refused(0);
     refused(1);
-    for (k = 0; k < 3000; k++) draw(&seed);
+    for (k = 0; k < 3000; k++) compare(&seed);
 }
