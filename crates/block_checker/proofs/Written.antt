@@ -1,4 +1,4 @@
--- One more pair behind those that were written.
+-- One more pair after those that were written.
 use Rattle.std.proofs.Common.{◌≡◌, ◌≢◌, ℕ, ℤ, pos, ◌+◌, ◌<◌, List, length, get_or, set, drop, arith, ap, sym, ◌∙◌, inl, inr}
 use Rattle.std.proofs.lemmas.List.{drop-drop, drop-set-lt, get_or-set_other, get_or-set_same, length-set}
 use Rattle.assign_core.proofs.NumberedLemmas.{low_or_same}

@@ -22,7 +22,7 @@ pub record PairLists : Type 0 where
   pub objects : List ℕ
   pub costs : List ℤ
 
--- the first entries are such pairs, and the others are those of before
+-- the first entries are pairs of this kind, and the others are those of before
 pub record AreWritten (l : ListedCosts) (prices numbers : List ℤ) (count : ℕ) (before after : PairLists) : Type 0 where
   pub few : count ≤ length after.persons
   pub better : (q : ℕ) → q < count →
