@@ -95,7 +95,7 @@ class Command(InFolders):
     def test_no_python(self):
         for executable, said in ((None, "sys.executable doesn't say where it is"),
                                  ("", "sys.executable doesn't say where it is"),
-                                 ("/no/python", "can be started with /no/python: No such file"),
+                                 ("/no/python", "can be started with /no/python: No .* file"),
                                  ("/bin/true", "/bin/true, by sys.executable, doesn't run as Python: status 0"),
                                  ("/bin/echo", "/bin/echo, by sys.executable, doesn't run as Python: -I"),
                                  ("/bin/cat", "/bin/cat, by sys.executable, doesn't run as Python: Try")):
