@@ -118,6 +118,7 @@ needs_kit "$(type -P rt)" cc tests/programs.sh
 needs 'cc c++ python3 nm' tests/door.sh built
 needs python3 tests/pages.py "$program"
 needs python3 tests/python.sh
+needs python3 tests/planted.py
 needs python3 tests/lint.sh
 needs_kit c/out/windows/nushbaret.dll 'cc python3' tests/windows.sh
 needs 'python3 node' tests/page.sh
