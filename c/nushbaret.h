@@ -71,6 +71,7 @@
    prices only where it isn't. The passes over all pairs with which a call begins come on top of its budget: give it ten
    or more times the number of pairs, since many short calls may take longer than one. Set the record to 0 before the
    first call of a problem. Whatever first prices it has, and whatever objects, prices and record hold, an answer is as good.
+   That calls come to one is only tested.
 
        struct nushbaret_record record = {0, 0, 0, 0, 0, 0, 0, 0};   (and all objects are 0)
        do code = nushbaret_dense_from(NUSHBARET_MIN, n, m, costs, n * m, costs, 0, objects, n, persons, n, prices, m,
