@@ -358,7 +358,8 @@ impl<'a> Work<'a> {
         Ok(ended)
     }
 
-    // Each person has an object: unowned objects come down to the least price.
+    // Each person has an object: unowned objects come down to the least price. A call that is stopped
+    // there leaves the rest to the last searches, whose calls are counted.
     fn lower<R: Reading<i64>>(
         &mut self,
         alloc: Global,
@@ -369,6 +370,10 @@ impl<'a> Work<'a> {
             return Ok(Step::End(Outcome::Best));
         }
         let ended = lower_unowned(alloc, matrix, &mut self.market, &mut self.looks)?;
+        if let Ended::Stopped = ended {
+            self.record.stage = Stage::Finish;
+            self.record.passes = 1;
+        }
         Ok(after(ended, Step::End(Outcome::Best), Stage::Finish))
     }
 
