@@ -2,10 +2,10 @@
 """Whether the pages are true and plain: tests/pages.py [--text] [PROGRAM].
 
 Runs each `$` line of the pages in RUN with the built program on the path (rt run in crates/auction_cli) and the
-Python package over the library that c/build.sh made, and compares what it prints, on both streams, with what
-stands below it; a line `..` stands for any lines. Lines that use a release run over the files of release/; where it has
-none yet, or Python can't make a virtual environment, they are shown as not run. With --text it runs nothing, and needs no
-program.
+Python package over the library that c/build.sh made, and compares what it prints, on both streams, with what stands
+below it; a line `..` stands for any lines. Lines that use a release run over the files of release/; where it has
+none yet, or Python can't make a virtual environment, they are shown as not run. With --text it runs nothing, and
+needs no program.
 
 Then it looks at the text of all pages: links and names of files that lead nowhere, lines of more than 100 characters,
 sentences of more than 35 words, and words that docs/CONTRIBUTING.md lists to avoid. Tables, code and quoted output are
