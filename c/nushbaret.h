@@ -371,7 +371,7 @@ static inline int32_t nushbaret_verify_hall(const struct nushbaret_problem *prob
     return nushbaret_check_hall(problem->n, problem->m,
         problem->persons == NULL ? answer->objects : problem->persons, pairs,
         problem->persons == NULL ? answer->objects : problem->objects, pairs, problem->costs, problem->count,
-        answer->persons, (size_t)answer->info.persons, answer->objects, (size_t)answer->info.objects, &answer->info);
+        answer->persons, answer->info.persons, answer->objects, answer->info.objects, &answer->info);
 }
 
 /* ROWS. n variables, each 0 or 1, and rows of whole numbers: least[r] <= sum of coefficient * variable <= most[r]. A tree
