@@ -71,7 +71,7 @@ def crate_codes():
 def row_codes():
     """The codes of rows: `Shown` and `Costs` have one."""
     called = {"NotShown": "NOT_SHOWN", "TooGreat": "TOO_GREAT", "TooDeep": "TOO_DEEP", "RowVariable": "ROW_VARIABLE",
-              "PlanNumber": "PLAN_NUMBER"}
+              "CostRow": "COST_ROW", "PlanNumber": "PLAN_NUMBER"}
     for variant, number in re.findall(r"(?:Fault|Answer)::(\w+)(?:\(_\))? => (\d+),", ROWS.read_text()):
         yield "SHOWN" if variant == "Costs" else called.get(variant, variant.upper()), int(number)
 
