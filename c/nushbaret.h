@@ -259,7 +259,7 @@ int32_t nushbaret_check_hall(size_t n, size_t m,
    Of several faults a call returns the one with the least number.
 
    NUSHBARET_BEST: no plan has a lesser sum (under NUSHBARET_MAX a greater one) in exact arithmetic, without any rounding.
-   At the prices, which are doubles, each person's own object is a best one, and no price is below that of an object that
+   At the prices, which are finite, each person's own object is a best one, and no price is below that of an object that
    nobody has. NUSHBARET_HALL: there is no plan. NUSHBARET_UNDECIDED says neither: plans that differ by less than the
    rounding of their costs are mostly why, or costs of very different sizes.
 
