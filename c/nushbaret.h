@@ -71,6 +71,7 @@
    prices only where it isn't. The passes over all pairs with which a call begins come on top of its budget: give it ten
    or more times the number of pairs, since many short calls may take longer than one. Set the record to 0 before the
    first call of a problem. Whatever first prices it has, and whatever objects, prices and record hold, an answer is as good.
+   That calls come to one is only tested.
 
        struct nushbaret_record record = {0, 0, 0, 0, 0, 0, 0, 0};   (and all objects are 0)
        do code = nushbaret_dense_from(NUSHBARET_MIN, n, m, costs, n * m, costs, 0, objects, n, persons, n, prices, m,
@@ -240,6 +241,50 @@ int32_t nushbaret_check_hall(size_t n, size_t m,
     const int64_t *costs, size_t costs_count,
     const uint32_t *persons, size_t persons_count,
     const uint32_t *objects, size_t objects_count,
+    struct nushbaret_info *info);
+
+/* BLOCKS. A problem of which no machine holds all pairs: blocks have its pairs, each at least once. A row may lie in several
+   blocks. A plan has an object for each person and a price for each object; a person's number is the sum of the cost and the
+   price of its own pair (under NUSHBARET_MAX the price less the cost). The plan is optimal for the whole problem if
+   - no block has a better pair, one whose sum is below its person's number;
+   - each person's own pair stands in some block at that sum;
+   - no object is given twice, no price is below 0, and each is 0 where nobody has the object. nushbaret_check shows this:
+     called with the n own pairs alone as a sparse problem it returns NUSHBARET_BEST.
+   docs/PROOFS.md has the proof (`blocks_mean_best`). At any prices from 0 the sum over all persons of their least sums (of a
+   person in several blocks the least of these) less the sum of all prices bounds the cost of each assignment from below
+   (under NUSHBARET_MAX its cost with the other sign): `blocks_bound`. There is no assignment if all blocks show that some
+   persons list only objects of a set which is smaller than they are: nushbaret_check_hall over a block returns
+   NUSHBARET_HALL, NUSHBARET_HALL_EXTRA or NUSHBARET_HALL_COUNT exactly where its persons list no other object
+   (`closed_verdicts`, `blocks_forbid`).
+
+   nushbaret_block looks at n persons of the problem, numbered from 1 in the block, and all m objects. The block's pairs are
+   given as for nushbaret_check. objects and numbers have a value for each person: its own object and its number, any
+   numbers; prices has one for each object.
+
+   code                  written
+   NUSHBARET_BEST        no pair is better: least, own, and info->persons, which is 0
+   NUSHBARET_SLACK       info->person, the lowest, has the better pair of info->object, its lowest one: least, own, and
+                         info->persons better pairs at the beginning of better_persons, better_objects and better_costs
+   NUSHBARET_PRICE       info->place: prices[info->place] isn't from 0 to NUSHBARET_GREATEST_PRICE
+   any other fault       as in nushbaret_check
+
+   least[i] is the least sum of the person in the block, INT64_MAX if it has no pair there. own[i] is 1 if the block has the
+   person's own pair at its number, else 0. At most `most` better pairs of a person are written, those of the least sums, by
+   persons, as far as the three lists reach, which have one length; it may be 0. The time is that of nushbaret_check, twice
+   where a pair is better. */
+int32_t nushbaret_block(uint32_t sense, size_t n, size_t m,
+    const uint32_t *of_persons, size_t of_persons_count,
+    const uint32_t *of_objects, size_t of_objects_count,
+    const int64_t *costs, size_t costs_count,
+    const uint32_t *objects, size_t objects_count,
+    const int64_t *numbers, size_t numbers_count,
+    const int64_t *prices, size_t prices_count,
+    size_t most,
+    int64_t *least, size_t least_count,
+    uint8_t *own, size_t own_count,
+    uint32_t *better_persons, size_t better_persons_count,
+    uint32_t *better_objects, size_t better_objects_count,
+    int64_t *better_costs, size_t better_costs_count,
     struct nushbaret_info *info);
 
 /* DOUBLES. Dense problems whose costs are doubles, each of which is taken for exactly the number that it is. An infinity

@@ -1,7 +1,9 @@
 #!/usr/bin/env bash
-# Tests what needs no proof, in some minutes: tests/quick.sh [NAME..]. It takes the program and the library that are
-# built here, or else those of release/. With names of crates and the kit, `rt ci NAME..` comes first. It lists what it
-# left out and why. The last line is 'N passed, M failed'.
+# Tests what needs no proof, in some minutes: tests/quick.sh [--install] [--without-missing] [NAME..]. It takes the program and
+# the library that are built here, or else those of release/. With names of crates and the kit, `rt ci NAME..` comes first.
+# --install first installs by apt-get what scripts need and isn't here. A script that is left out for lack of a tool makes the
+# status 1, unless --without-missing accepts it. What needs the Rattle kit isn't counted where there is none. It lists what it left out
+# and why. The last line is 'N passed, M failed', and ', K skipped' where some were left out.
 set -uo pipefail
 cd "$(dirname "$0")/.." || exit 1
 top=$PWD
@@ -11,6 +13,17 @@ borrowed=
 passed=0
 failed=0
 left_out=()
+not_counted=()
+install=
+without_missing=
+while [[ ${1-} == --* ]]; do
+    case $1 in
+        --install) install=yes ;;
+        --without-missing) without_missing=yes ;;
+        *) echo "tests/quick.sh: its words are --install, --without-missing and names of crates, not $1" >&2; exit 2 ;;
+    esac
+    shift
+done
 
 # has COMMAND..: whether all are there.
 has() {
@@ -44,6 +57,32 @@ needs() {
     fi
 }
 
+# needs_kit FILE COMMANDS COMMAND..: the same of a script that needs the kit, or this file that only the kit makes.
+needs_kit() {
+    if [ -e "$1" ]; then
+        needs "${@:2}"
+    elif has rt; then
+        left_out+=("$3: it needs $1")
+    else
+        not_counted+=("$3: it needs the kit")
+    fi
+}
+
+# The packages of Debian that have what scripts need and isn't here.
+missing_packages() {
+    has python3 && python3 -c 'import ensurepip, venv' 2> /dev/null || echo python3 python3-venv
+    has cc || echo gcc libc6-dev
+    has c++ || echo g++
+    has nm readelf || echo binutils
+    has node || echo nodejs
+    has git || echo git
+}
+
+if [ -n "$install" ] && packages=$(missing_packages | xargs) && [ -n "$packages" ]; then
+    # shellcheck disable=SC2086
+    tests/apt_get.sh $packages || exit 1
+fi
+
 # The built program, or that of the release.
 program=$top/crates/auction_cli/out/auction_cli
 if [ ! -x "$program" ]; then
@@ -75,16 +114,20 @@ run tests/statuses.sh "$program"
 run tests/interrupts.sh "$program"
 needs python3 tests/progress.sh "$program"
 needs cc tests/refused_growths.sh "$program"
-needs 'rt cc' tests/programs.sh
+needs_kit "$(type -P rt)" cc tests/programs.sh
 needs 'cc c++ python3 nm' tests/door.sh built
 needs python3 tests/pages.py "$program"
 needs python3 tests/python.sh
+needs python3 tests/planted.py
 needs python3 tests/lint.sh
-needs 'cc python3' tests/windows.sh
+needs_kit c/out/windows/nushbaret.dll 'cc python3' tests/windows.sh
 needs 'python3 node' tests/page.sh
 needs 'python3 git readelf' tests/release.sh
 for one in "${left_out[@]}"; do
     echo "left out: $one"
 done
-echo "$passed passed, $failed failed"
-[ "$failed" = 0 ]
+for one in "${not_counted[@]}"; do
+    echo "not counted: $one"
+done
+echo "$passed passed, $failed failed${left_out:+, ${#left_out[@]} skipped}"
+[ "$failed" = 0 ] && { [ ${#left_out[@]} = 0 ] || [ -n "$without_missing" ]; }

@@ -14,7 +14,6 @@ by level. What this package adds is tested, not proved: how costs are read, leve
 order of plans.
 """
 import importlib
-import os
 from typing import TYPE_CHECKING, Any, List
 
 if TYPE_CHECKING:
@@ -54,10 +53,6 @@ _MODULES = {
     "costs.limits": ("GREATEST_COST", "MOST_PERSONS"),
     "lap.library": ("VERSION", "LibraryNotFound"),
 }
-
-
-# Where pickles of older releases find their classes.
-__path__.append(os.path.join(__path__[0], "pickled"))
 
 
 def __getattr__(name: str) -> Any:

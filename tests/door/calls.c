@@ -161,6 +161,7 @@ int main(void) {
     test_answers();
     test_faults();
     test_verdicts();
+    test_blocks();
     test_drawn();
     test_memory();
     test_large();

@@ -1,12 +1,14 @@
 """Drawn models of rows, searches of all their plans, a check of certificates in fractions, and finding within this
 process."""
 import itertools
+import time
 from fractions import Fraction
 
 from nushbaret.rows import certificates as files
 from nushbaret.rows import finding
 from nushbaret.rows import worker
 from nushbaret.rows.model import Limits, Model, Row
+from nushbaret.rows.times import Times
 
 try:
     import scipy
@@ -122,7 +124,7 @@ def found_here(model, seconds=600):
     """What `find` returns, with the work of both processes done here, one after the other."""
     from nushbaret.rows import bounds, plans
     search, channel = finding._PlanSearch(model), Channel()
-    plans.look_for_plans(search.scaled, channel, seconds)
+    plans.look_for_plans(search.scaled, channel, Times(time.monotonic(), seconds, seconds))
     bounds.look_for_bounds(search.scaled, channel, seconds)
     for message in channel.told:
         finding._taken(search, [], message)

@@ -12,7 +12,7 @@ OF_OTHER_FOLDERS = {
     # What several files of tests share.
     "commands": "roster.command",
     "drawn_rules": "roster.month roster.roster roster.rule_file roster.times",
-    "row_models": "rows.bounds rows.certificates rows.finding rows.model rows.plans rows.worker",
+    "row_models": "rows.bounds rows.certificates rows.finding rows.model rows.plans rows.times rows.worker",
     "ways": "api.solve lap.direct lap.library",
     # They count or replace calls below the public one: of levels, checks, searches and the library.
     "api.test_forms": "costs.kinds costs.problem lap.levels",
@@ -45,7 +45,7 @@ class Package(unittest.TestCase):
         folders = {layers.folder_of(name) for name in self.GRAPH if name not in layers.ENTRIES}
         self.assertEqual(folders, set(layers.BELOW))
         drawn = "\n".join(layers.drawn(self.GRAPH))
-        self.assertRegex(drawn, r"(?s)^pickled/ .*\napi/ .*\nroster/output/ .*\nroster/ .*\ncounts/ .*\nrows/ .*\nlap/ "
+        self.assertRegex(drawn, r"(?s)^api/ .*\nroster/output/ .*\nroster/ .*\ncounts/ .*\nrows/ .*\nlap/ "
                          r".*\ncosts/  imports nothing\n")
 
 

@@ -11,14 +11,14 @@ use Rattle.std.proofs.lemmas.List.{get_or_past}
 use Rattle.assign_core.specs.declared.sense.Sense.{Sense}
 use Rattle.assign_core.specs.declared.sense.Sense.TheVariants.{Min, Max}
 use Rattle.assign_core.specs.Numbered.{IsNumber}
-use Rattle.assign_core.specs.Rows.{Listing, listed_in, listed_or_zero}
-use Rattle.assign_core.specs.Assignment.{AreListed, IsBest, IsNoWorse, total}
+use Rattle.assign_core.specs.Rows.{Listing, IsWithin, listed_in, listed_or_zero}
+use Rattle.assign_core.specs.Assignment.{AreListed, IsAssignment, IsBest, IsNoWorse, total}
 use Rattle.assign_core.specs.Prices.{price_of}
 use Rattle.assign_core.proofs.Distinct.{at_most_all, sum_z, up_to}
 use Rattle.assign_core.proofs.Listed.{objects_within}
 use Rattle.assign_core.proofs.Members.{first_or_later}
 use Rattle.cost_lists.specs.ListedCosts.{ListedCosts, AreInLimits}
-use Rattle.cost_lists.specs.Exact.{AreChoices, IsOptimum, IsPriceInLimits}
+use Rattle.cost_lists.specs.Exact.{AreChoices, AreFree, IsOptimum, IsPriceInLimits}
 
 -- f with 0 at x
 abbrev cleared : (ℕ → ℤ) → ℕ → ℕ → ℤ
@@ -127,13 +127,17 @@ ordered : (sense : Sense) (prices : List ℤ) (rows : List Listing) (xs ys : Lis
 ordered Min prices rows xs ys k g s = let w = weak_min prices rows xs ys k g in omega (arith, ints)
 ordered Max prices rows xs ys k g s = let w = weak_max prices rows xs ys k g in omega (arith, ints)
 
-pub best_exact : (l : ListedCosts) (xs : List ℕ) (prices : List ℤ) → AreInLimits l → IsOptimum l xs prices → IsBest l.sense l.rows xs
-best_exact l xs prices limits o = record {
-  assigned = o.assigned;
+-- what no price beats is best, of any costs
+pub best_by_choices : (sense : Sense) (m : ℕ) (rows : List Listing) (xs : List ℕ) (prices : List ℤ) → All (IsWithin m) rows →
+    ((j : ℕ) → pos 0 ≤ℤ price_of prices j) → IsAssignment rows xs → AreChoices sense prices rows xs → AreFree m prices xs → IsBest sense rows xs
+best_by_choices sense m rows xs prices within none assigned choices free = record {
+  assigned = assigned;
   best = λ ys g.
-      let p = λ (j : ℕ). no_price_below prices j o.in_range in
-      let inside = objects_within l.m l.rows ys limits.within g.listed in
-      let most = at_most_all (price_of prices) l.m ys g.apart inside (λ j n. p j) in
-      let least = all_at_most (price_of prices) l.m xs p o.free in
-      ordered l.sense prices l.rows xs ys o.choices g.listed (omega (arith, ints));
+      let inside = objects_within m rows ys within g.listed in
+      let most = at_most_all (price_of prices) m ys g.apart inside (λ j n. none j) in
+      let least = all_at_most (price_of prices) m xs none free in
+      ordered sense prices rows xs ys choices g.listed (omega (arith, ints));
 }
+
+pub best_exact : (l : ListedCosts) (xs : List ℕ) (prices : List ℤ) → AreInLimits l → IsOptimum l xs prices → IsBest l.sense l.rows xs
+best_exact l xs prices limits o = best_by_choices l.sense l.m l.rows xs prices limits.within (λ j. no_price_below prices j o.in_range) o.assigned o.choices o.free

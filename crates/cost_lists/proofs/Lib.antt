@@ -3,6 +3,8 @@ pub mod BestGiven
 pub mod GivenRows
 pub mod CutRows
 pub mod ExactDuality
+pub mod BlockDuality
+pub mod BlockHall
 pub mod Owns
 pub mod Limits
 pub mod Rising

@@ -3,3 +3,4 @@ pub mod Given
 pub mod Source
 pub mod Exact
 pub mod Own
+pub mod Blocks

@@ -8,6 +8,7 @@ ghost use Rattle.assign_core.specs.Assignment.{IsBest};
 ghost use Rattle.cost_lists.specs.ListedCosts.{ListedCosts, AreInLimits};
 ghost use Rattle.cost_lists.specs.Given.{IsBestGiven, best_given, rows_given};
 ghost use Rattle.cost_lists.specs.Exact.{IsOptimum};
+ghost use Rattle.cost_lists.specs.Blocks.{BlocksBound, BlocksForbid, BlocksMeanBest};
 
 use super::numbers::{GREATEST_NUMBER, GREATEST_PRICE};
 use assign_core::GREATEST_COST;
@@ -24,6 +25,26 @@ pub fn wide_limits()
 pub fn exact_means_best()
     ensures { (l : ListedCosts) (xs : List ℕ) (prices : List ℤ)
         → AreInLimits l → IsOptimum l xs prices → IsBest l.sense l.rows xs }
+{}
+
+/// A plan is best of all pairs if these lie in blocks, and no block has a pair whose sum of cost and
+/// price is below its row's number, which is the sum of the person's own pair; objects differ, and
+/// prices are from 0, and 0 where nobody owns the object: weak duality, block by block. A row may lie
+/// in several blocks.
+pub fn blocks_mean_best()
+    ensures { BlocksMeanBest }
+{}
+
+/// At prices from 0 the row numbers bound each assignment: the sum of the row numbers less that of the
+/// prices is at most its cost (under `Max`: its cost with the other sign).
+pub fn blocks_bound()
+    ensures { BlocksBound }
+{}
+
+/// Where blocks list only some objects for some persons, and these objects are fewer, no assignment
+/// exists (Hall 1935).
+pub fn blocks_forbid()
+    ensures { BlocksForbid }
 {}
 
 /// Of n * m costs, that at place `i * m + j` is the cost of person `i + 1` and object `j + 1`. Among

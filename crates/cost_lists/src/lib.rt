@@ -10,7 +10,10 @@ mod own;
 mod source;
 mod total;
 
-pub use law::{best_given_counts, costs_are_listed, exact_means_best, wide_limits};
+pub use law::{
+    best_given_counts, blocks_bound, blocks_forbid, blocks_mean_best, costs_are_listed,
+    exact_means_best, wide_limits,
+};
 pub use lists::CostLists;
 pub use number_lists::{are_within, rises};
 pub use numbers::{GREATEST_NUMBER, GREATEST_PRICE, Object, Person, Price, UNLISTED};

@@ -4,7 +4,7 @@ use super::number::{Number, lesser};
 use super::reading::Reading;
 use sparse_search::place_at;
 
-// The greatest first price.
+// Greater prices of a caller, and lower ones than its negative, are cut.
 const GREATEST_PRICE: i64 = 1 << 60;
 
 fn lower<K: Number, R: Reading<K>>(reading: &R, row: &[K], least: &mut [K]) {
@@ -72,6 +72,8 @@ pub fn begin_at_zero(prices: &mut [i64]) {
 // Cuts prices, so that sums have room.
 pub fn cut(prices: &mut [i64]) {
     for price in prices.iter_mut() {
-        *price = (*price).min(GREATEST_PRICE);
+        *price = (*price)
+            .min(GREATEST_PRICE)
+            .max(GREATEST_PRICE.wrapping_neg());
     }
 }

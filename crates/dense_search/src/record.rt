@@ -38,6 +38,9 @@ impl Stage {
 // In the auction costs count 2 to this power times.
 pub const SHIFT: u32 = 9;
 
+// No slackness is greater: costs lie at most 2 * 10^12 apart.
+const MOST_SLACKNESS: i64 = 1 << 51;
+
 /// What the next call needs to go on, with prices and objects. Whatever it holds, an answer is
 /// judged by a checker alone.
 #[derive(Clone, Copy)]
@@ -49,8 +52,11 @@ pub struct Record {
     /// The bids of this phase of the auction; before an auction over a copy, the searches of earlier
     /// calls.
     pub bids: u64,
-    /// How often a core was solved; of searches, the passes over all pairs that they took so far.
+    /// How often a core was solved; of searches, the passes over all pairs that they took so far, or the
+    /// calls of the last ones.
     pub passes: u64,
+    /// How often an end didn't hold or didn't come, so that searches went on from there.
+    pub restarts: u32,
     /// The looks at pairs of all calls.
     pub looks: u64,
 }
@@ -64,6 +70,7 @@ impl Record {
             slackness: 0,
             bids: 0,
             passes: 0,
+            restarts: 0,
             looks: 0,
         }
     }
@@ -96,7 +103,7 @@ impl Record {
         !matches!(self.stage, Stage::Cold | Stage::Warm)
     }
 
-    // The record, with a unit that its stage may have.
+    // The record, with a unit that its stage may have, and a slackness that costs may have.
     pub fn sound(&self) -> Record {
         let shift = match self.stage {
             Stage::Auction | Stage::Finish => self.shift.min(SHIFT),
@@ -104,7 +111,7 @@ impl Record {
         };
         Record {
             shift,
-            slackness: self.slackness.max(0),
+            slackness: self.slackness.max(0).min(MOST_SLACKNESS),
             ..*self
         }
     }

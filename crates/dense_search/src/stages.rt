@@ -20,7 +20,15 @@ use std::alloc::{AllocError, Global};
 pub const MOST: usize = 1 << 22;
 
 // The most stages of a search.
-const STAGES: usize = 12;
+const STAGES: usize = 16;
+
+// More calls than searches for all persons and objects take, and passes too, as a number for each.
+const MOST_CALLS: u64 = 4;
+
+const MORE_CALLS: u64 = 16;
+
+// So often searches go on from an end that doesn't hold. Then the search begins with nothing.
+const MOST_RESTARTS: u32 = 1;
 
 // Searches alone serve problems with fewer pairs.
 const SMALL: usize = 1 << 14;
@@ -542,11 +550,33 @@ impl<'a> Work<'a> {
         Ok(after(ended, Step::End(Outcome::Best), Stage::Finish))
     }
 
+    // Whether searches took more calls than there can be if each serves a person or lowers a price: the
+    // objects don't fit their prices then.
+    fn are_astray<R: Reading<i64>>(&self, matrix: &Matrix<'_, i64, R>) -> bool {
+        let places = (matrix.persons as u64).saturating_add(matrix.objects as u64);
+        let most = places.saturating_mul(MOST_CALLS).saturating_add(MORE_CALLS);
+        let counts_calls = matches!(
+            self.record.stage,
+            Stage::Paths | Stage::Retry | Stage::Finish | Stage::CopyPaths | Stage::CopyFinish
+        );
+        counts_calls && self.record.passes > most
+    }
+
+    // Counts a call that searches to the end were stopped in.
+    fn count_call(&mut self) {
+        if let Stage::Finish | Stage::CopyFinish = self.record.stage {
+            self.record.passes = self.record.passes.saturating_add(1);
+        }
+    }
+
     fn step<R: Reading<i64>>(
         &mut self,
         alloc: Global,
         matrix: &Matrix<'_, i64, R>,
     ) -> Result<Step, AllocError> {
+        if self.are_astray(matrix) {
+            self.begin_again();
+        }
         match self.record.stage {
             Stage::Cold => self.begin_cold(alloc, matrix),
             Stage::Warm => self.begin_warm(alloc, matrix),
@@ -581,6 +611,18 @@ impl<'a> Work<'a> {
         self.market.unserved() == 0 && !self.market.has_dear_unowned()
     }
 
+    // After an end that doesn't hold, or none, searches go on from there. If that comes once more, the
+    // search begins with nothing: prices near the cut, which each call cuts, would never let it end.
+    fn begin_again(&mut self) {
+        if self.record.restarts >= MOST_RESTARTS {
+            self.record = Record::cold();
+        } else {
+            self.record.restarts = self.record.restarts.wrapping_add(1);
+            self.record.stage = Stage::Finish;
+            self.record.passes = 0;
+        }
+    }
+
     // Whether the budget is spent, or what is left of it is too little for a core.
     fn is_ending<R: Reading<i64>>(&self, matrix: &Matrix<'_, i64, R>) -> bool {
         let least = match self.record.stage {
@@ -609,10 +651,12 @@ impl<'a> Work<'a> {
                     if self.is_confirmed(matrix) {
                         return Ok(Outcome::Best);
                     }
-                    self.record.stage = Stage::Finish;
-                    self.record.passes = 0;
+                    self.begin_again();
                 }
-                Step::End(outcome) => return Ok(outcome),
+                Step::End(outcome) => {
+                    self.count_call();
+                    return Ok(outcome);
+                }
             }
         }
         Ok(Outcome::Lost)
@@ -632,6 +676,9 @@ fn run_as<R: Reading<i64>>(
     } else {
         record.looks.saturating_add(budget)
     };
+    if record.is_begun() {
+        cut(prices);
+    }
     let mut work = Work {
         market: Market::new(alloc, prices, objects)?,
         record: record.sound(),

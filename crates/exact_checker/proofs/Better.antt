@@ -19,7 +19,7 @@ use Rattle.cost_lists.specs.Own.{AreOwnCosts, minimised}
 use Rattle.cost_lists.proofs.ExactDuality.{some_cost}
 use Rattle.cost_lists.proofs.Owns.{own_numbered_is}
 use Rattle.exact_checker.specs.Faults.{IsBetter, IsBetterFor, IsShort, paid}
-use Rattle.exact_checker.specs.inside.Sums.{HasUnder, IsUnder}
+use Rattle.exact_checker.specs.Under.{HasUnder, IsUnder}
 
 -- costs with prices, in their order, and turned
 better_from : (sense : Sense) (prices : List ℤ) (k j : ℕ) (c d : ℤ) → (minimised sense c +ℤ price_of prices k) <ℤ (minimised sense d +ℤ price_of prices j) →

@@ -15,7 +15,7 @@ use Rattle.cost_lists.proofs.BestGiven.{best_given_is}
 use Rattle.cost_lists.proofs.GivenRows.{rows_list}
 use Rattle.cost_lists.proofs.Owns.{turned_order}
 use Rattle.cost_lists.proofs.Triples.{place_of_triple, triple_contained, triples_among}
-use Rattle.exact_checker.specs.inside.Sums.{IsUnder}
+use Rattle.exact_checker.specs.Under.{IsUnder}
 use Rattle.exact_checker.proofs.Earliest.{IsMet}
 
 -- the sum at a place is below its person's value

@@ -12,7 +12,8 @@ use Rattle.dual_checker.specs.Faults.{IsFirst}
 use Rattle.cost_lists.specs.Own.{minimised}
 use Rattle.cost_lists.specs.Source.{AreCosts, part_of}
 use Rattle.cost_lists.proofs.CutRows.{cost_read, cut_row, listed_number, part_fits, part_long}
-use Rattle.exact_checker.specs.inside.Sums.{IsUnder, sum_at}
+use Rattle.exact_checker.specs.inside.Sums.{sum_at}
+use Rattle.exact_checker.specs.Under.{IsUnder}
 
 -- no sum in the parts of the first i persons is below their values
 abbrev pub NoneUnder : Sense → List ℤ → List ℤ → List ℤ → ℕ → Type 0

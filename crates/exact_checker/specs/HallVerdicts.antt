@@ -1,5 +1,5 @@
 -- The meaning of each verdict on a list of persons and a list of objects.
-use Rattle.std.specs.Prelude.{◌≡◌, ℕ, ◌≤◌, List, length, Contains}
+use Rattle.std.specs.Prelude.{◌≡◌, ⊤, ℕ, ◌≤◌, List, length, Contains}
 use Rattle.assign_core.specs.Hall.{IsHallSet}
 use Rattle.dual_checker.specs.Faults.{IsFirst}
 use Rattle.dual_checker.specs.HallVerdicts.{AreInRange, AreNeighbours, AreRising, HasNeighbours, IsExtra, Lacks, ListsUnnamed}
@@ -30,3 +30,15 @@ IsHallVerdict l persons objects Yes = IsHallSet l.rows persons objects
 abbrev pub HallVerdictsDiffer : Type 0
 HallVerdictsDiffer = (l : ListedCosts) (persons objects : List ℕ) (v w : HallVerdict) → AreInLimits l →
     IsHallVerdict l persons objects v → IsHallVerdict l persons objects w → v ≡ w
+
+-- the verdicts before which it was seen that no named person lists an unnamed object
+abbrev pub IsClosed : HallVerdict → Type 0
+IsClosed (Extra j) = ⊤
+IsClosed Count = ⊤
+IsClosed Yes = ⊤
+IsClosed v = ⊥
+
+-- they show it
+abbrev pub ClosedVerdictsShow : Type 0
+ClosedVerdictsShow = (l : ListedCosts) (persons objects : List ℕ) (v : HallVerdict) → IsClosed v →
+    IsHallVerdict l persons objects v → HasNeighbours l.rows persons (Contains objects)

@@ -1,4 +1,5 @@
 pub mod Faults
+pub mod Under
 pub mod Verdicts
 pub mod HallVerdicts
 pub mod Confirmed

@@ -5,7 +5,7 @@ ghost use Rattle.dual_checker.specs.Faults.{IsFirst, AreLong};
 ghost use Rattle.cost_lists.specs.Exact.{IsOptimum, IsPriceInLimits};
 ghost use Rattle.cost_lists.specs.Own.{AreOwnCosts};
 ghost use Rattle.exact_checker.specs.Verdicts.{IsVerdict};
-ghost use Rattle.exact_checker.specs.inside.Sums.{HasUnder, IsUnder};
+ghost use Rattle.exact_checker.specs.Under.{HasUnder, IsUnder};
 
 use super::counts::{first_given_twice, first_priced_unowned};
 use super::pairs::first_of_pairs;
@@ -18,9 +18,12 @@ use assign_core::Cost;
 use cost_lists::{CostLists, Object, Person, Price, Source};
 use std::alloc::{AllocError, Global};
 
-// The lowest person that lists an object whose sum of cost and price is below the person's value,
-// and its lowest object of this kind.
-fn first_under_value(
+/// The lowest person that lists an object whose sum of cost and price is below the person's value,
+/// and its lowest object of this kind. Under `Max` a sum is the price less the cost. A value may be
+/// any number.
+///
+/// The time is linear in the costs; it takes no memory.
+pub fn first_under_value(
     lists: &CostLists<'_>,
     values: &[Cost],
     prices: &[Price],

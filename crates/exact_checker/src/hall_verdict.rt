@@ -1,5 +1,5 @@
 // The checker's verdict on a Hall set.
-ghost use Rattle.exact_checker.specs.HallVerdicts.{HallVerdictsDiffer};
+ghost use Rattle.exact_checker.specs.HallVerdicts.{ClosedVerdictsShow, HallVerdictsDiffer};
 
 use cost_lists::{Object, Person};
 
@@ -24,4 +24,10 @@ pub enum HallVerdict {
 /// At most one verdict holds of costs and two lists.
 pub fn one_hall_verdict()
     ensures { HallVerdictsDiffer }
+{}
+
+/// After `Extra`, `Count` or `Yes` the named persons list no unnamed object: a block of a greater
+/// problem shows this of the persons that lie in it.
+pub fn closed_verdicts()
+    ensures { ClosedVerdictsShow }
 {}

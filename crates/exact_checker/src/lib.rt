@@ -17,8 +17,9 @@ mod unlisted;
 mod values;
 mod verdict;
 
-pub use checker::check;
+pub use checker::{check, first_under_value};
 pub use confirm::{HallSet, Optimum, confirm_best, confirm_hall};
 pub use hall::check_hall;
-pub use hall_verdict::{HallVerdict, one_hall_verdict};
+pub use hall_verdict::{HallVerdict, closed_verdicts, one_hall_verdict};
+pub use values::sum_of;
 pub use verdict::{Verdict, one_verdict};

@@ -5,7 +5,7 @@ ghost use Rattle.dual_checker.specs.Faults.{IsFirst};
 ghost use Rattle.cost_lists.specs.Exact.{IsPriceInLimits};
 ghost use Rattle.cost_lists.specs.Given.{rows_given};
 ghost use Rattle.cost_lists.specs.Source.{ArePairs, triples_in};
-ghost use Rattle.exact_checker.specs.inside.Sums.{HasUnder, IsUnder};
+ghost use Rattle.exact_checker.specs.Under.{HasUnder, IsUnder};
 ghost use Rattle.exact_checker.specs.inside.Earliest.{IsEarlier, IsUpTo};
 
 use super::values::sum_of;

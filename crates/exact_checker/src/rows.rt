@@ -6,7 +6,8 @@ ghost use Rattle.dual_checker.specs.Faults.{IsFirst};
 ghost use Rattle.cost_lists.specs.Exact.{IsPriceInLimits};
 ghost use Rattle.cost_lists.specs.Own.{minimised};
 ghost use Rattle.cost_lists.specs.Source.{AreCosts};
-ghost use Rattle.exact_checker.specs.inside.Sums.{HasUnder, IsUnder, sum_at};
+ghost use Rattle.exact_checker.specs.inside.Sums.{sum_at};
+ghost use Rattle.exact_checker.specs.Under.{HasUnder, IsUnder};
 
 use super::values::sum_of;
 use assign_core::{Cost, Sense};

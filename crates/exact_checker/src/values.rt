@@ -9,7 +9,7 @@ ghost use Rattle.cost_lists.specs.Own.{minimised};
 use assign_core::{Cost, Sense};
 use cost_lists::{Object, Price};
 
-// The sum of a cost, turned so that less is better, and a price.
+/// The sum of a cost, turned so that less is better, and a price.
 pub fn sum_of(sense: Sense, cost: Cost, price: Price) -> Cost
     requires cost { IsCost cost }
     requires price { IsPriceInLimits price }

@@ -1,7 +1,7 @@
 -- What holds of the costs that a caller gives.
 use Rattle.std.proofs.Common.{◌≡◌, subst}
 use Rattle.cost_lists.specs.ListedCosts.{ListedCosts}
-use Rattle.lent_lists.specs.declared.judge.Shape.{Shape}
+use Rattle.lent_lists.specs.declared.judging.Shape.{Shape}
 use Rattle.lent_lists.specs.Faults.{IsOfGiven, IsWhole}
 use Rattle.lent_lists.specs.Given.{GivenLists, lists_in}
 use Rattle.lent_lists.specs.Shapes.{IsShape}

@@ -1,7 +1,7 @@
 -- The sense and the size of what a caller gives.
 use Rattle.std.specs.Prelude.{◌≡◌, Some, length}
 use Rattle.list_solver.specs.declared.standing.Standing.{Standing}
-use Rattle.lent_lists.specs.declared.judge.Shape.{Shape}
+use Rattle.lent_lists.specs.declared.judging.Shape.{Shape}
 use Rattle.lent_lists.specs.Given.{GivenLists, sense_of}
 use Rattle.lent_lists.specs.Faults.{HasShape}
 

@@ -9,7 +9,7 @@ ghost use Rattle.lent_lists.specs.Shapes.{HasStandingLengths, IsShape};
 
 use crate::fault::Fault;
 use crate::given::Given;
-use crate::judge::{Shape, judge};
+use crate::judging::{Shape, judge};
 use crate::lists::lists_of;
 use crate::standing::{standing_anew, standing_of};
 use assign_core::Cost;

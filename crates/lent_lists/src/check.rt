@@ -8,7 +8,7 @@ ghost use Rattle.lent_lists.specs.Faults.{HasFault, IsOfGiven};
 use crate::fault::Fault;
 use crate::given::Given;
 use crate::info::Info;
-use crate::judge::judge;
+use crate::judging::judge;
 use crate::lists::lists_of;
 use cost_lists::{Object, Person, Price};
 use exact_checker::{HallVerdict, Verdict, check, check_hall};

@@ -6,7 +6,7 @@ ghost use Rattle.lent_lists.specs.Shapes.{IsShape};
 
 use crate::form::Form;
 use crate::given::Given;
-use crate::judge::Shape;
+use crate::judging::Shape;
 use cost_lists::{CostLists, Pairs};
 
 /// The costs of given lists without a fault. They are read where they are, and not copied.

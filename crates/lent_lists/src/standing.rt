@@ -4,7 +4,7 @@ ghost use Rattle.lent_lists.specs.Faults.{IsWhole};
 ghost use Rattle.lent_lists.specs.Shapes.{HasStandingLengths, IsShape};
 
 use crate::given::Given;
-use crate::judge::Shape;
+use crate::judging::Shape;
 use cost_lists::{Object, Price};
 use list_solver::{Record, Standing};
 use std::alloc::{AllocError, Global};

@@ -56,7 +56,8 @@ pub struct Record {
     /// The passes over all pairs that found pairs better than a core's. For listed pairs two numbers of
     /// 32 bits: where the stage goes on, and how long a search usually was.
     pub passes: u64,
-    /// How often dummies bid in this phase.
+    /// How often dummies bid in this phase. For rows, how often an end didn't hold
+    /// or didn't come.
     pub dummy_bids: u32,
     /// 1: an assignment is known to exist.
     pub flags: u32,
@@ -175,6 +176,7 @@ impl Record {
                 slackness: self.slackness,
                 bids: self.bids,
                 passes: self.passes,
+                restarts: self.dummy_bids,
                 looks: self.looks_so_far(),
             },
         }
@@ -222,7 +224,7 @@ impl Record {
             slackness: record.slackness,
             bids: record.bids,
             passes: record.passes,
-            dummy_bids: 0,
+            dummy_bids: record.restarts,
             flags: 0,
             looks: record.looks,
         }

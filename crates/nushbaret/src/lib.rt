@@ -2,6 +2,7 @@
 //! do.
 #![tactic(auto)]
 
+mod blocks;
 mod check;
 mod dense;
 mod doubles;
@@ -9,6 +10,7 @@ mod rows;
 mod sparse;
 mod version;
 
+pub use blocks::nushbaret_block;
 pub use check::{nushbaret_check, nushbaret_check_hall};
 pub use dense::{nushbaret_dense, nushbaret_dense_from};
 pub use doubles::{nushbaret_check_doubles, nushbaret_doubles, nushbaret_doubles_from};

@@ -45,12 +45,9 @@ class Assigner:
     ([0, 1, 2], 2)
     """
 
-    # Pickles of older releases have none.
-    _labels: Labels = None
-
     def __init__(self, costs: Any, maximize: bool = False):
         self._maximize = bool(maximize)
-        self._labels = (list(costs.index), list(costs.columns)) if naming.is_frame(costs) else None
+        self._labels: Labels = (list(costs.index), list(costs.columns)) if naming.is_frame(costs) else None
         self._costs = copied(costs)
         self._changed: Set[int] = set()
         self._numbers: Optional[SquareCosts] = None
@@ -182,14 +179,14 @@ def row_of_any(costs: Any, row: int) -> Any:
 
 def copied(costs: Any) -> Any:
     """A matrix as an array, or as a list of lists, that the caller can't change."""
+    if reading.is_sparse(costs):
+        raise ValueError("expected a matrix (2-D array), got a sparse one: an Assigner takes lists and arrays")
     numpy = reading.numpy_of(costs)
     if numpy is None:
-        if hasattr(costs, "tocsr"):
-            raise ValueError("expected a matrix (2-D array), got a sparse one: an Assigner takes lists and arrays")
         held = rows_of_view if isinstance(costs, memoryview) else rows_of_any
-        return [list(row) for row in held(costs, _AS_PRINTED)]
-    if naming.is_frame(costs):
-        costs = reading.array_of_frame(numpy, costs, _AS_PRINTED)
+        return [list(row_in_list(row, _AS_PRINTED)) for row in held(costs, _AS_PRINTED)]
+    costs = reading.array_of_frame(numpy, costs, _AS_PRINTED) if naming.is_frame(costs) else reading.array_of(numpy,
+                                                                                                              costs)
     return as_printed(numpy, numpy.array(costs, subok=isinstance(costs, numpy.ma.MaskedArray)))
 
 

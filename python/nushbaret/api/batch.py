@@ -50,7 +50,7 @@ def linear_sum_assignment_batch(costs: Any, maximize: bool = False) -> Tuple[Any
     if numpy is None:
         pairs = [_one(matrix, maximize, place) for place, matrix in enumerate(_matrices(costs))]
         return [rows for rows, _ in pairs], [columns for _, columns in pairs]
-    costs = numpy.asanyarray(costs)
+    costs = reading.array_of(numpy, costs)
     if costs.ndim != 3:
         raise ValueError(f"expected matrices (3-D array), got a {costs.ndim} array")
     shape = len(costs), min(costs.shape[1:])

@@ -5,11 +5,12 @@ from ..costs import source as sources
 from ..costs.problem import AssignmentProblem, in_whole_numbers, listed, no_worse
 from ..costs.reading import manner
 from ..costs.source import Source
-from ..lap import library
+from ..lap import library, proved
 from ..lap.matching import most_served
-from ..lap.solving import prove_most
+from ..lap.solving import prove_most, solved
 from .results import Result
-from .solve import solve_problem, solve_served
+from .solve import solve_problem
+from .solved import result_parts
 
 
 def bottleneck(costs: Any, maximize: bool = False, decimals: Optional[int] = None, partial: bool = False,
@@ -54,7 +55,7 @@ def _bottleneck(source: Source, partial: bool) -> Result:
     least = min(problem.n_rows, problem.n_columns)
     served = least if problem.persons is None else most_served(problem)
     if not served or served < least and not partial:
-        return solve_problem(problem, None, partial, source)
+        return solve_problem(problem, source, None, partial)
     if served < least:
         prove_most(problem, served)
     # Doubles are in the order of the decimals that they print as.
@@ -76,11 +77,17 @@ def _best_within(pairs: AssignmentProblem, served: int, source: Source) -> Resul
         else:
             lower, width = middle, 2 * width
     worst = pairs.costs.ratio(values[upper])
-    result = solve_served(no_worse(fewest, values[upper]), served, source._replace(worst=worst))
-    if result is None or lower >= 0 and solve_served(no_worse(pairs, values[lower]), served) is not None:
+    within = no_worse(fewest, values[upper])
+    answer = solved(within, None, served)
+    if isinstance(answer, proved.HallSet) or lower >= 0 and not _proves_none(no_worse(pairs, values[lower]), served):
         raise RuntimeError(f"{values[upper]} was found to be the worst cost that is needed, and the library says "
                            "otherwise")
-    return result
+    return Result(source._replace(worst=worst), result_parts(within, answer))
+
+
+def _proves_none(pairs: AssignmentProblem, served: int) -> bool:
+    """Whether the library proves that there is no plan of so many pairs."""
+    return isinstance(solved(pairs, None, served), proved.HallSet)
 
 
 def _values(pairs: AssignmentProblem) -> List[int]:

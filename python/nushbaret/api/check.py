@@ -143,7 +143,7 @@ def compare(costs: Any, columns: Any, rows: Any = None, maximize: bool = False,
         if column in seen:
             raise ValueError(f"column {problem.column_name(column)} stands twice in the plan")
         seen.add(column)
-    result = solve_problem(problem, None, True, source)
+    result = solve_problem(problem, source, None, True)
     if len(pairs) != len(result.rows):
         raise ValueError(f"the plan has {counted(len(pairs), 'pair')}, and {len(result.rows)} can be made")
     own, best = sum_of(result._shape, ratios_of(problem, held)), result.cost

@@ -13,9 +13,9 @@ from ..counts.lack import Lack
 from ..counts.nodes import Bounds, Counted, Pair
 from ..counts.planned import missing, planned
 from ..lap import library
-from .frames import frame_of
 from .infeasible import Infeasible, Shortage, numbered
 from .results import Lasting
+from .shown import FixedDict, FixedList, fixed, frame_of
 
 ONE_AT_MOST = Bounds(0, 1)
 
@@ -81,8 +81,8 @@ class CountsResult(Lasting):
     """A best plan by counts.
 
     Row `rows[k]` has column `columns[k]`, each pair once; numbers are from 0, and rows rise, then columns. They are
-    NumPy arrays if the costs are one, and lists otherwise. A result can be pickled and copied, and its attributes can't
-    be set.
+    NumPy arrays if the costs are one, and lists otherwise. These can't be changed, and attributes can't be set. A
+    result can be pickled.
 
     Attributes
     ----------
@@ -118,10 +118,14 @@ class CountsResult(Lasting):
         numbers = [sign * cost for cost in _costs_of(counted, pairs)]
         rows, columns = ([pair[side] for pair in pairs] for side in range(2))
         self.__dict__.update(
-            rows=problem.numbers(rows), columns=problem.numbers(columns), maximize=problem.maximize,
-            cost=problem.unit.shown(sum(numbers)), missing_rows=missing(counted.row_bounds, Counter(rows)),
-            missing_columns=missing(counted.column_bounds, Counter(columns)), _labels=problem.labels, _found=pairs,
+            rows=fixed(problem.numbers(rows)), columns=fixed(problem.numbers(columns)), maximize=problem.maximize,
+            cost=problem.unit.shown(sum(numbers)), missing_rows=FixedDict(missing(counted.row_bounds, Counter(rows))),
+            missing_columns=FixedDict(missing(counted.column_bounds, Counter(columns))), _labels=problem.labels,
+            _found=pairs,
             _costs=list(map(problem.unit.shown, numbers)))
+
+    def __setstate__(self, state: Any) -> None:
+        super().__setstate__({**state, "rows": fixed(state["rows"]), "columns": fixed(state["columns"])})
 
     def __repr__(self) -> str:
         return f"<nushbaret.CountsResult: cost {self.cost}, {len(self._found)} pairs>"
@@ -130,9 +134,9 @@ class CountsResult(Lasting):
     def pairs(self) -> List[Tuple[Any, Any]]:
         """The pairs, by the labels of a DataFrame, or else by numbers."""
         if self._labels is None:
-            return list(self._found)
+            return FixedList(self._found)
         rows, columns = self._labels
-        return [(rows[row], columns[column]) for row, column in self._found]
+        return FixedList((rows[row], columns[column]) for row, column in self._found)
 
     def to_frame(self) -> Any:
         """The pairs as a DataFrame of pandas, which must be installed.

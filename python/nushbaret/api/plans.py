@@ -68,6 +68,6 @@ def k_best(costs: Any, k: int, maximize: bool = False, decimals: Optional[int] =
     source = Source(sources.lasting(costs), None, None, None, manner(maximize, decimals, missing))
     with library.limited(timeout):
         problem = source.read()
-        result = solve_problem(problem, None, partial, source)
+        result = solve_problem(problem, source, None, partial)
         ranking = result._solved.ranking(problem)
     return _in_order(ranking, result, k, timeout)

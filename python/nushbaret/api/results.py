@@ -1,17 +1,20 @@
 """A best assignment as the caller sees it."""
+import copy
+import pickle
 from functools import cached_property
-from typing import Any, Dict, List, NamedTuple, Optional, Tuple, Union
+from typing import Any, Dict, List, NamedTuple, Optional, Tuple
 
+from ..costs import source as sources
 from ..costs.naming import Numbers
 from ..costs.numbers import Number
-from ..costs.problem import AssignmentProblem, renewed
+from ..costs.problem import AssignmentProblem
 from ..costs.reading import manner
-from ..costs.source import FixedProblem, Source, problem_of
+from ..costs.source import Source, problem_of
 from ..lap import library, proved
 from ..lap.ranking import has_other
-from .frames import frame_of
 from .infeasible import infeasible
-from .solved import SolvedProblem, ratios_of, result_parts, sum_of
+from .shown import FixedList, fixed, frame_of, numbers
+from .solved import SolvedProblem, WholeDuals, ratios_of, result_parts, sum_of
 from .verdicts import Verdict, verdict_on
 
 
@@ -29,7 +32,7 @@ class Plan(NamedTuple):
 
 
 class Lasting:
-    """What can be pickled and copied, and whose attributes can't be set."""
+    """What can be pickled, and whose attributes can't be set, so that a copy is the same."""
 
     def __setattr__(self, name: str, value: Any) -> None:
         raise AttributeError(f"a result's {name} can't be set")
@@ -37,20 +40,29 @@ class Lasting:
     def __delattr__(self, name: str) -> None:
         raise AttributeError(f"a result's {name} can't be deleted")
 
-    def __getstate__(self) -> Dict[str, Any]:
+    def __getstate__(self) -> Any:
         return dict(self.__dict__)
 
-    def __setstate__(self, state: Dict[str, Any]) -> None:
+    def __setstate__(self, state: Any) -> None:
         self.__dict__.update(state)
+
+    def __copy__(self) -> Any:
+        return self
+
+    def __deepcopy__(self, memo: Dict[int, Any]) -> Any:
+        return self
 
 
 class Result(Lasting):
     """A best assignment, with exact duals that prove it.
 
     Row `rows[k]` has column `columns[k]`; numbers are from 0, and rows rise. They are NumPy arrays if the costs are
-    one, and lists otherwise. A result can be pickled and copied, and its attributes can't be set. It keeps no copy of
-    the costs: where it needs them again, it reads those of the call, and raises ValueError where they were changed so
-    that its duals no longer prove the plan best.
+    one, or a list of rows one of which is, and lists otherwise. These can't be changed, and attributes can't be set.
+
+    A result keeps no copy of the costs: where it needs them again, it reads those of the call, and raises ValueError
+    where they were changed so that its duals no longer prove the plan best. A pickle has no costs at all, but the plan,
+    the costs of its pairs, duals and the verdict: what needs the costs raises ValueError, until `with_costs` gives
+    them.
 
     >>> import nushbaret
     >>> result = nushbaret.solve([[4, 1, 3], [2, 0, 5], [3, 2, 2]])
@@ -64,26 +76,35 @@ class Result(Lasting):
     columns: Any
     #: Whether this is the greatest sum, not the least.
     maximize: bool
-    _source: Union[Source, FixedProblem]
+    _source: Source
+    _found: proved.ResultParts
     _shape: AssignmentProblem
-    _answer: proved.Assignment
-    _costs: List[Any]
-    _as_arrays: bool
+    _duals: Optional[WholeDuals]
 
-    def __init__(self, source: Union[Source, FixedProblem], found: proved.ResultParts):
-        held = self.__dict__
-        held["_source"], held["maximize"] = source, found.shape.maximize
-        held["_shape"], held["_answer"], held["rows"], held["columns"], held["_costs"], held["_as_arrays"] = found
+    def __init__(self, source: Source, found: proved.ResultParts, duals: Optional[WholeDuals] = None):
+        self.__dict__.update(_source=source, _found=found, _shape=found.shape, _duals=duals,
+                             maximize=found.shape.maximize, rows=fixed(found.rows), columns=fixed(found.columns))
 
     @cached_property
     def _solved(self) -> SolvedProblem:
-        return SolvedProblem(self._source, self._shape, self._answer, self._costs, self._as_arrays)
+        return SolvedProblem(self._source, self._found, self._duals)
 
-    def __getstate__(self) -> Dict[str, Any]:
-        return {name: value for name, value in self.__dict__.items() if name != "_solved"}
+    def __getstate__(self) -> Any:
+        known = {name: getattr(self, name) for name in ("verdict", "is_unique") if name == "verdict"
+                 or name in self.__dict__}
+        return self._source.without_costs(), self._found.without_pairs(), self._solved.own_duals(), known
 
-    def __setstate__(self, state: Dict[str, Any]) -> None:
-        super().__setstate__({**state, "_shape": renewed(state["_shape"])})
+    def __setstate__(self, state: Any) -> None:
+        if not isinstance(state, tuple):
+            raise pickle.UnpicklingError("a release before 5.0 pickled this result, which this one can't read: solve "
+                                         "its costs again")
+        source, found, duals, known = state
+        pairs = (numbers(values, found.as_arrays) for values in proved.pairs_of(found.shape, found.answer))
+        Result.__init__(self, source, found.with_pairs(*pairs), duals)
+        self.__dict__.update(known)
+
+    def __deepcopy__(self, memo: Dict[int, Any]) -> "Result":
+        return Result(copy.deepcopy(self._source, memo), self._found, self._duals)
 
     def __repr__(self) -> str:
         return f"<nushbaret.Result: cost {self.cost}, {len(self.rows)} pairs>"
@@ -92,13 +113,13 @@ class Result(Lasting):
     def cost(self) -> Number:
         """The exact sum of the costs: an int, a Decimal where costs have decimal places, or a Fraction where one was
         given."""
-        return sum_of(self._shape, ratios_of(self._shape, self._costs))
+        return sum_of(self._shape, ratios_of(self._shape, self._found.costs))
 
     @cached_property
     def pairs(self) -> List[Tuple[Any, Any]]:
         """The pairs, by the labels of a DataFrame, or else by numbers."""
-        return [(self._shape.row_name(row), self._shape.column_name(column))
-                for row, column in zip(*self._solved.pairs)]
+        return FixedList((self._shape.row_name(row), self._shape.column_name(column))
+                         for row, column in zip(*self._solved.pairs))
 
     @cached_property
     def unmatched_rows(self) -> Any:
@@ -194,6 +215,11 @@ class Result(Lasting):
         Verdict
             True as a condition exactly if the duals prove the plan best, as `check` says.
 
+        Raises
+        ------
+        ValueError
+            If `costs` isn't given and the result comes from a pickle.
+
         >>> import nushbaret
         >>> result = nushbaret.solve([[1, 2], [3, 5]])
         >>> result.verify(), bool(result.verify([[1, 2], [3, 3]]))
@@ -202,6 +228,7 @@ class Result(Lasting):
         if costs is None:
             problem = self._source.read()
         else:
+            costs = sources.lasting(costs)
             how = manner(self.maximize, self._solved.decimals, missing)
             problem = problem_of(costs, rows, columns, (self._shape.n_rows, self._shape.n_columns), how)
         try:
@@ -209,6 +236,46 @@ class Result(Lasting):
         except ValueError as fault:
             return Verdict(str(fault))
         return verdict_on(problem, self._solved.pairs[0], self._solved.pairs[1], prices)
+
+    @cached_property
+    def verdict(self) -> Verdict:
+        """What `verify()` said when this was first asked for, or when the result was pickled: a pickle keeps it."""
+        try:
+            return self.verify()
+        except (ValueError, TypeError) as fault:
+            return Verdict(str(fault))
+
+    def with_costs(self, costs: Any, rows: Any = None, columns: Any = None) -> "Result":
+        """The same result with its costs, which one from a pickle lacks. They are read as those of the call were.
+
+        Parameters
+        ----------
+        costs : matrix or sparse matrix
+            The costs of the call.
+        rows, columns : lists of int, optional
+            If they are given, `costs` is a list too, and these are its pairs, as in `solve_sparse`.
+
+        Returns
+        -------
+        Result
+
+        Raises
+        ------
+        ValueError
+            If the plan's pairs have other costs, or the duals don't prove the plan best for these.
+
+        >>> import nushbaret, pickle
+        >>> costs = [[4, 1], [2, 3]]
+        >>> again = pickle.loads(pickle.dumps(nushbaret.solve(costs)))
+        >>> again.cost, again.verdict, again.with_costs(costs).next_best().cost
+        (3, <nushbaret.Verdict: proved>, 7)
+        """
+        sizes = None if rows is None else (self._shape.n_rows, self._shape.n_columns)
+        source = self._source._replace(costs=sources.lasting(costs), rows=sources.listed(rows),
+                                       columns=sources.listed(columns), sizes=sizes)
+        result = Result(source, self._found, self._duals)
+        result._solved.checked()
+        return result
 
     def without(self, row: Any, column: Any, timeout: Optional[float] = None) -> "Result":
         """The best plan with this pair forbidden. The pair is worth what that plan costs more.

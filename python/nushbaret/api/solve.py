@@ -3,7 +3,7 @@ from typing import Any, Callable, List, Optional, Sequence, Tuple, Union, overlo
 
 from ..costs import problem as reading, reading as exact, source as sources
 from ..costs.problem import AssignmentProblem
-from ..costs.source import FixedProblem, Source
+from ..costs.source import Source
 from ..lap import direct, library, proved
 from ..lap.solving import Began, most, solved
 from .infeasible import infeasible
@@ -39,25 +39,16 @@ def began_at(problem: AssignmentProblem, start: Start) -> Began:
     return proved.WarmStart(proved.read_prices(problem, prices), *start._solved.pairs)
 
 
-def solve_served(problem: AssignmentProblem, served: int, source: Optional[Source] = None) -> Optional[Result]:
-    """The best plan of so many pairs; None if the library proves that there is none."""
-    answer = solved(problem, None, served)
-    if isinstance(answer, proved.HallSet):
-        return None
-    return Result(source or FixedProblem(problem), result_parts(problem, answer))
-
-
-def solve_problem(problem: AssignmentProblem, start: Start = None, partial: bool = False,
-                  source: Optional[Source] = None) -> Result:
+def solve_problem(problem: AssignmentProblem, source: Source, start: Start = None, partial: bool = False) -> Result:
     """The result of a problem; Infeasible where it has no plan and none is to be partial."""
-    return Result(source or FixedProblem(problem), result_parts(problem, _answer(problem, start, partial)))
+    return Result(source, result_parts(problem, _answer(problem, start, partial)))
 
 
 def solve_source(source: Source, start: Start = None, partial: bool = False, timeout: Optional[float] = None,
                  progress: Progress = None) -> Result:
     """The result of what a call was given."""
     with library.limited(timeout, progress):
-        return solve_problem(source.read(), start, partial, source)
+        return solve_problem(source.read(), source, start, partial)
 
 
 def solve(costs: Any, maximize: bool = False, decimals: Optional[int] = None, start: Start = None,
@@ -71,7 +62,8 @@ def solve(costs: Any, maximize: bool = False, decimals: Optional[int] = None, st
     Parameters
     ----------
     costs : matrix
-        A list of rows, a NumPy array, a DataFrame of pandas, a sparse matrix of SciPy's, or a buffer of two dimensions.
+        A list of rows, a NumPy array or what becomes one (`__array__`, `__array_interface__`, DLPack), a DataFrame of
+        pandas, a sparse matrix of SciPy's or of pydata's, or a buffer of two dimensions.
         Whole numbers, floats, Decimals or Fractions; a float of any size is the decimal that it prints as. None or
         infinity (under maximize -infinity) forbids a pair. At most 4194304 rows and columns.
     maximize : bool, optional
@@ -139,9 +131,9 @@ def solve_sparse(n_rows: Any, n_columns: Optional[int] = None, rows: Any = None,
     Parameters
     ----------
     n_rows, n_columns : int
-        How many rows and columns there are, 0 to 4194304 each. Or one sparse matrix of SciPy's instead of these and of
-        the three lists; its stored entries are the pairs, also those that are 0. Entries of one place add up, as in
-        SciPy. A 0 in the formats bsr and dia is refused, since they fill up with 0.
+        How many rows and columns there are, 0 to 4194304 each. Or one sparse matrix of SciPy's or pydata's instead of
+        these and of the three lists; its stored entries are the pairs, also those that are 0. Entries of one place add
+        up, as in SciPy. A 0 in the formats bsr and dia is refused, since they fill up with 0.
     rows, columns, costs : lists or NumPy arrays of one length
         Row rows[k] may have column columns[k] at costs[k]; numbers from 0. A pair that is given several times counts
         once, at its least cost, also under maximize. Costs are as those of `solve`.
@@ -163,7 +155,7 @@ def solve_sparse(n_rows: Any, n_columns: Optional[int] = None, rows: Any = None,
     """
     manner = exact.manner(maximize, decimals, missing)
     lists = n_columns, rows, columns, costs
-    if hasattr(n_rows, "tocsr"):
+    if exact.is_sparse(n_rows):
         if any(value is not None for value in lists):
             raise TypeError("a sparse matrix has rows, columns and costs of its own: give the other words by name")
         source = Source(n_rows, None, None, None, manner)
@@ -201,7 +193,7 @@ def linear_sum_assignment(cost_matrix: Any, maximize: bool = False, *, missing: 
 
     Returns
     -------
-    row_ind, col_ind : NumPy arrays for an array, lists otherwise
+    row_ind, col_ind : NumPy arrays for an array or a list of rows one of which is an array, lists otherwise
         Row row_ind[k] has column col_ind[k]; rows rise.
 
     Raises

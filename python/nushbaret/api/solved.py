@@ -1,18 +1,21 @@
 """What a result stands on: a problem that a call solved, whose costs are read again where they are needed."""
 from fractions import Fraction
 from functools import cached_property
-from typing import Any, Iterable, List, Optional, Sequence, Tuple, Union
+from typing import Any, Iterable, List, Optional, Sequence, Tuple
 
 from ..costs import problem as reading
 from ..costs.numbers import Number, Ratio, Unit
-from ..costs.problem import AssignmentProblem, costs_of_pairs, in_array
-from ..costs.reading import loaded_numpy
-from ..costs.source import FixedProblem, Source
+from ..costs.problem import AssignmentProblem, costs_of_pairs
+from ..costs.source import Source
 from ..lap import duals as exact_duals, proved
 from ..lap.checking import check_wholly
 from ..lap.paths import Subproblem
 from ..lap.ranking import Ranking
 from ..lap.solving import Outcome, solved
+from .shown import FixedList, numbers
+
+# Whole duals, in a unit.
+WholeDuals = Tuple[proved.Duals, Unit]
 
 CHANGED = "the costs were changed after the call, and the plan's duals no longer prove it best: solve them again"
 
@@ -39,9 +42,11 @@ class SolvedProblem:
     """A problem that a call solved: where its costs are, the problem without its lists, the library's answer, the
     costs of the plan's pairs, as they were at the call, and whether the caller gets arrays."""
 
-    def __init__(self, source: Union[Source, FixedProblem], shape: AssignmentProblem, answer: proved.Assignment,
-                 costs: List[Any], as_arrays: bool):
-        self.source, self.shape, self.answer, self.costs, self.as_arrays = source, shape, answer, costs, as_arrays
+    def __init__(self, source: Source, found: proved.ResultParts, duals: Optional[WholeDuals]):
+        self.source, self.shape, self.answer, self.costs = source, found.shape, found.answer, found.costs
+        self.as_arrays = found.as_arrays
+        if duals is not None:
+            self.__dict__["duals"] = duals
 
     @cached_property
     def pairs(self) -> Tuple[List[int], List[int]]:
@@ -56,7 +61,7 @@ class SolvedProblem:
     @property
     def decimals(self) -> Optional[int]:
         """To how many decimals the costs were rounded, if they were."""
-        return self.source.manner.decimals if isinstance(self.source, Source) else None
+        return self.source.manner.decimals
 
     def read_again(self) -> AssignmentProblem:
         """The problem of the call; ValueError if the plan's pairs have other costs now."""
@@ -70,7 +75,7 @@ class SolvedProblem:
         return problem
 
     @cached_property
-    def duals(self) -> Tuple[proved.Duals, Unit]:
+    def duals(self) -> WholeDuals:
         """Whole duals in a unit. Where levels found the plan these take the costs again."""
         unit = self.shape.unit
         prices: List[int] = []
@@ -81,6 +86,15 @@ class SolvedProblem:
         # A changed problem may have a greater unit than the costs had at the call.
         costs = [number * unit.denominator // denominator for number, denominator in self.ratios]
         return proved.duals_of(self.shape, self.answer, prices, list(zip(*self.pairs)), costs), unit
+
+    def own_duals(self) -> Optional[WholeDuals]:
+        """The duals, if they don't follow from the answer; None where the costs were changed and they aren't known."""
+        if self.answer.prices is not None or not self.pairs[0]:
+            return None
+        try:
+            return self.duals
+        except ValueError:
+            return None
 
     def _exact_prices(self) -> exact_duals.ExactPrices:
         problem, count = self.read_again(), len(self.pairs[0])
@@ -121,31 +135,26 @@ class SolvedProblem:
             raise ValueError(CHANGED)
         return ranking
 
-    def without(self, row: int, column: int) -> Tuple[Union[Source, FixedProblem], AssignmentProblem, Outcome]:
+    def without(self, row: int, column: int) -> Tuple[Source, AssignmentProblem, Outcome]:
         """The problem with one pair forbidden, and the library's answer. The search begins at the prices and the other
         pairs."""
         less = reading.without_pair(self.checked(), row, column)
         pairs = [pair for pair in zip(*self.pairs) if pair != (row, column)]
         start = proved.WarmStart(self.rents, [own for own, _ in pairs], [own for _, own in pairs])
         answer = solved(less, start, len(self.pairs[0]))
-        if isinstance(self.source, Source):
-            return self.source._replace(less=self.source.less + ((row, column),)), less, answer
-        return FixedProblem(less), less, answer
+        return self.source._replace(less=self.source.less + ((row, column),)), less, answer
 
     # What is found, as the caller sees it.
-
-    def _numbers(self, values: Sequence[int]) -> Any:
-        return in_array(loaded_numpy() if self.as_arrays else None, values)
 
     def unmatched(self, side: int) -> Any:
         """The rows, side 0, or the columns, side 1, without a pair, rising."""
         count = (self.shape.n_rows, self.shape.n_columns)[side]
-        return self._numbers(sorted(set(range(count)).difference(self.pairs[side])))
+        return numbers(sorted(set(range(count)).difference(self.pairs[side])), self.as_arrays)
 
     def shown(self, duals: Iterable[int]) -> List[Number]:
         """Duals, from whole numbers of their unit."""
         unit = self.duals[1]
-        return [unit.shown(dual) for dual in duals]
+        return FixedList(unit.shown(dual) for dual in duals)
 
     def plan_of(self, ranking: Ranking, part: Subproblem) -> Tuple[Any, Any, Number]:
         """Rows, columns and cost of the best plan of a part."""
@@ -155,7 +164,7 @@ class SolvedProblem:
         if rest:
             # Other costs are in a finer unit now than all were at the call.
             unit, cost = ranking.unit, ranking.sign * part.cost
-        return self._numbers(rows), self._numbers(columns), unit.shown(cost)
+        return numbers(rows, self.as_arrays), numbers(columns, self.as_arrays), unit.shown(cost)
 
 
 def _cost_of(problem: AssignmentProblem, answer: proved.Assignment) -> Number:

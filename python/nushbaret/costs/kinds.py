@@ -159,11 +159,10 @@ class WholeNumbers(AnyWholeNumbers):
 
 class ExactNumbers(Costs):
     """Numbers of any kind, in a list. Floats are what they are if `doubles` is true, and else the decimals that they
-    print as. (What 4.1 pickled may be whole numbers of a unit here.)"""
+    print as."""
 
-    def __init__(self, numbers: Any, unit: Unit = ONE, fractions: bool = False, numpy: Any = None,
-                 doubles: bool = False):
-        super().__init__(numbers, unit, fractions, numpy)
+    def __init__(self, numbers: Any, fractions: bool = False, numpy: Any = None, doubles: bool = False):
+        super().__init__(numbers, ONE, fractions, numpy)
         self.doubles = doubles
 
     def in_whole_numbers(self) -> Costs:
@@ -184,7 +183,7 @@ class ExactNumbers(Costs):
         return array("q", [rounded(ratio, shift) for ratio in ratios]), shift
 
     def ratio(self, cost: Any) -> Ratio:
-        return ratio_of(cost, self.doubles) if self.unit == ONE else (int(cost), self.unit.denominator)
+        return ratio_of(cost, self.doubles)
 
     def ratios_in_unit(self, costs: Sequence[Any]) -> List[Ratio]:
         known: Dict[Tuple[type, Any], Ratio] = {}
@@ -208,7 +207,7 @@ class Doubles(ExactNumbers):
     """Doubles in an array of NumPy's; `most` is the greatest size of all, where it is known."""
 
     def __init__(self, numbers: Any, numpy: Any, doubles: bool, most: Optional[float] = None):
-        super().__init__(numbers, ONE, False, numpy, doubles)
+        super().__init__(numbers, False, numpy, doubles)
         self.most = most
 
     def as_doubles(self) -> Optional["Doubles"]:

@@ -4,7 +4,7 @@ from collections.abc import Mapping, Set
 from typing import Any, Dict, List, Optional, Sequence, Type
 
 from . import printing
-from .reading import whole_number
+from .reading import array_of, numpy_of, whole_number
 
 
 def is_frame(costs: Any) -> bool:
@@ -70,8 +70,9 @@ def listed(values: Any, what: str, kind: str, number: int, labels: Optional[Sequ
         return _by_names(values, what, kind, range(number) if labels is None else labels)
     if isinstance(values, Set):
         raise TypeError(f"{what} is {values!r}: it must be a list, with one value for each {kind}")
+    numpy = numpy_of(values)
     try:
-        values = printing.of_buffer(values)
+        values = printing.of_buffer(values if numpy is None else array_of(numpy, values))
         return list(values.tolist() if getattr(values, "ndim", 0) and hasattr(values, "tolist") else values)
     except TypeError:
         raise TypeError(f"{what} is {values!r}: it must be a list, with one value for each {kind}") from None

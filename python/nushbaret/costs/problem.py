@@ -4,12 +4,12 @@ import sys
 from array import array
 from fractions import Fraction
 from itertools import compress, islice
-from typing import Any, Dict, Iterable, List, NamedTuple, Optional, Sequence, Tuple, Union
+from typing import Any, Dict, Iterable, List, NamedTuple, Optional, Sequence, Tuple
 
 from . import naming, parts, printing, reading as exact
-from .kinds import AnyWholeNumbers, Costs, Doubles, ExactNumbers, WholeNumbers, chosen, plain, whole_numbers
+from .kinds import Costs, Doubles, WholeNumbers, chosen, plain, whole_numbers
 from .limits import MOST_PERSONS, BorrowedNumbers
-from .numbers import ONE, Ratio, Unit
+from .numbers import Ratio, Unit
 
 Labels = Optional[Tuple[List[Any], List[Any]]]
 
@@ -73,38 +73,6 @@ def in_array(numpy: Any, values: Sequence[int]) -> Any:
     return values if numpy is None else numpy.array(values, numpy.intp)
 
 
-class Problem(NamedTuple):
-    """A problem as releases up to 4.1 pickled it. `raw` says that costs are no whole numbers of the unit."""
-
-    n_rows: int
-    n_columns: int
-    maximize: bool
-    costs: Any
-    persons: Any = None
-    objects: Any = None
-    unit: Unit = ONE
-    raw: bool = False
-    doubles: bool = False
-    numpy: Any = None
-    arrays: Any = None
-    fractions: bool = False
-    labels: Labels = None
-    most: Optional[float] = None
-
-
-def renewed(problem: Union[AssignmentProblem, Problem]) -> AssignmentProblem:
-    """A problem from a pickle of any release."""
-    if isinstance(problem, AssignmentProblem):
-        return problem
-    held, is_list = (problem.costs, problem.unit, problem.fractions), isinstance(problem.costs, list)
-    if problem.raw:
-        costs: Costs = ExactNumbers(*held, doubles=problem.doubles)
-    else:
-        costs = AnyWholeNumbers(*held) if is_list else WholeNumbers(*held)
-    found = AssignmentProblem(*problem[:3], costs, problem.persons, problem.objects, None, problem.labels)
-    return once(found) if is_list and found.persons is not None else found
-
-
 def _place_in(n_columns: int, labels: Labels) -> exact.Where:
     """What a place in a matrix is called, by the labels of a frame."""
     def where(place: int) -> str:
@@ -121,22 +89,28 @@ def _judge_size(n_rows: int, n_columns: int) -> None:
 
 
 def rows_of_any(costs: Any, manner: exact.Manner) -> List[Any]:
-    """The rows of a matrix that is no array, or what is wrong with it."""
+    """The rows of a matrix that is no array, as they are, or what is wrong with it."""
     if manner.doubles and (not hasattr(costs, "__len__") or isinstance(costs, (dict, set, frozenset))
-                           or hasattr(costs, "tocsr")):
+                           or exact.is_sparse(costs)):
         # SciPy takes a sparse matrix with items for a list.
-        if costs is not None and not (hasattr(costs, "tocsr") and hasattr(costs, "__getitem__")):
+        if costs is not None and not (exact.is_sparse(costs) and hasattr(costs, "__getitem__")):
             float(costs)
         raise ValueError("expected a matrix (2-D array), got a 0 array")
     if isinstance(costs, (dict, set, frozenset)) or isinstance(costs, str) and not costs:
         raise ValueError(f"expected a matrix (2-D array), got a {type(costs).__name__}")
     try:
-        rows = [row if hasattr(row, "__len__") and getattr(row, "ndim", 1) != 0 else list(row) for row in costs]
+        rows = [row if hasattr(row, "__len__") and getattr(row, "ndim", 1) != 0 else _row_of_any(row) for row in costs]
     except TypeError:
         raise ValueError("expected a matrix (2-D array)") from None
     for place, row in enumerate(rows):
         judge_row(row, place, manner)
-    return [row_in_list(row, manner) for row in rows]
+    return rows
+
+
+def _row_of_any(row: Any) -> Any:
+    """A row that has no length, as one that has one."""
+    numpy = exact.numpy_of(row)
+    return list(row) if numpy is None else exact.array_of(numpy, row)
 
 
 def judge_row(row: Any, place: int, manner: exact.Manner) -> None:
@@ -160,12 +134,16 @@ def row_in_list(row: Any, manner: exact.Manner) -> Any:
     return row.tolist()
 
 
-def _rows_of(costs: Any, manner: exact.Manner) -> Tuple[List[Any], int]:
-    """The rows of a matrix that is no array of NumPy's, and how long they are."""
+def _rows_of(costs: Any, manner: exact.Manner) -> Tuple[List[Any], int, Any]:
+    """The rows of a matrix that is no array of NumPy's, how long they are, and NumPy's module if any row is an
+    array."""
+    arrays = None
     if type(costs) is list and {list}.issuperset(map(type, costs)):
         rows = costs
     else:
         rows = rows_of_any(costs, manner)
+        arrays = next(filter(None, map(exact.numpy_of, rows)), None)
+        rows = [row_in_list(row, manner) for row in rows]
     if not rows and manner.doubles:
         raise ValueError("expected a matrix (2-D array), got a 1 array")
     lengths = set(map(len, rows))
@@ -175,7 +153,7 @@ def _rows_of(costs: Any, manner: exact.Manner) -> Tuple[List[Any], int]:
                          f"{len(rows[0])}")
     if manner.doubles and any(isinstance(value, (list, tuple)) for row in rows for value in islice(row, 1)):
         raise ValueError("expected a matrix (2-D array), got a 3 array")
-    return rows, lengths.pop() if rows else 0
+    return rows, lengths.pop() if rows else 0, arrays
 
 
 def native(view: memoryview) -> memoryview:
@@ -222,7 +200,7 @@ def rows_of_view(view: memoryview, manner: exact.Manner) -> Any:
 
 
 def _of_array(numpy: Any, costs: Any, manner: exact.Manner, labels: Labels) -> AssignmentProblem:
-    costs = numpy.asanyarray(costs)
+    costs = exact.array_of(numpy, costs)
     if costs.ndim != 2:
         raise ValueError(f"expected a matrix (2-D array), got a {costs.ndim} array")
     n_rows, n_columns = costs.shape
@@ -250,14 +228,15 @@ def _read_matrix(costs: Any, manner: exact.Manner) -> AssignmentProblem:
             pass
         else:
             return _of_view(view, manner)
-    rows, n_columns = _rows_of(costs, manner)
+    rows, n_columns, arrays = _rows_of(costs, manner)
     _judge_size(len(rows), n_columns)
-    return _dense(len(rows), n_columns, manner, exact.of_rows(rows, n_columns, manner, _place_in(n_columns, None)))
+    read = exact.of_rows(rows, n_columns, manner, _place_in(n_columns, None))
+    return _dense(len(rows), n_columns, manner, read)._replace(arrays=arrays)
 
 
 def of_matrix(costs: Any, manner: exact.Manner) -> AssignmentProblem:
     """The problem of a matrix. ValueError and TypeError name what is wrong, with row and column from 0."""
-    if hasattr(costs, "tocsr") and not manner.doubles:
+    if exact.is_sparse(costs) and not manner.doubles:
         return of_sparse_matrix(costs, manner)
     if not naming.is_frame(costs):
         return _read_matrix(costs, manner)
@@ -396,7 +375,7 @@ def _numbered(values: Any, most: int, what: str) -> Any:
     """Row or column numbers, from 1 on."""
     numpy = exact.numpy_of(values)
     if numpy:
-        values = numpy.asanyarray(values)
+        values = exact.array_of(numpy, values)
         if values.ndim != 1:
             raise ValueError(f"{what} must be a list of numbers, not an array of {values.ndim} dimensions")
         if values.size and values.dtype.kind not in "iuO":
@@ -432,7 +411,7 @@ def _all_below(numbers: List[int], most: int, what: str) -> None:
 def _pair_costs(costs: Any, manner: exact.Manner, where: exact.Where) -> exact.ReadCosts:
     numpy = exact.numpy_of(costs)
     if numpy:
-        costs = numpy.asanyarray(costs)
+        costs = exact.array_of(numpy, costs)
         if costs.ndim != 1:
             raise ValueError(f"costs must be a list of numbers, not an array of {costs.ndim} dimensions")
         return exact.of_array(numpy, costs, manner, where)
@@ -515,7 +494,9 @@ def _is_less(problem: AssignmentProblem, place: int, other: int) -> bool:
 
 
 def of_sparse_matrix(matrix: Any, manner: exact.Manner) -> AssignmentProblem:
-    """The problem of a sparse matrix of SciPy's, whose stored entries are its pairs, also those that are 0."""
+    """The problem of a sparse matrix or array, whose stored entries are its pairs, also those that are 0."""
+    if not hasattr(matrix, "tocsr") or hasattr(matrix, "fill_value"):
+        return _of_pydata(matrix, manner)
     if getattr(matrix, "format", "") in ("bsr", "dia"):
         _judge_zeros(matrix)
     once = getattr(matrix, "has_canonical_format", False)
@@ -524,6 +505,20 @@ def of_sparse_matrix(matrix: Any, manner: exact.Manner) -> AssignmentProblem:
         entries.sum_duplicates()
     n_rows, n_columns = matrix.shape
     return of_pairs(n_rows, n_columns, entries.row, entries.col, entries.data, manner)
+
+
+def _of_pydata(matrix: Any, manner: exact.Manner) -> AssignmentProblem:
+    """The same of an array of pydata's `sparse`."""
+    entries = matrix
+    if not hasattr(matrix, "coords"):
+        entries = matrix.to_coo() if hasattr(matrix, "to_coo") else matrix.tocoo()
+    if len(entries.shape) != 2:
+        raise ValueError(f"expected a matrix (2-D array), got a {len(entries.shape)} array")
+    if entries.fill_value != 0 and entries.fill_value != manner.forbids:
+        raise ValueError(f"the sparse array has {entries.fill_value} wherever nothing is stored: only 0 or what "
+                         "forbids a pair may stand there, since what isn't stored is no pair")
+    (n_rows, n_columns), (rows, columns) = entries.shape, entries.coords
+    return of_pairs(n_rows, n_columns, rows, columns, entries.data, manner)
 
 
 def _judge_zeros(matrix: Any) -> None:

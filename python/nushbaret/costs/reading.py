@@ -1,6 +1,7 @@
 """How costs are read. Costs with few decimals become whole numbers, all multiplied by one power of ten. Any
 others stay as they are: doubles of an array, or a list of exact numbers."""
 import decimal
+import importlib
 import math
 import numbers
 import operator
@@ -26,6 +27,8 @@ _PLAIN = frozenset((int, float, bool, type(None)))
 # Doubles that are whole stay so below this; a greater one may print as another whole number.
 _MOST_WHOLE = 2.0**53
 _SAMPLE = 32
+# By which of these a value says that it can become an array; only the last one isn't for NumPy alone.
+_ARRAY_WORDS = "__array__", "__array_interface__", "__array_struct__", "__dlpack__"
 # How messages show what a mask covers.
 _MASKED = "-- (masked)"
 # The greatest whole number of 64 bits with a sign.
@@ -65,12 +68,30 @@ def loaded_numpy() -> Any:
 
 
 def numpy_of(value: Any) -> Any:
-    """NumPy's module if the value is one of its arrays, or can become one by itself; else None."""
-    numpy = loaded_numpy()
-    if numpy is None:
+    """NumPy's module if the value is one of its arrays, or can become one by itself; else None. It is loaded for a
+    value of another package that hasn't loaded it."""
+    if not any(hasattr(value, word) for word in _ARRAY_WORDS) or isinstance(value, type):
         return None
-    return numpy if isinstance(value, numpy.ndarray) or hasattr(value, "__array__") and not isinstance(value,
-                                                                                                       type) else None
+    try:
+        return loaded_numpy() or importlib.import_module("numpy")
+    except ImportError:
+        return None
+
+
+def array_of(numpy: Any, value: Any) -> Any:
+    """What can become an array by itself, as one."""
+    if isinstance(value, numpy.ndarray) or any(hasattr(value, word) for word in _ARRAY_WORDS[:-1]):
+        return numpy.asanyarray(value)
+    try:
+        return numpy.from_dlpack(value)
+    except (AttributeError, BufferError, RuntimeError, TypeError, ValueError) as fault:
+        raise TypeError(f"Cannot cast array data: NumPy {numpy.__version__} makes no array of this "
+                        f"{type(value).__name__}: {fault}") from None
+
+
+def is_sparse(value: Any) -> bool:
+    """Whether this is a sparse matrix or array, of SciPy's or of pydata's."""
+    return hasattr(value, "tocsr") or hasattr(value, "fill_value") and hasattr(value, "nnz")
 
 
 def manner(maximize: Any, decimals: Any = None, missing: Any = "refuse", doubles: bool = False) -> Manner:

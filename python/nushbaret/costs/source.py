@@ -1,10 +1,12 @@
 """The costs of a call as its caller holds them, to be read again when a result needs them: a result keeps no copy."""
-import pickle
-from typing import Any, NamedTuple, Optional, Tuple
+import copy
+from typing import Any, Dict, NamedTuple, Optional, Tuple
 
 from . import problem as reading, reading as exact
 from .numbers import Ratio
 from .problem import AssignmentProblem
+
+NO_COSTS = "a pickled result has no costs: give them to it by with_costs(costs), or to verify(costs)"
 
 
 def lasting(costs: Any) -> Any:
@@ -24,7 +26,7 @@ def listed(values: Any) -> Any:
 
 class Source(NamedTuple):
     """What a call was given: costs, for listed pairs also their rows, columns and the sizes, how they are read, the
-    pairs that are left out, and the worst cost that a pair may have."""
+    pairs that are left out, and the worst cost that a pair may have. Without costs it is what a pickle has of them."""
 
     costs: Any
     rows: Any
@@ -36,34 +38,28 @@ class Source(NamedTuple):
 
     def read(self) -> AssignmentProblem:
         """The problem, as its costs are now."""
+        if self.costs is None:
+            raise ValueError(NO_COSTS)
         problem = problem_of(self.costs, self.rows, self.columns, self.sizes, self.manner)
         for row, column in self.less:
             problem = reading.without_pair(problem, row, column)
         return problem if self.worst is None else reading.within(problem, self.worst)
 
-    def __reduce__(self) -> Tuple[Any, ...]:
-        return Source, (_portable(self.costs), _portable(self.rows), _portable(self.columns), *self[3:])
+    def without_costs(self) -> "Source":
+        """What of it is no longer than the plan."""
+        return self._replace(costs=None, rows=None, columns=None, sizes=None)
+
+    def __deepcopy__(self, memo: Dict[int, Any]) -> "Source":
+        return self._replace(costs=_copied(self.costs, memo), rows=_copied(self.rows, memo),
+                             columns=_copied(self.columns, memo))
 
 
-class FixedProblem(NamedTuple):
-    """A problem that nobody else can change."""
-
-    problem: AssignmentProblem
-
-    def read(self) -> AssignmentProblem:
-        """The problem."""
-        return reading.renewed(self.problem)
-
-
-def _portable(values: Any) -> Any:
-    """The same values in an object that can be pickled: a view of memory becomes a list."""
-    if not isinstance(values, memoryview):
-        try:
-            pickle.dumps(values)
-            return values
-        except (TypeError, ValueError, pickle.PicklingError, AttributeError):
-            pass
-    return reading.native(memoryview(values)).tolist()
+def _copied(values: Any, memo: Dict[int, Any]) -> Any:
+    """A deep copy; that of a view of memory is a list."""
+    try:
+        return copy.deepcopy(values, memo)
+    except (TypeError, ValueError, AttributeError):
+        return reading.native(memoryview(values)).tolist()
 
 
 def problem_of(costs: Any, rows: Any, columns: Any, sizes: Optional[Tuple[Any, Any]],

@@ -38,21 +38,6 @@ class Assignment(NamedTuple):
     prices: Any
 
 
-class Halves:
-    """The prices of an answer in pickles of 3.0 and 3.1, as multiples of a cost divided by one more than there are
-    prices: of each two words, the lower one first. They have slackness 1 in that unit. There are fewer prices than
-    remainders, so one remainder belongs to none; rounded down from there, prices have none."""
-
-    words: Numbers
-
-    def tolist(self) -> List[int]:
-        """The prices in the unit of the costs."""
-        words = self.words.tolist()
-        prices, unit = [low + (high << 64) for low, high in zip(words[0::2], words[1::2])], len(words) // 2 + 1
-        missing = min(set(range(unit)).difference(price % unit for price in prices))
-        return [(price - missing - 1) // unit for price in prices]
-
-
 class HallSet(NamedTuple):
     """Persons and objects, from 1 on, that prove that there is no assignment."""
 
@@ -192,6 +177,14 @@ class ResultParts(NamedTuple):
     columns: Any
     costs: List[Any]
     as_arrays: bool
+
+    def without_pairs(self) -> "ResultParts":
+        """The same without the lists that follow from the answer."""
+        return self._replace(rows=None, columns=None)
+
+    def with_pairs(self, rows: Any, columns: Any) -> "ResultParts":
+        """The same with these lists again."""
+        return self._replace(rows=rows, columns=columns)
 
 
 # Duals in the field's words, in whole costs.

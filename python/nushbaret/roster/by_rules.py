@@ -17,6 +17,8 @@ BEST, WITHIN, IMPOSSIBLE, UNDECIDED = "best", "within", "impossible", "undecided
 Progress = Callable[[str, str, Optional[int], Optional[int]], None]
 # The share of the time that a stage before the costs gets, and that is left for one after them.
 SHARE = 0.25
+# The share of the time in which a plan that misses nothing has to be found, where one that misses something is of use.
+UNMISSED = 0.5
 # The goals, as progress shows them.
 MISSING, UNEVEN, COSTS, CHANGES = "missing", "evenness", "costs", "changes"
 
@@ -54,8 +56,9 @@ class Proved(NamedTuple):
     `kind` is that of the costs; `better` is by how much another plan may be better at most, None where nothing is
     known; `with_changes` is the cost with what changes cost, where they do. `reasons` can't hold together; `is_minimal`
     says that none can be left out. `missing` is by how many least counts are missed, and `least_missing` that no plan
-    misses less. `even` says how even counts are, `is_most_even` that no plan is more even, and `otherwise` what a plan
-    without the rules of evenness would cost. `fewer_changes` says that fewer changes may be enough. Costs are in units
+    misses less; `is_fullest_open` says that none that misses some was found. `even` says how even counts are,
+    `is_most_even` that no plan is more even, and `otherwise` what a plan without the rules of evenness would cost.
+    `fewer_changes` says that fewer changes may be enough. Costs are in units
     of the roster, those with changes in halves.
     """
 
@@ -68,6 +71,7 @@ class Proved(NamedTuple):
     is_around_past: bool = False
     missing: int = 0
     least_missing: Optional[int] = None
+    is_fullest_open: bool = False
     even: Sequence[Evenness] = ()
     is_most_even: bool = True
     otherwise: Optional["Proved"] = None
@@ -84,19 +88,19 @@ class Proved(NamedTuple):
 def answer_by_rules(task: Task) -> Tuple[Answer, Proved]:
     """The answer to a roster with rules, and what was proved of it.
 
-    Raises ImportError where SciPy isn't there.
+    Raises ImportError where SciPy isn't there, and RuntimeError where a process that finds plans fails.
     """
-    end = time.monotonic() + task.seconds
-    stages = _Stages(task, end)
+    begin, is_fullest = time.monotonic(), task.request.fullest
+    end = begin + task.seconds
+    stages = _Stages(task, end, found_by=begin + UNMISSED * task.seconds if is_fullest else None)
     finding = stages.costs()
+    if finding.plan is not None:
+        return stages.answer(finding)
+    proved = Proved(UNDECIDED, task.seconds, certificate=finding.certificate)
     if finding.kind == IMPOSSIBLE:
-        proved = Proved(IMPOSSIBLE, task.seconds, reasons=_reasons(stages.built, finding.reasons),
-                        is_minimal=finding.is_minimal, is_around_past=_is_around_past(task),
-                        certificate=finding.certificate)
-        return _fullest(task, proved, end) if task.request.fullest else (Answer(None, []), proved)
-    if finding.plan is None:
-        return Answer(None, []), Proved(UNDECIDED, task.seconds, certificate=finding.certificate)
-    return stages.answer(finding)
+        proved = proved._replace(kind=IMPOSSIBLE, reasons=_reasons(stages.built, finding.reasons),
+                                 is_minimal=finding.is_minimal, is_around_past=_is_around_past(task))
+    return _fullest(task, proved, end) if is_fullest else (Answer(None, []), proved)
 
 
 def _is_around_past(task: Task) -> bool:
@@ -109,10 +113,12 @@ def _fullest(task: Task, why: Proved, end: float) -> Tuple[Answer, Proved]:
     stages = _Stages(task, end, True)
     finding = stages.costs()
     if finding.plan is None:
+        if finding.kind != IMPOSSIBLE:
+            return Answer(None, []), why._replace(is_fullest_open=True)
         # Rules are never missed, so there may be no plan.
-        kept = why._replace(reasons=_reasons(stages.built, finding.reasons), is_minimal=finding.is_minimal,
-                            certificate=finding.certificate) if finding.kind == IMPOSSIBLE else why
-        return Answer(None, []), kept
+        return Answer(None, []), why._replace(kind=IMPOSSIBLE, reasons=_reasons(stages.built, finding.reasons),
+                                              is_minimal=finding.is_minimal, is_around_past=_is_around_past(task),
+                                              certificate=finding.certificate)
     answer, proved = stages.answer(finding)
     return answer, proved._replace(reasons=why.reasons, is_minimal=why.is_minimal, is_around_past=why.is_around_past)
 
@@ -129,10 +135,12 @@ def _reasons(found: Built, texts: Sequence[str]) -> List[Reason]:
 
 class _Stages:
     """One goal after the other: what is missing, evenness rule by rule, costs, changes. What one has reached bounds the
-    next. All ends at a time of the monotonic clock."""
+    next. All ends at a time of the monotonic clock; where no plan is known, at `found_by`."""
 
-    def __init__(self, task: Task, end: float, may_miss: bool = False, is_even: bool = True):
+    def __init__(self, task: Task, end: float, may_miss: bool = False, is_even: bool = True,
+                 found_by: Optional[float] = None):
         self.task, self._end, self._may_miss = task, end, may_miss
+        self._found_by = end if found_by is None else found_by
         self.is_even = is_even and bool(even_rules(task.rules.rules))
         self._spreads: List[int] = []
         self.built = self._build(False)
@@ -158,7 +166,8 @@ class _Stages:
             if show is not None:
                 show(goal, done, cost, bound)
 
-        finding = find(self.built.rows.model(costs, self._rows), seconds, named, self._start)
+        without = max(0.1, self._found_by - time.monotonic())
+        finding = find(self.built.rows.model(costs, self._rows), seconds, named, self._start, without)
         self._start = finding.plan if finding.plan is not None else self._start
         return finding
 

@@ -106,7 +106,7 @@ def _run(options: Options) -> int:
             _say(gone_line(plan, report.roster))
     lines = list(map(without_marks, first_lines(report)))
     is_content = _write(report, lines)
-    skipped = [f"{output.path} isn't written: there is no plan" for output in options.outputs
+    skipped = [f"{output.path} isn't written: {_why_none(report)}" for output in options.outputs
                if not _is_written(output, answer, options)]
     skipped += _lines_on_each(report)
     if options.certificate is not None and (report.proved is None or report.proved.certificate is None):
@@ -119,7 +119,17 @@ def _status(report: Report) -> int:
     """The status of an answer."""
     if report.alarms:
         return NONE
-    return PLANNED if report.answer.plan is not None else UNDECIDED
+    if report.answer.plan is None:
+        return UNDECIDED
+    if report.proved is not None and report.proved.missing:
+        return NONE if report.proved.least_missing else UNDECIDED
+    return PLANNED
+
+
+def _why_none(report: Report) -> str:
+    """Why no plan is written."""
+    is_open = report.proved is not None and report.proved.is_fullest_open
+    return "there is no plan" if report.alarms and not is_open else "no plan was found"
 
 
 def _report(options: Options, roster: Roster) -> Report:
@@ -292,8 +302,8 @@ def _lines_on_each(report: Report) -> List[str]:
     if folder is None:
         return []
     from .output.each import lines_on_calendars
-    return [f"{folder}: nothing is written: there is no plan"] if plan is None else lines_on_calendars(report.roster,
-                                                                                                       plan, folder)
+    return ([f"{folder}: nothing is written: {_why_none(report)}"] if plan is None
+            else lines_on_calendars(report.roster, plan, folder))
 
 
 def title_of(options: Options, output: Output) -> str:

@@ -1,82 +1,22 @@
 """Finds the cheapest plan of a model, with a certificate: SciPy looks, in processes of its own, and the check of
 certificates decides."""
-import contextlib
 import importlib.util
-import json
 import math
-import os
-import pathlib
 import queue
-import subprocess
-import sys
-import threading
 import time
 from typing import Any, Callable, Dict, List, Optional, Sequence, Tuple
 
 from .check import meets, shows
 from .model import Certificate, Finding, Limits, Model
+from .process import Worker
+from .times import Times
 
 NEEDS_SCIPY = "rosters with rules need SciPy: pip install nushbaret[rules], or apt install python3-scipy"
 # What is reported of the search: the stage, the cost of the best plan so far, and what no plan costs less than.
 Progress = Callable[[str, Optional[int], Optional[int]], None]
 # Seconds.
 _LONGEST_WAIT = 0.2
-# On Windows the flag with which no Ctrl-C reaches a new process; elsewhere there is none.
-_OWN_GROUP: int = getattr(subprocess, "CREATE_NEW_PROCESS_GROUP", 0)
 _STAGES = {"plans": "looks for plans", "prices": "prices of shared rows", "proof": "proofs", "reasons": "reasons"}
-
-
-class _Worker:
-    """A process that works on a model. Its lines come into a queue; lines for it are written by a thread of its own."""
-
-    def __init__(self, told: "queue.Queue[Dict[str, Any]]"):
-        self.told = told
-        self.waiting: "queue.Queue[Optional[str]]" = queue.Queue()
-        self.process: Optional["subprocess.Popen[str]"] = None
-        self.threads: List[threading.Thread] = []
-
-    def start(self, first: Dict[str, Any]) -> None:
-        """Starts the process, which no Ctrl-C of the terminal reaches: who started it ends it, or it ends when its
-        input does."""
-        package = str(pathlib.Path(__file__).resolve().parent.parent.parent)
-        paths = [package, *filter(None, [os.environ.get("PYTHONPATH")])]
-        environment = {**os.environ, "PYTHONPATH": os.pathsep.join(paths), "OMP_NUM_THREADS": "1",
-                       "OPENBLAS_NUM_THREADS": "1"}
-        self.process = subprocess.Popen([sys.executable, "-m", "nushbaret.rows.worker"], stdin=subprocess.PIPE,
-                                        stdout=subprocess.PIPE, stderr=subprocess.DEVNULL, text=True, env=environment,
-                                        start_new_session=True, creationflags=_OWN_GROUP)
-        self.tell(first)
-        self.threads = [threading.Thread(target=work, args=(self.process,), daemon=True)
-                        for work in (self._write, self._read)]
-        for thread in self.threads:
-            thread.start()
-
-    def tell(self, told: Dict[str, Any]) -> None:
-        self.waiting.put(json.dumps(told) + "\n")
-
-    def _write(self, process: "subprocess.Popen[str]") -> None:
-        assert process.stdin is not None
-        with contextlib.suppress(OSError, ValueError):
-            for line in iter(self.waiting.get, None):
-                process.stdin.write(line)
-                process.stdin.flush()
-        with contextlib.suppress(OSError, ValueError):
-            process.stdin.close()
-
-    def _read(self, process: "subprocess.Popen[str]") -> None:
-        assert process.stdout is not None
-        with contextlib.suppress(OSError, ValueError), process.stdout:
-            for line in process.stdout:
-                self.told.put(json.loads(line))
-        self.told.put({"ended": True})
-
-    def end(self) -> None:
-        if self.process is not None:
-            self.process.kill()
-            self.process.wait()
-        self.waiting.put(None)
-        for thread in self.threads:
-            thread.join()
 
 
 class _PlanSearch:
@@ -161,14 +101,15 @@ def _deeper(tree: Sequence[int], first: int) -> List[int]:
     return moved
 
 
-def find(model: Model, seconds: float, progress: Optional[Progress] = None,
-         start: Optional[Sequence[int]] = None) -> Finding:
+def find(model: Model, seconds: float, progress: Optional[Progress] = None, start: Optional[Sequence[int]] = None,
+         without: Optional[float] = None) -> Finding:
     """Looks for the cheapest plan of a model and for a proof, for so many seconds by the clock.
 
     `progress` is called with the stage, the cost of the best plan so far and its bound. `start` is a plan known before.
-    What is returned has been shown by its certificate. Raises ImportError where SciPy isn't there.
+    While no plan is known, it looks for `without` seconds instead. What is returned has been shown by its certificate.
+    Raises ImportError where SciPy isn't there, and RuntimeError where a process fails.
     """
-    deadline = time.monotonic() + seconds
+    begin = time.monotonic()
     if any(importlib.util.find_spec(name) is None for name in ("numpy", "scipy")):
         raise ImportError(NEEDS_SCIPY)
     search = _PlanSearch(model)
@@ -178,15 +119,16 @@ def find(model: Model, seconds: float, progress: Optional[Progress] = None,
     if start is not None:
         search.take_plan(start)
     told: "queue.Queue[Dict[str, Any]]" = queue.Queue()
-    first = {"model": search.scaled._asdict(), "seconds": seconds}
-    workers: List[_Worker] = []
+    times = Times(begin, seconds, seconds if without is None else without)
+    first = {"model": search.scaled._asdict(), "seconds": seconds, "without": times.without}
+    workers: List[Worker] = []
     try:
         for role in ("plans", "bounds"):
-            workers.append(_Worker(told))
+            workers.append(Worker(told))
             workers[-1].start({**first, "role": role})
         if search.plan is not None:
             _tell(workers, {"plan": search.plan, "cost": search.cost})
-        _follow(search, workers, told, deadline, progress)
+        _follow(search, workers, told, times, progress)
     finally:
         for worker in workers:
             worker.end()
@@ -216,12 +158,12 @@ def _next_message(told: "queue.Queue[Dict[str, Any]]", deadline: float) -> Optio
                 return None
 
 
-def _follow(search: _PlanSearch, workers: List[_Worker], told: "queue.Queue[Dict[str, Any]]", deadline: float,
+def _follow(search: _PlanSearch, workers: List[Worker], told: "queue.Queue[Dict[str, Any]]", times: Times,
             progress: Optional[Progress]) -> None:
     """Takes what the workers report until the model is decided, all have ended, or the time is over."""
     running = len(workers)
     while running and not search.is_best():
-        message = _next_message(told, deadline)
+        message = _next_message(told, times.end(search.plan is not None))
         if message is None:
             return
         running -= "ended" in message
@@ -232,8 +174,10 @@ def _follow(search: _PlanSearch, workers: List[_Worker], told: "queue.Queue[Dict
             return
 
 
-def _taken(search: _PlanSearch, workers: List[_Worker], message: Dict[str, Any]) -> Optional[str]:
-    """Takes one message; the stage that it is about, or None."""
+def _taken(search: _PlanSearch, workers: List[Worker], message: Dict[str, Any]) -> Optional[str]:
+    """Takes one message; the stage that it is about, or None. Raises RuntimeError where a worker failed."""
+    if message.get("ended") is not None:
+        raise RuntimeError(message["ended"])
     if "plan" in message:
         if search.take_plan(message["plan"]):
             _tell(workers, {"plan": message["plan"], "cost": search.cost})
@@ -249,6 +193,6 @@ def _taken(search: _PlanSearch, workers: List[_Worker], message: Dict[str, Any])
     return _STAGES.get(message.get("stage", ""))
 
 
-def _tell(workers: List[_Worker], message: Dict[str, Any]) -> None:
+def _tell(workers: List[Worker], message: Dict[str, Any]) -> None:
     for worker in workers:
         worker.tell(message)

@@ -1,18 +1,20 @@
 """Plans by HiGHS, as SciPy has it: a mixed-integer program of the rows. Needs NumPy and SciPy."""
 import importlib
-import time
 from typing import Any, List, NamedTuple, Optional, Sequence
 
 from .blocks import cost_row, limits_of, matrix_of, side_of
 from .channel import Channel
 from .check import meets
 from .model import Limits, Model
+from .times import Times
 
 np: Any = importlib.import_module("numpy")
 optimize: Any = importlib.import_module("scipy.optimize")
 
-# What HiGHS is given first, as a part of the time; with the rest it looks below what is known then.
+# What HiGHS is given first, as a part of the time; with the rest it looks below what is known then. Where nothing is
+# known it gets so many times as much.
 _FIRST_PART = 0.4
+_MORE = 2.5
 
 
 class Tried(NamedTuple):
@@ -41,18 +43,20 @@ def tried(costs: Sequence[int], rows: Sequence[Limits], seconds: float, least: A
     return Tried(None, False)
 
 
-def look_for_plans(model: Model, channel: Channel, seconds: float) -> None:
-    """Reports each better plan that HiGHS returns."""
-    deadline = time.monotonic() + seconds
+def look_for_plans(model: Model, channel: Channel, times: Times) -> None:
+    """Reports each better plan that HiGHS returns. While it returns none it gets more and more of the time."""
     rows = [limits_of(row) for row in model.rows]
-    part = _FIRST_PART
-    while time.monotonic() < deadline:
+    part = _FIRST_PART * min(times.known, times.without)
+    while True:
+        left = times.left(channel.cost is not None)
+        if left <= 0:
+            return
         below = [] if channel.cost is None else [cost_row(model, channel.cost - 1)]
-        found = tried(model.costs, rows + below, (deadline - time.monotonic()) * part)
+        found = tried(model.costs, rows + below, min(part, left))
         if found.plan is not None:
             channel.say_plan(found.plan, sum(cost for cost, taken in zip(model.costs, found.plan) if taken))
         elif found.is_over and channel.cost is None:
             channel.say(hopeless=True)
-        if found.is_over or part == 1.0:
+        if found.is_over or part >= left:
             return
-        part = 1.0
+        part = _MORE * part if channel.cost is None else left

@@ -1,24 +1,23 @@
 """The processes that look for plans and for bounds. What they say is checked by who started them."""
 import json
 import sys
+import time
 
 from .channel import Channel, unpacked
+from .times import Times
 
 
 def main() -> None:
     """Does the work that the first line names, with the model that it has, for so many seconds."""
     channel = Channel(sys.stdin, sys.stdout)
+    channel.say(started=True)
     told = json.loads(channel.lines.readline())
     channel.listen()
     model = unpacked(told["model"])
     if told["role"] == "plans":
         from .plans import look_for_plans
-        look_for_plans(model, channel, told["seconds"])
+        look_for_plans(model, channel, Times(time.monotonic(), told["seconds"], told["without"]))
     else:
         from .bounds import look_for_bounds
         look_for_bounds(model, channel, told["seconds"])
     channel.say(done=told["role"])
-
-
-if __name__ == "__main__":
-    main()

@@ -79,7 +79,7 @@ class Rows(unittest.TestCase):
                 self.assertEqual(Fraction(result.cost), best(exact, maximize, n))
                 self.assertTrue(result.verify(costs))
                 self.assertTrue(proves(exact, result, maximize))
-                self.assertEqual(type(result.rows), list if form is costs else np.ndarray)
+                self.assertIsInstance(result.rows, list if form is costs else np.ndarray)
                 self.assertEqual(result.next_best() is None, n == 1)
                 costs[0] = [cost + draw.randint(0, 3) for cost in costs[0]]
                 assigner.update(0, costs[0])

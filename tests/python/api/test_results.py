@@ -12,7 +12,8 @@ from fractions import Fraction
 import nushbaret
 from nushbaret.api import solved
 from drawn import KINDS, doubles, drawing
-from optional import np, pd, sparse
+from optional import np, pd, pydata, sparse
+from ways import longer_call
 
 
 CHANGED = "the costs were changed after the call"
@@ -147,14 +148,105 @@ class Kept(unittest.TestCase):
                 result.is_unique, bool(result.verify()), str(result.next_best()), list(result.unmatched_rows),
                 list(result.unmatched_columns), repr(result))
 
-    def test_pickled_and_copied(self):
+    def shown(self, result):
+        """What a result says without its costs."""
+        return (list(map(int, result.rows)), list(map(int, result.columns)), type(result.rows), result.cost,
+                result.pairs, result.row_duals, result.column_duals, result.prices, list(result.unmatched_rows),
+                list(result.unmatched_columns), repr(result), result.maximize, repr(result.verdict))
+
+    def test_copied(self):
         for result in self.results():
-            again = [pickle.loads(pickle.dumps(result)), copy.copy(result), copy.deepcopy(result)]
             wanted = self.described(result)
-            again += [pickle.loads(pickle.dumps(result))]
-            for other in again:
+            for other in copy.copy(result), copy.deepcopy(result):
                 self.assertIsInstance(other, nushbaret.Result)
                 self.assertEqual(self.described(other), wanted)
+
+    def test_pickled(self):
+        """A pickle says what the result says, and has no costs."""
+        for result in self.results():
+            fresh = pickle.loads(pickle.dumps(result))
+            wanted = self.shown(result)
+            for other in fresh, pickle.loads(pickle.dumps(result)), pickle.loads(pickle.dumps(fresh)):
+                self.assertEqual(self.shown(other), wanted)
+                for call in other.verify, other.next_best, lambda: other.without(0, 0):
+                    with self.assertRaisesRegex(ValueError, r"a pickled result has no costs: .* with_costs\(costs\)"):
+                        call()
+            with self.assertRaisesRegex(ValueError, "a pickled result has no costs"):
+                fresh.is_unique
+            unique = result.is_unique
+            self.assertIs(pickle.loads(pickle.dumps(result)).is_unique, unique)
+
+    def test_given_its_costs_again(self):
+        forms = [*forms_of([[0.1, 0.7, 1e15], [0.25, 3, 1 / 3]]), *forms_of([[4.0, 1, 3], [2, 0, 5], [3, 2, 2]])]
+        for form in forms:
+            result = nushbaret.solve(form)
+            wanted = self.described(result)
+            again = pickle.loads(pickle.dumps(result))
+            self.assertTrue(again.verify(form))
+            self.assertEqual(self.described(again.with_costs(form)), wanted)
+            self.assertEqual(nushbaret.solve(form, start=again).cost, result.cost)
+            less = result.without(0, 1)
+            self.assertEqual(self.described(pickle.loads(pickle.dumps(less)).with_costs(form)), self.described(less))
+            other = [[7.0] * 3] * len(form)
+            with self.assertRaisesRegex(ValueError, CHANGED):
+                again.with_costs(other)
+        listed = pickle.loads(pickle.dumps(nushbaret.solve_sparse(2, 2, [0, 0, 1], [0, 1, 0], [1, 2, 3])))
+        self.assertEqual(listed.with_costs([1, 2, 3], [0, 0, 1], [0, 1, 0]).verify().proved, True)
+        worst = pickle.loads(pickle.dumps(nushbaret.bottleneck([[0, 5], [5, 9]])))
+        self.assertEqual((worst.pairs, worst.with_costs([[0, 5], [5, 9]]).next_best()), ([(0, 1), (1, 0)], None))
+
+    @unittest.skipUnless(np, "NumPy isn't there")
+    def test_a_pickle_is_small(self):
+        costs = np.random.default_rng(1).random((1000, 1000))
+        for form in costs, (costs * 1000).astype(int):
+            self.assertLess(len(pickle.dumps(nushbaret.solve(form))), 100_000)
+
+    def test_a_pickle_of_changed_costs_says_so(self):
+        for form in forms_of(Changed.LEVELS) + forms_of(Changed.EXACT):
+            result = nushbaret.solve(form)
+            fill(form, 7.0)
+            again = pickle.loads(pickle.dumps(result))
+            self.assertEqual((again.cost, again.pairs, again.verdict.proved), (result.cost, result.pairs, False))
+
+    def test_a_pickle_of_an_older_release(self):
+        with self.assertRaisesRegex(pickle.UnpicklingError, "a release before 5.0 pickled this result"):
+            nushbaret.Result.__new__(nushbaret.Result).__setstate__({"rows": [0], "columns": [0]})
+
+    def test_what_it_shows_cant_be_changed(self):
+        """What is shown is what `verify` judges."""
+        forms = [[[4, 1, 3], [2, 0, 5]], [[1, None, None], [2, None, 3], [4, None, None]]]
+        forms += [np.array(forms[0]), list(np.array(forms[0]))] if np else []
+        for form in forms:
+            result = nushbaret.solve(form, partial=True)
+            for name in ("rows", "columns", "unmatched_rows", "unmatched_columns", "pairs", "row_duals",
+                         "column_duals", "prices"):
+                for held in result, pickle.loads(pickle.dumps(result)), copy.deepcopy(result):
+                    self.refuses(getattr(held, name))
+            self.refuses(result.next_best().columns) if result.next_best() else None
+            self.assertTrue(result.verify())
+        week = nushbaret.assign_counts([[4, 1, 3], [2, 0, 5]], (1, 3), (2, 2), [[0, 1]], partial=True)
+        for held in week, pickle.loads(pickle.dumps(week)), copy.deepcopy(week):
+            for name in "rows", "columns", "pairs", "missing_rows", "missing_columns":
+                self.refuses(getattr(held, name))
+
+    def refuses(self, values):
+        """Whether all ways to write are refused, and nothing is changed."""
+        before = dict(values) if isinstance(values, dict) else list(values)
+        if isinstance(values, dict):
+            writes = [lambda: values.update({0: 7}), lambda: values.pop(0, 0), values.clear, values.popitem,
+                      lambda: values.setdefault(0, 7), lambda: values.__setitem__(0, 7)]
+        elif isinstance(values, list):
+            writes = [values.reverse, values.sort, values.clear, values.pop, lambda: values.append(7),
+                      lambda: values.extend([7]), lambda: values.insert(0, 7), lambda: values.remove(7),
+                      lambda: values.__setitem__(slice(None), [7]), lambda: values.__delitem__(slice(None)),
+                      lambda: values.__iadd__([7]), lambda: values.__imul__(2)]
+        else:
+            writes = [lambda: values.fill(7), lambda: values.setflags(write=True), values.sort,
+                      lambda: np.add(values, 1, values)] if len(values) else []
+        for place, write in enumerate(writes):
+            with self.subTest(values=values, place=place), self.assertRaises((TypeError, ValueError)):
+                write()
+        self.assertEqual(type(before)(values), before)
 
     def test_sent_to_a_pool(self):
         results = list(self.results())[:3]
@@ -176,7 +268,7 @@ class Kept(unittest.TestCase):
 
 
 def _cost_of(result):
-    return result.cost if result.verify() else None
+    return result.cost if result.verdict else None
 
 
 class Prices(unittest.TestCase):
@@ -249,6 +341,83 @@ class Forms(unittest.TestCase):
                          5)
         self.assertEqual(nushbaret.solve(np.ma.array([[1, 2], [3, 5]])).cost, 5)
         self.assertEqual(nushbaret.linear_sum_assignment(costs)[1].tolist(), [1, 0])
+
+    @unittest.skipUnless(np, "NumPy isn't there")
+    def test_what_becomes_an_array(self):
+        """Objects that say by one word alone that they are arrays."""
+        costs = np.array([[4, 1, 3], [2, 0, 5], [3, 2, 2.5]])
+
+        def of(word, values):
+            """An object with this word alone."""
+            held = type("Held", (), {} if word != "__dlpack__" else {
+                "__dlpack__": lambda self, **words: values.__dlpack__(**words),
+                "__dlpack_device__": lambda self: values.__dlpack_device__()})()
+            held.memory = values
+            if word != "__dlpack__":
+                setattr(held, word, values.__array__ if word == "__array__" else getattr(values, word))
+            return held
+
+        words = ["__array__", "__array_interface__", "__array_struct__"]
+        words += ["__dlpack__"] if hasattr(np, "from_dlpack") else []
+        for word in words:
+            with self.subTest(word=word):
+                form = of(word, costs)
+                rows, columns = nushbaret.linear_sum_assignment(form)
+                self.assertEqual((type(columns), columns.tolist()), (np.ndarray, [1, 0, 2]))
+                result = nushbaret.solve(form)
+                self.assertEqual((result.cost, result.columns.tolist()), (Decimal("5.5"), [1, 0, 2]))
+                self.assertTrue(result.verify(form) and result.verify())
+                self.assertTrue(nushbaret.check(form, [1, 0, 2], of(word, np.array(result.prices, float))))
+                self.assertEqual(nushbaret.Assigner(form).result.cost, Decimal("5.5"))
+                batch = nushbaret.linear_sum_assignment_batch(of(word, np.array([costs, costs])))
+                self.assertEqual(batch[1].tolist(), [[1, 0, 2]] * 2)
+                self.assertEqual(nushbaret.solve([of(word, row) for row in costs]).columns.tolist(), [1, 0, 2])
+                listed = [of(word, np.array(values)) for values in ([0, 0, 1], [0, 1, 0], [4.5, 1, 2])]
+                self.assertEqual(nushbaret.solve_sparse(2, 2, *listed).cost, 3)
+        if "__dlpack__" in words:
+            with self.assertRaisesRegex(TypeError, "makes no array of this Held"):
+                nushbaret.solve(type("Held", (), {"__dlpack__": 1})())
+
+    @unittest.skipUnless(np, "NumPy isn't there")
+    def test_rows_that_are_arrays(self):
+        """Where any row is an array, the answer is in arrays, as SciPy's is."""
+        costs = np.array([[4, 1, 3], [2, 0, 5], [3, 2, 2.5]])
+        for rows in list(costs), tuple(costs), [costs[0], *costs[1:].tolist()], [*costs[:2].tolist(), costs[2]]:
+            for call in nushbaret.linear_sum_assignment, longer_call:
+                self.assertEqual([(type(part), part.tolist()) for part in call(rows)],
+                                 [(np.ndarray, [0, 1, 2]), (np.ndarray, [1, 0, 2])])
+            result = nushbaret.solve(rows)
+            self.assertEqual([type(part) for part in (result.rows, result.columns, result.unmatched_rows,
+                                                      result.next_best().rows)], [np.ndarray] * 4)
+            self.assertEqual(result.cost, Decimal("5.5"))
+        with self.assertRaises(nushbaret.Infeasible) as caught:
+            nushbaret.solve([np.array([1, np.inf]), [2, None]])
+        self.assertEqual(type(caught.exception.rows), np.ndarray)
+
+    @unittest.skipUnless(pydata, "sparse isn't there")
+    def test_sparse_arrays_of_pydata(self):
+        costs = np.array([[4, 1.5, 0], [2, 0, 5], [0, 2, 1e20]])
+        entries = pydata.COO.from_numpy(costs)
+        zero = pydata.COO([[0, 0, 1], [0, 1, 1]], [7.0, 0.0, 3.0], shape=(2, 2))
+        self.assertEqual(nushbaret.solve(zero).pairs, [(0, 0), (1, 1)])
+        for form in entries, pydata.GCXS.from_coo(entries), pydata.DOK.from_coo(entries):
+            with self.subTest(form=type(form).__name__):
+                wanted = nushbaret.solve(np.where(costs == 0, np.inf, costs))
+                for result in nushbaret.solve(form), nushbaret.solve_sparse(form):
+                    self.assertEqual((result.cost, result.columns.tolist(), bool(result.verify())),
+                                     (wanted.cost, wanted.columns.tolist(), True))
+                self.assertEqual(nushbaret.bottleneck(form).cost, 11)
+                with self.assertRaisesRegex(ValueError, "got a sparse one: an Assigner"):
+                    nushbaret.Assigner(form)
+        full = pydata.COO([[0, 1], [0, 1]], [1.0, 2.0], shape=(2, 2), fill_value=np.inf)
+        self.assertEqual(nushbaret.solve(full).cost, 3)
+        for call, form, words in ((nushbaret.solve, full + 1 - full, "the sparse array has nan wherever"),
+                                  (lambda costs: nushbaret.solve(costs, True), full, "the sparse array has inf "),
+                                  (nushbaret.solve, entries + 3, "the sparse array has 3.0 wherever nothing is stored"),
+                                  (nushbaret.solve, pydata.COO([[0], [0], [0]], [1.0], shape=(2, 2, 2)),
+                                   r"expected a matrix \(2-D array\), got a 3 array")):
+            with self.assertRaisesRegex(ValueError, words):
+                call(form)
 
     @unittest.skipUnless(sparse, "SciPy isn't there")
     def test_sparse_matrices(self):

@@ -170,8 +170,9 @@ class Duals(unittest.TestCase):
         different = 0
         for _, costs, maximize, result in self.results(8):
             other = nushbaret.solve(costs, maximize, partial=True)
-            answer = other._answer
-            other.__dict__["_answer"] = answer._replace(prices=array("q", [price + 7 for price in answer.prices]))
+            answer = other._found.answer
+            raised = answer._replace(prices=array("q", [price + 7 for price in answer.prices]))
+            other.__dict__["_found"] = other._found._replace(answer=raised)
             self.assertEqual((other.row_duals, other.column_duals, other.prices),
                              (result.row_duals, result.column_duals, result.prices))
             self.assertTrue(proves(costs, other, maximize))

@@ -162,8 +162,9 @@ class InLists(unittest.TestCase):
             self.assertEqual(nushbaret.solve(rows).cost, 2 if kind == "?" else 5, kind)
             rows[0] = rows[0] / 10 if kind != "?" else rows[0]
             result = nushbaret.solve(rows)
-            self.assertEqual((result.cost, result.rows), (2 if kind == "?" else Decimal("2.4"), [0, 1, 2]), kind)
-            self.assertEqual(nushbaret.linear_sum_assignment(rows)[0], [0, 1, 2])
+            self.assertEqual((result.cost, result.rows.tolist()), (2 if kind == "?" else Decimal("2.4"), [0, 1, 2]),
+                             kind)
+            self.assertEqual(nushbaret.linear_sum_assignment(rows)[0].tolist(), [0, 1, 2])
         self.assertEqual(nushbaret.solve([np.array([2**64 - 1, 2**63], np.uint64)]).cost, 2**63)
 
     def test_masked_rows(self):
@@ -174,7 +175,7 @@ class InLists(unittest.TestCase):
                 self.refused(ValueError, r"-- \(masked\) at row 0, column 1$", call, rows)
             self.refused(ValueError, r"-- \(masked\) at costs\[1\] \(row 0, column 1\)$", nushbaret.solve_sparse, 1, 3,
                          [0, 0, 0], [0, 1, 2], list(masked))
-            self.assertEqual(nushbaret.solve(rows, missing="forbid").columns, [0, 1, 2])
+            self.assertEqual(nushbaret.solve(rows, missing="forbid").columns.tolist(), [0, 1, 2])
             self.assertEqual(list(nushbaret.linear_sum_assignment(rows, missing="forbid")[1]), [0, 1, 2])
 
     def test_numbers(self):

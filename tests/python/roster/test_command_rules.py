@@ -1,5 +1,6 @@
 """The command with rules: what is printed, written and drawn, and what is refused."""
 import json
+import time
 import unittest
 from unittest import mock
 
@@ -328,14 +329,14 @@ class Words(Files):
 
     def test_not_decided(self):
         with mock.patch.object(finding, "find", return_value=Finding("undecided")):
-            self.expect(6, "not decided in 60 s\no.csv isn't written: there is no plan\n", "", *WORDS, "--output",
+            self.expect(6, "not decided in 60 s\no.csv isn't written: no plan was found\n", "", *WORDS, "--output",
                         "o.csv")
             self.expect(6, "not decided in 5 s\nc isn't written: nothing was proved\n", "", *WORDS, "--time", "5",
                         "--certificate", "c")
 
     def test_not_proved_best(self):
         """What was found is said to be no better than was shown."""
-        def found(model, seconds, progress=None, start=None):
+        def found(model, seconds, progress=None, start=None, without=None):
             plan = [0] * model.variables
             pairs = [(person, object_) for person in range(3) for object_ in range(8)]
             for pair in ((0, 5), (0, 7), (1, 1), (1, 3), (1, 6), (2, 0), (2, 2), (2, 4)):
@@ -346,12 +347,45 @@ class Words(Files):
             with self.subTest(kind), mock.patch.object(finding, "find", side_effect=found):
                 self.expect(0, first + "\n" + PLAN, "", *WORDS)
 
+    def test_a_process_that_dies(self):
+        with mock.patch.object(finding, "find", side_effect=RuntimeError("a process that finds plans ended: signal 9")):
+            self.expect(4, "", "a fault of nushbaret itself: RuntimeError: a process that finds plans ended: signal 9 "
+                        "(NUSHBARET_DEBUG=1 shows where)\n", *WORDS)
+
+    def test_the_fullest_plan_has_its_own_time(self):
+        """Half of the time is left for it, however long reasons are looked for; that none was found is no proof."""
+        def found(model, seconds, progress=None, start=None, without=None):
+            times.append(without)
+            time.sleep(without if len(times) == 1 else 0)
+            return answers.pop(0)
+        reasons = Finding("impossible", reasons=("one",), certificate=None)
+        none = ("no plan that misses some was found in 2 s: it wasn't looked for long enough, and --time gives more\n"
+                "o.csv isn't written: no plan was found\n")
+        why = "no plan keeps these rules, proved: together they can't hold, and maybe fewer of them can't:\n  one\n"
+        for first, status, said in ((reasons, 1, why + none), (Finding("undecided"), 6, none)):
+            times, answers = [], [first, Finding("undecided")]
+            with mock.patch.object(finding, "find", side_effect=found):
+                self.expect(status, said, "", *WORDS, "--time", "2", "--as-many-as-can", "--output", "o.csv")
+            self.assertLessEqual(times[0], 1)
+            self.assertGreater(times[1], 0.8)
+
+    def test_a_plan_that_misses_some(self):
+        """Where no more is proved than that it misses some, it isn't decided whether a plan misses none."""
+        plan = (1,) * 24
+        for bound, status in ((1, 1), (0, 6), (None, 6)):
+            def found(model, seconds, progress=None, start=None, without=None):
+                if without < 1.5:
+                    return Finding("undecided")
+                return Finding("within", plan + (0,) * (model.variables - 24), 3, bound)
+            with self.subTest(bound), mock.patch.object(finding, "find", side_effect=found):
+                self.assertEqual(self.run_words(*WORDS, "--time", "2", "--as-many-as-can")[0], status)
+
     def test_without_scipy(self):
         with mock.patch.object(finding, "find", side_effect=ImportError(finding.NEEDS_SCIPY)):
             self.expect(2, "", finding.NEEDS_SCIPY + "\n", *WORDS)
 
     def test_progress_on_a_terminal(self):
-        def found(model, seconds, progress=None, start=None):
+        def found(model, seconds, progress=None, start=None, without=None):
             progress("looks for plans", None, 4)
             progress("proofs", 7, 5)
             return Finding("undecided")

@@ -21,18 +21,20 @@ needs_scipy = unittest.skipUnless(models.scipy, "SciPy isn't there")
 LONG = """
 import random, sys
 sys.path[:0] = [{package!r}, {tests!r}]
-from nushbaret.rows import finding
+from nushbaret.rows import finding, process as processes
 import row_models
-popen = finding.subprocess.Popen
+popen = processes.subprocess.Popen
 def started(*arguments, **options):
     process = popen(*arguments, **options)
     print(process.pid, flush=True)
     return process
-finding.subprocess.Popen = started
+processes.subprocess.Popen = started
 try:
     finding.find(row_models.drawn_month(random.Random(5), 60, 40), 600)
 except KeyboardInterrupt:
     print("stopped", flush=True)
+except RuntimeError as fault:
+    print(fault, flush=True)
 """
 
 
@@ -123,12 +125,21 @@ class Processes(unittest.TestCase):
         self.assertEqual(finding.find(models.drawn_month(random.Random(1)), 0).kind, "undecided")
 
     def test_ctrl_c_ends_the_processes(self):
+        self.check_end(lambda process, workers: process.send_signal(signal.SIGINT), "stopped\n")
+
+    def test_a_process_that_dies(self):
+        for place in range(2):
+            self.check_end(lambda process, workers: os.kill(workers[place], signal.SIGKILL),
+                           "a process that finds plans ended: signal 9\n")
+
+    def check_end(self, disturb, said):
         here = pathlib.Path(__file__).resolve().parents[1]
         code = LONG.format(package=str(here.parents[1] / "python"), tests=str(here))
         with subprocess.Popen([sys.executable, "-c", code], stdout=subprocess.PIPE, text=True) as process:
             workers = [int(process.stdout.readline()) for _ in range(2)]
-            process.send_signal(signal.SIGINT)
-            self.assertEqual(process.stdout.read(), "stopped\n")
+            time.sleep(2)
+            disturb(process, workers)
+            self.assertEqual(process.stdout.read(), said)
         for worker in workers:
             while _is_there(worker):
                 time.sleep(0.05)

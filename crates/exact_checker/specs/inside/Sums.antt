@@ -12,16 +12,6 @@ use Rattle.cost_lists.specs.Own.{minimised}
 abbrev pub sum_at : Sense → List ℤ → List ℤ → ℕ → ℤ
 sum_at sense costs prices j = minimised sense (slice_index_or costs j (pos 0)) +ℤ slice_index_or prices j (pos 0)
 
--- person i lists object k at a cost whose sum with the price is below the person's value
-pub record IsUnder (sense : Sense) (rows : List Listing) (prices values : List ℤ) (i k : ℕ) : Type 0 where
-  pub cost : ℤ
-  pub listed : listed_in (row_of rows i) k ≡ Some cost
-  pub under : (minimised sense cost +ℤ price_of prices k) <ℤ numbered values i (pos 0)
-
--- some object is under the value of person i
-abbrev pub HasUnder : Sense → List Listing → List ℤ → List ℤ → ℕ → Type 0
-HasUnder sense rows prices values i = (k : ℕ) × IsUnder sense rows prices values i k
-
 -- the sum of a cost and a price
 pub record IsSum (v : ℤ) : Type 0 where
   pub least : (pos 0) ≤ℤ (v +ℤ GREATEST_COST)

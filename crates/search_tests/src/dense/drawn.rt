@@ -85,7 +85,7 @@ fn costs_of(
 }
 
 // A problem of at most `most` objects.
-fn draw_lists(alloc: Global, seed: &mut u64, most: u64) -> Result<Lists, AllocError> {
+pub fn draw_lists(alloc: Global, seed: &mut u64, most: u64) -> Result<Lists, AllocError> {
     let objects = (draw_wide(seed, most) & 0xff) as usize + 1;
     let share = draw_wide(seed, 4);
     let fewer = (draw_wide(seed, objects as u64) & 0xff) as usize;
@@ -123,7 +123,7 @@ fn draw_start(
     Ok((prices, objects))
 }
 
-fn draw_stage(seed: &mut u64) -> Stage {
+pub fn draw_stage(seed: &mut u64) -> Stage {
     match draw_wide(seed, 10) {
         0 => Stage::Cold,
         1 => Stage::Warm,
@@ -146,12 +146,16 @@ fn draw_record(seed: &mut u64) -> Record {
         slackness: draw_cost(seed, 1 << 30),
         bids: draw_wide(seed, 200),
         passes: draw_wide(seed, 4),
+        restarts: (draw_wide(seed, 4) & 3) as u32,
         looks: draw_wide(seed, 1000),
     }
 }
 
+// The most calls of a search.
+const CALLS: usize = 10_000;
+
 // Calls of a budget each from these prices and objects, up to the end.
-fn call_on(
+pub fn call_on(
     alloc: Global,
     lists: &Lists,
     prices: &mut [i64],
@@ -159,7 +163,7 @@ fn call_on(
     record: &mut Record,
     budget: u64,
 ) -> Result<Finding, AllocError> {
-    for _piece in 0..2000 {
+    for _piece in 0..CALLS {
         let found = lists.call(alloc, prices, objects, record, budget)?;
         if found != Finding::Stopped {
             return Ok(found);

@@ -14,6 +14,9 @@ def first_lines(roster: Roster, plan: Optional[NamedPlan], proved: Proved, maxim
     lines = reason_lines(proved) if proved.is_impossible else []
     if plan is not None:
         return [*lines, *_missing_lines(proved), _cost_line(roster, plan, proved, maximize)]
+    if proved.is_fullest_open:
+        lines.append(f"no plan that misses some was found in {proved.seconds:g} s: it wasn't looked for long enough, "
+                     "and --time gives more")
     return lines or [f"not decided in {proved.seconds:g} s"]
 
 

@@ -2,7 +2,7 @@ use Rattle.std.proofs.Common.{◌≡◌, ℕ, pos, ◌-◌, ◌+◌, ◌<ℤ◌,
 use Rattle.std.proofs.lemmas.Int.{ints, to_z-of_z}
 use Rattle.cost_lists.specs.Given.{rows_given}
 use Rattle.cost_lists.specs.Source.{triples_in}
-use Rattle.exact_checker.specs.inside.Sums.{IsUnder}
+use Rattle.exact_checker.specs.Under.{IsUnder}
 use Rattle.exact_checker.proofs.Earliest.{IsFirstSoFar, first_found, first_skip, first_take}
 use Rattle.exact_checker.proofs.PairSums.{IsUnderAt, from_under, to_under, under_range}
 use Rattle.exact_checker.proofs.pairs.first_of_pairs.Goals as goal

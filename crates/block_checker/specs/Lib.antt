@@ -1,0 +1,3 @@
+pub mod Sums
+pub mod Pairs
+pub mod inside

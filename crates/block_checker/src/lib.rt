@@ -1,0 +1,15 @@
+//! Checks blocks: some persons of a greater problem, or some of their pairs. Each block shows at given
+//! prices and row numbers that none of its pairs is better; together they prove a plan best
+//! (`cost_lists::blocks_mean_best`).
+#![tactic(auto)]
+
+mod better;
+mod bounded;
+mod least;
+mod marks;
+mod selection;
+
+pub use better::write_better;
+pub use bounded::first_better;
+pub use least::least_sums;
+pub use marks::own_marks;

@@ -1,0 +1,15 @@
+pub mod CountSums
+pub mod Rivals
+pub mod RivalLaws
+pub mod CountDuality
+pub mod CountSets
+pub mod Slots
+pub mod PairsRight
+pub mod Tallying
+pub mod Places
+pub mod VerdictLaws
+pub mod Fresh
+pub mod Taking
+pub mod Apart
+pub mod Lacking
+pub mod Verdicts

@@ -1,0 +1,35 @@
+// Laws on plans and on what proves an answer.
+ghost use Rattle.std.specs.Prelude.{ℤ, List, Bool, ◌⊎◌};
+ghost use Rattle.count_checker.specs.Counts.{CountProblem, IsBestPlan, IsCountProblem, IsPlan};
+ghost use Rattle.count_checker.specs.CountPrices.{AreCountPrices};
+ghost use Rattle.count_checker.specs.CountSets.{ColumnsLack, RowsLack};
+ghost use Rattle.count_checker.specs.CountFaults.{CountVerdictsDiffer};
+ghost use Rattle.count_checker.specs.Shortages.{ShortageVerdictsDiffer};
+
+/// No plan that keeps counts and groups is better than one with such numbers of rows and columns: weak
+/// duality with complementary slackness (Bertsekas and Castañon, Annals of Operations Research 20,
+/// 1989).
+pub fn count_prices_mean_best()
+    ensures { (p : CountProblem) (plan : List Bool) (r v : List ℤ)
+        → IsCountProblem p → IsPlan p plan → AreCountPrices p plan r v → IsBestPlan p plan }
+{}
+
+/// Rows, or columns, that need more than the others can give leave no plan (A. J. Hoffman, Some recent
+/// applications of the theory of linear inequalities to extremal combinatorial analysis, 1960; N. S.
+/// Mendelsohn and A. L. Dulmage, Some generalizations of the problem of distinct representatives,
+/// 1958).
+pub fn count_sets_leave_no_plan()
+    ensures { (p : CountProblem) (rows columns : List Bool) → IsCountProblem p
+        → (RowsLack p rows columns ⊎ ColumnsLack p rows columns)
+        → (plan : List Bool) → ¬ IsPlan p plan }
+{}
+
+/// At most one verdict holds of a plan and numbers.
+pub fn one_count_verdict()
+    ensures { CountVerdictsDiffer }
+{}
+
+/// At most one verdict holds of marks of rows and columns.
+pub fn one_shortage_verdict()
+    ensures { ShortageVerdictsDiffer }
+{}

@@ -1,0 +1,7 @@
+//! Blocks that a caller in C lends: the lists are judged, and what the block shows is written into the
+//! buffers. A code says whether a pair is better.
+#![tactic(auto)]
+
+mod block;
+
+pub use block::{block_on, one_length};

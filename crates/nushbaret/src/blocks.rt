@@ -1,0 +1,91 @@
+// The call on a block of a greater problem, as `c/nushbaret.h` declares it.
+ghost use Rattle.lent_blocks.specs.Blocks.{JudgesBlock, block_given};
+
+use assign_core::Cost;
+use cost_lists::{Object, Person, Price};
+use lent_blocks::{block_on, one_length};
+use lent_lists::{Given, Info, form_of};
+use std::alloc::Global;
+
+/// Looks at `n` persons of a greater problem, or at some of their pairs, whose other pairs lie elsewhere:
+/// whether a pair is better than its person's row number at these prices of all `m` objects.
+#[unsafe(no_mangle)]
+pub extern "C" fn nushbaret_block(
+    alloc: Global,
+    sense: u32,
+    n: usize,
+    m: usize,
+    of_persons: &[Person],
+    of_objects: &[Object],
+    costs: &[Cost],
+    objects: &[Object],
+    numbers: &[Cost],
+    prices: &[Price],
+    most: usize,
+    least: &mut [Cost],
+    own: &mut [u8],
+    better_persons: &mut [Person],
+    better_objects: &mut [Object],
+    better_costs: &mut [Cost],
+    info: &mut Info,
+) -> i32
+    ensures {
+        let before = record {
+          least = least.old;
+          own = own.old;
+          better = record {
+            persons = better_persons.old;
+            objects = better_objects.old;
+            costs = better_costs.old;
+          };
+          info = info.old;
+        } in
+        let after = record {
+          least = least.new;
+          own = own.new;
+          better = record {
+            persons = better_persons.new;
+            objects = better_objects.new;
+            costs = better_costs.new;
+          };
+          info = info.new;
+        } in
+        JudgesBlock (block_given sense n m of_persons.now of_objects.now costs.now objects.now numbers.now prices.now before)
+        objects.now numbers.now before after result }
+{
+    let is_one = better_objects.len() == better_persons.len()
+        && better_costs.len() == better_persons.len();
+    let by_person = [
+        objects.len(),
+        numbers.len(),
+        least.len(),
+        own.len(),
+        one_length(is_one, n),
+    ];
+    let by_object = [prices.len()];
+    let given = Given {
+        form: form_of(of_persons, of_objects, costs),
+        sense,
+        n,
+        m,
+        by_person: &by_person,
+        by_object: &by_object,
+        persons: of_persons,
+        objects: of_objects,
+        costs,
+        first: prices,
+    };
+    block_on(
+        alloc,
+        &given,
+        objects,
+        numbers,
+        most,
+        least,
+        own,
+        better_persons,
+        better_objects,
+        better_costs,
+        info,
+    )
+}

@@ -1,0 +1,69 @@
+"""What results show: lists, dicts and arrays that can't be changed, and frames of pandas."""
+import decimal
+import importlib
+from typing import Any, Dict, Iterable, List, NoReturn, Sequence, Tuple
+
+from ..costs.numbers import Number
+
+
+class FixedList(List[Any]):
+    """A list that can't be changed. `list(..)` makes a copy that can."""
+
+    def _refuse(self, *_: Any, **__: Any) -> NoReturn:
+        raise TypeError("a result's list can't be changed: list(..) makes a copy that can be")
+
+    __setitem__ = __delitem__ = __iadd__ = __imul__ = _refuse  # type: ignore[assignment]
+    append = clear = extend = insert = pop = remove = reverse = sort = _refuse  # type: ignore[assignment]
+
+    def __reduce__(self) -> Tuple[Any, ...]:
+        return FixedList, (list(self),)
+
+
+class FixedDict(Dict[Any, Any]):
+    """A dict that can't be changed. `dict(..)` makes a copy that can."""
+
+    def _refuse(self, *_: Any, **__: Any) -> NoReturn:
+        raise TypeError("a result's dict can't be changed: dict(..) makes a copy that can be")
+
+    __setitem__ = __delitem__ = __ior__ = clear = pop = popitem = setdefault = _refuse  # type: ignore[assignment]
+    update = _refuse  # type: ignore[assignment]
+
+    def __reduce__(self) -> Tuple[Any, ...]:
+        return FixedDict, (dict(self),)
+
+
+def fixed(values: Any) -> Any:
+    """The values of a list in one that can't be changed, or a view of an array through which it can't."""
+    if not hasattr(values, "setflags"):
+        return FixedList(values)
+    # What owns its memory keeps all views of it from being written.
+    values = values if values.base is None else values.copy()
+    values.setflags(write=False)
+    return values[:]
+
+
+def numbers(values: Iterable[int], as_array: bool) -> Any:
+    """Row or column numbers as a result shows them."""
+    if not as_array:
+        return FixedList(values)
+    # A result from a pickle may be what loads NumPy.
+    numpy = importlib.import_module("numpy")
+    return fixed(numpy.array(list(values), numpy.intp))
+
+
+def frame_of(pairs: Sequence[Tuple[Any, Any]], costs: List[Number]) -> Any:
+    """A DataFrame with columns row, column and cost."""
+    import pandas  # type: ignore
+    rows, columns = zip(*pairs) if pairs else ((), ())
+    return pandas.DataFrame({"row": list(rows), "column": list(columns), "cost": _in_floats(costs)})
+
+
+def _in_floats(costs: List[Any]) -> List[Any]:
+    """Floats instead of Decimals where all print as these."""
+    printed = costs and all(isinstance(cost, decimal.Decimal) and _prints_so(cost) for cost in costs)
+    return list(map(float, costs)) if printed else costs
+
+
+def _prints_so(cost: decimal.Decimal) -> bool:
+    """Whether a float prints as this decimal."""
+    return decimal.Decimal(repr(float(cost))) == cost

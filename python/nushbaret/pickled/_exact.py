@@ -1,3 +1,0 @@
-from nushbaret.costs.reading import Manner
-
-__all__ = ["Manner"]

@@ -1,3 +1,0 @@
-from nushbaret.api.infeasible import Infeasible, Shortage
-
-__all__ = ["Infeasible", "Shortage"]

@@ -1,3 +1,0 @@
-from nushbaret.lap.proved import Halves
-
-__all__ = ["Halves"]

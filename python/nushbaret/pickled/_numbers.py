@@ -1,3 +1,0 @@
-from nushbaret.costs.numbers import Unit
-
-__all__ = ["Unit"]

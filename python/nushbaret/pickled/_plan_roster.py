@@ -1,3 +1,0 @@
-from nushbaret.api.rosters import RosterPlan
-
-__all__ = ["RosterPlan"]

@@ -1,3 +1,0 @@
-from nushbaret.costs.problem import Problem
-
-__all__ = ["Problem"]

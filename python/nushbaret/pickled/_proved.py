@@ -1,3 +1,0 @@
-from nushbaret.lap.proved import Assignment as Answer, Duals
-
-__all__ = ["Answer", "Duals"]

@@ -1,3 +1,0 @@
-from nushbaret.api.results import Plan, Result
-
-__all__ = ["Plan", "Result"]

@@ -1,3 +1,0 @@
-from nushbaret.costs.source import FixedProblem as Held, Source
-
-__all__ = ["Held", "Source"]
