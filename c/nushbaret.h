@@ -304,7 +304,7 @@ int32_t nushbaret_block(uint32_t sense, size_t n, size_t m,
    Of several faults a call returns the one with the least number.
 
    NUSHBARET_BEST: no plan has a lesser sum (under NUSHBARET_MAX a greater one) in exact arithmetic, without any rounding.
-   At the prices, which are doubles, each person's own object is a best one, and no price is below that of an object that
+   At the prices, which are finite, each person's own object is a best one, and no price is below that of an object that
    nobody has. NUSHBARET_HALL: there is no plan. NUSHBARET_UNDECIDED says neither: plans that differ by less than the
    rounding of their costs are mostly why, or costs of very different sizes.
 
@@ -416,7 +416,7 @@ static inline int32_t nushbaret_verify_hall(const struct nushbaret_problem *prob
     return nushbaret_check_hall(problem->n, problem->m,
         problem->persons == NULL ? answer->objects : problem->persons, pairs,
         problem->persons == NULL ? answer->objects : problem->objects, pairs, problem->costs, problem->count,
-        answer->persons, (size_t)answer->info.persons, answer->objects, (size_t)answer->info.objects, &answer->info);
+        answer->persons, answer->info.persons, answer->objects, answer->info.objects, &answer->info);
 }
 
 /* ROWS. n variables, each 0 or 1, and rows of whole numbers: least[r] <= sum of coefficient * variable <= most[r]. A tree
@@ -426,7 +426,8 @@ static inline int32_t nushbaret_verify_hall(const struct nushbaret_problem *prob
    Row r has the terms from starts[r] up to starts[r + 1] of `variables` and `coefficients`: compressed sparse rows. There
    is one start more than rows. A variable that a row has several times counts with the sum of its coefficients.
    least[r] = INT64_MIN is no lower bound, most[r] = INT64_MAX no upper one. The plan has n numbers 0 or 1, or none. With a
-   plan the last row is that of the costs: the plan has to meet the others, and no plan costs less than most[last] + 1.
+   plan the last row is that of the costs, with an upper bound and no lower one: the plan has to meet the others, and no plan
+   that meets them costs less than most[last] + 1.
 
    The tree is one list, a node and then the nodes below it:
        leaf    0, k, and k pairs of a row and a multiplier
@@ -450,7 +451,8 @@ enum nushbaret_rows_code {
     NUSHBARET_ROWS_PLAN_NUMBER = 10,  /* plan[info->place] isn't 0 or 1 */
     NUSHBARET_ROWS_BROKEN = 11,       /* the plan doesn't meet row info->place */
     NUSHBARET_ROWS_COST = 12,         /* the plan's sum in the last row is beyond 64 bits */
-    NUSHBARET_ROWS_MEMORY = 13        /* memory was refused */
+    NUSHBARET_ROWS_MEMORY = 13,       /* memory was refused */
+    NUSHBARET_ROWS_COST_ROW = 14      /* with a plan: the last row has a lower bound, or no upper one */
 };
 
 /* What nushbaret_rows reports. */
@@ -460,9 +462,11 @@ struct nushbaret_rows_info {
 };
 
 /* Checks a tree on rows, and a plan. Of several faults it returns the first: those of the lists, from NUSHBARET_ROWS_LENGTH
-   to NUSHBARET_ROWS_COST as they are numbered, then the first of the tree in the order of its numbers. Other fields of
-   `info` than those named above stay as they were. It takes time linear in the lists and in the terms of the rows that the
-   leaves name, and memory of 16 bytes a variable, up to 32 a term and some 100 a row. */
+   to NUSHBARET_ROWS_COST as they are numbered, with NUSHBARET_ROWS_COST_ROW after NUSHBARET_ROWS_START, then the first of
+   the tree in the order of its numbers. NUSHBARET_ROWS_MEMORY comes only where none of those up to
+   NUSHBARET_ROWS_PLAN_NUMBER does. Other fields of `info` than those named above stay as they were. It takes time linear in
+   the lists and in the terms of the rows that the leaves name, and memory of 16 bytes a variable, up to 32 a term and some
+   100 a row. */
 int32_t nushbaret_rows(size_t n,
     const size_t *starts, size_t starts_count,
     const uint32_t *variables, size_t variables_count,

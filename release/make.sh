@@ -153,7 +153,7 @@ stage() {
     done
     python3 "$parts/manual.py" "$top/c/nushbaret.h" "$version" "$share/man" ${program:+"$program"}
     python3 "$parts/completions.py" "$share" ${program:+"$program"}
-    cp "$top/c/example.c" "$share/doc/nushbaret/examples/"
+    cp "$top"/c/example*.c "$share/doc/nushbaret/examples/"
     ln -s "$(realpath -m --relative-to="$share/doc/nushbaret" "$root/$4/nushbaret/guide")" "$share/doc/nushbaret/guide"
     cp "$top"/LICENSE-* "$share/doc/nushbaret/"
     find "$root" -type f -exec chmod 644 {} +
@@ -229,7 +229,7 @@ zip_for_windows() {
     cp "$top/c/nushbaret.h" "$root/include/"
     filled nushbaret-config-windows.cmake lib '' > "$cmake/nushbaret-config.cmake"
     filled nushbaret-config-version.cmake lib '' > "$cmake/nushbaret-config-version.cmake"
-    cp "$top/c/example.c" "$share/examples/"
+    cp "$top"/c/example*.c "$share/examples/"
     cp "$top"/LICENSE-* "$share/"
     python3 "$parts/zip.py" "$root" "$made/nushbaret-$version-windows-x86_64.zip"
 }

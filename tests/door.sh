@@ -61,6 +61,9 @@ run 'C99: build' cc "${c99[@]}" "${flags[@]}" "${calls[@]}" "$archive" "${wrappe
 run 'C99' "$work/calls"
 run 'C++11: build' c++ -x c++ -std=c++11 "${flags[@]}" "${calls[@]}" -x none "$archive" "${wrapped[@]}" -o "$work/calls_as_cpp"
 run 'C++11' "$work/calls_as_cpp"
+# The header is without a cast that C++ has no use for: a caller's own warnings don't stop at it.
+echo '#include "nushbaret.h"' > "$work/header.cpp"
+run 'header in C++' c++ -std=c++11 -pedantic "${flags[@]}" -Wno-unknown-warning-option -Wconversion -Wold-style-cast -Wuseless-cast -fsyntax-only "$work/header.cpp"
 if echo 'int main(void) { return 0; }' | cc -fsanitize=address,undefined -x c - -o "$work/empty" 2> /dev/null; then
     run 'checked: build' cc "${c99[@]}" "${flags[@]}" -fsanitize=address,undefined -fno-sanitize-recover=all "${calls[@]}" "$archive" "${wrapped[@]}" -o "$work/checked"
     run 'checked' "$work/checked"

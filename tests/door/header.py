@@ -71,7 +71,7 @@ def crate_codes():
 def row_codes():
     """The codes of rows: `Shown` and `Costs` have one."""
     called = {"NotShown": "NOT_SHOWN", "TooGreat": "TOO_GREAT", "TooDeep": "TOO_DEEP", "RowVariable": "ROW_VARIABLE",
-              "PlanNumber": "PLAN_NUMBER"}
+              "CostRow": "COST_ROW", "PlanNumber": "PLAN_NUMBER"}
     for variant, number in re.findall(r"(?:Fault|Answer)::(\w+)(?:\(_\))? => (\d+),", ROWS.read_text()):
         yield "SHOWN" if variant == "Costs" else called.get(variant, variant.upper()), int(number)
 
@@ -120,7 +120,7 @@ for crate, name, named in [("cost_lists", "MOST_PERSONS", "GREATEST_NUMBER"),
     value = re.search(rf"{named.replace('_', '')}: \w+ = (\d+)(?: << (\d+))?", text)
     compare(name, int(re.search(rf"NUSHBARET_{name} (?:INT64_C\()?(\d+)", HEADER)[1]),
             int(value[1]) << int(value[2] or 0))
-judged = (LISTS / "judge.rt").read_text()
+judged = (LISTS / "judging.rt").read_text()
 for name in ["MIN", "MAX"]:
     number = re.search(rf"#define NUSHBARET_{name} (\d+)u", HEADER)[1]
     compare(name, number, re.search(rf"(\d+) => Some\(Sense::{name.title()}\)", judged)[1])

@@ -1,4 +1,5 @@
-/* Rows: each growth refused in turn, more variables than there is memory for, and the deepest tree. */
+/* Rows: each growth refused in turn, faults of the lists before any growth, more variables than there is memory for, and the
+   deepest tree. */
 #include "calls.h"
 
 enum { DEEP = 1000 };
@@ -65,6 +66,23 @@ static void refused(void) {
     printf("rows: %ld growths\n", k - 1);
 }
 
+/* Where a list is faulty, memory isn't asked for. */
+static void faulty(struct rows *rows, int32_t code) {
+    growths = 0, refuse_at = 1;
+    WANT(judge(rows) == code && growths == 0 && rows->info.cost == 77);
+    refuse_at = 0;
+}
+
+static void faults_before_memory(void) {
+    static struct rows rows;
+    set(&rows), rows.plan_count = 2, faulty(&rows, NUSHBARET_ROWS_LENGTH);
+    set(&rows), rows.starts[2] = 1, rows.least[3] = 0, faulty(&rows, NUSHBARET_ROWS_START);
+    set(&rows), rows.least[3] = -9, rows.variables[0] = 3, faulty(&rows, NUSHBARET_ROWS_COST_ROW);
+    set(&rows), rows.most[3] = INT64_MAX, faulty(&rows, NUSHBARET_ROWS_COST_ROW);
+    set(&rows), rows.variables[0] = 3, rows.plan[0] = 2, faulty(&rows, NUSHBARET_ROWS_ROW_VARIABLE);
+    set(&rows), rows.plan[0] = 2, faulty(&rows, NUSHBARET_ROWS_PLAN_NUMBER);
+}
+
 static void too_many_variables(void) {
     static struct rows rows;
     static const size_t many[] = {SIZE_MAX, SIZE_MAX / 2 + 1, SIZE_MAX / 16 + 2};
@@ -87,6 +105,7 @@ int is_deep_right(void) {
 
 void test_rows(void) {
     refused();
+    faults_before_memory();
     too_many_variables();
     WANT(is_deep_right());
 }

@@ -10,7 +10,7 @@ from ctypes import c_int32, c_int64, c_size_t, c_uint32, c_uint64, c_uint8
 
 MIN, MAX = -2**63, 2**63 - 1
 (SHOWN, NOT_SHOWN, TOO_GREAT, TOO_DEEP, SHAPE, ROW, VARIABLE, LENGTH, START, ROW_VARIABLE, PLAN_NUMBER, BROKEN,
- COST) = range(13)
+ COST, MEMORY, COST_ROW) = range(15)
 KINDS = [c_size_t, c_uint32, c_int64, c_int64, c_int64, c_uint8, c_int64]
 
 
@@ -95,12 +95,13 @@ def list_fault(n, starts, variables, coefficients, least, most, plan):
     if (count < 0 or len(coefficients) != len(variables) or len(least) != count or len(most) != count or plan
         and (len(plan) != n or count == 0)):
         raise Stop(LENGTH, None)
+    is_no_cost_row = plan and (least[-1] != MIN or most[-1] == MAX)
     for code, of, wrong in [(START, starts, lambda k, s: s < (starts[k - 1] if k else 0) or k == 0 and s or k == count
-                             and s != len(variables)), (ROW_VARIABLE, variables, lambda k, v: v >= n),
-                            (PLAN_NUMBER, plan, lambda k, x: x > 1)]:
+                             and s != len(variables)), (COST_ROW, [is_no_cost_row], lambda k, is_wrong: is_wrong),
+                            (ROW_VARIABLE, variables, lambda k, v: v >= n), (PLAN_NUMBER, plan, lambda k, x: x > 1)]:
         place = first(of, wrong)
         if place is not None:
-            raise Stop(code, place)
+            raise Stop(code, None if code == COST_ROW else place)
 
 
 def expected(n, starts, variables, coefficients, least, most, plan, tree):
@@ -120,8 +121,11 @@ def expected(n, starts, variables, coefficients, least, most, plan, tree):
             raise Stop(SHAPE, end)
     except Stop as stop:
         return stop.args[0], None, stop.args[1]
-    assert n > 12 or not any(all(meets(x, row) for row in rows)
-                             for x in itertools.product([0, 1], repeat=n)), "a plan meets rows that are shown"
+    plans = list(itertools.product([0, 1], repeat=n)) if n <= 12 else []
+    assert not any(all(meets(x, row) for row in rows) for x in plans), "a plan meets rows that are shown"
+    if plan:
+        assert all(sum(c for v, c in rows[-1][2] if x[v]) > most[-1] for x in plans
+                   if all(meets(x, row) for row in rows[:-1])), "a plan costs less than is shown"
     return SHOWN, cost, None
 
 
@@ -197,7 +201,22 @@ def deep(splits):
                                  -2] + [number for k in reversed(range(splits)) for number in [0, 1, 4 + k, 1]]
 
 
+# x0 + x1 is at least 1, 5 x0 + 3 x1 from 9 to 4: no plan meets both, and 1 0, of cost 5, isn't the cheapest that meets
+# the first. Without a plan the last row is one like the others.
+NO_COSTS = [2, [0, 2, 4], [0, 1, 0, 1], [1, 1, 5, 3], [1, 9], [MAX, 4], [1, 0], [0, 2, 1, 1, 1, -1]]
+
+
+def no_costs(which, value):
+    return NO_COSTS[:which] + [value] + NO_COSTS[which + 1:]
+
+
 TABLE = [(TRIANGLE, (SHOWN, -1, None)), (with_list(6, []), (SHOWN, None, None)),
+         (NO_COSTS, (COST_ROW, None, None)), (no_costs(6, []), (SHOWN, None, None)),
+         (no_costs(4, [1, MIN]), (NOT_SHOWN, None, 0)), (no_costs(5, [MAX, MAX]), (COST_ROW, None, None)),
+         (with_list(5, [1, 1, 1, MAX]), (COST_ROW, None, None)),
+         (with_list(4, [MIN, MIN, MIN, -3]), (COST_ROW, None, None)),
+         (no_costs(1, [0, 2, 3]), (START, None, 2)), (no_costs(2, [0, 1, 0, 2]), (COST_ROW, None, None)),
+         (no_costs(6, [2, 0]), (COST_ROW, None, None)), (no_costs(6, [0, 0]), (COST_ROW, None, None)),
          (with_list(7, [0, 0]), (NOT_SHOWN, None, 0)),
          (with_list(7, [0, 4, 0, -1, 1, -1, 2, -1, 3, -1]), (NOT_SHOWN, None, 0)),
          (with_list(7, [0, 1, 0, 1]), (NOT_SHOWN, None, 0)), (with_list(7, [0, 1, 0, MIN]), (NOT_SHOWN, None, 0)),

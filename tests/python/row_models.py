@@ -141,6 +141,8 @@ def shows(certificate):
     if plan is not None:
         if not certificate.rows or len(plan) != certificate.variables or any(value not in (0, 1) for value in plan):
             return False
+        if certificate.rows[-1].least is not None or certificate.rows[-1].most is None:
+            return False
         if not meets(plan, certificate.rows[:-1]):
             return False
     try:

@@ -122,7 +122,15 @@ flags_of() {
     flags="-Wall -Wextra -Werror $flags"
 }
 
-# pkg_config NAME LIB WORD..: builds the worked example as C99 and as C++11, with these flags.
+# packed_examples NAME FOLDER: the examples in C are in the package, each as in c/.
+packed_examples() {
+    local each
+    for each in "$top"/c/example*.c; do
+        cmp -s "$each" "$2/$(basename "$each")" || fail "$1: $(basename "$each") isn't in its examples, or is another"
+    done
+}
+
+# pkg_config NAME LIB WORD..: builds the worked example as C99 and as C++11, and that of rows, with these flags.
 pkg_config() {
     local name=$1 lib=$2 flags
     shift 2
@@ -131,6 +139,8 @@ pkg_config() {
         && expect "$name: C99" "$example" env LD_LIBRARY_PATH="$lib" "$work/c99"
     done_by "$name: C++11" c++ -x c++ -std=c++11 "$top/c/example.c" -o "$work/cpp11" $flags \
         && expect "$name: C++11" "$example" env LD_LIBRARY_PATH="$lib" "$work/cpp11"
+    done_by "$name: rows" cc -std=c99 "$top/c/example_rows.c" -o "$work/rows" $flags \
+        && expect "$name: rows" $'cost -1, and no plan costs less than -1\nno plan' env LD_LIBRARY_PATH="$lib" "$work/rows"
     if has readelf; then
         readelf -d "$work/c99" | grep -q "libnushbaret.so.${version%%.*}\]" || fail "$name: a program doesn't want libnushbaret.so.${version%%.*}"
     fi
@@ -154,6 +164,7 @@ used() {
     shift 3
     program "$prefix/bin/auction_cli"
     cmp -s "$prefix/bin/auction_cli" "$folder/auction_cli" || fail "$name: another program"
+    packed_examples "$name" "$prefix/share/doc/nushbaret/examples"
     if ! has cc || ! has c++; then
         without 'cc or c++'
         return
@@ -341,6 +352,7 @@ windows() {
     local prefix=$work/windows built=$work/cmake-windows wine
     done_by 'zip for Windows' python3 -m zipfile -e "$folder/nushbaret-$version-windows-x86_64.zip" "$prefix" || return
     ran 'the zip for Windows'
+    packed_examples 'zip for Windows' "$prefix/share/doc/nushbaret/examples"
     wheel_for_windows "$prefix"
     if ! has x86_64-w64-mingw32-gcc || ! has cmake || ! { has make || has ninja; }; then
         without 'a compiler for Windows and CMake'

@@ -1,7 +1,8 @@
 -- What the checker sees of a plan, in the words of the verdicts.
 use Rattle.std.proofs.Common.{◌≡◌, ℕ}
 use Rattle.std.proofs.Common.{List, length, Bool, true}
-use Rattle.std.proofs.Common.{inl, inr, IsTrue, refl, sym, ◌∙◌, subst}
+use Rattle.std.proofs.Common.{inl, inr, IsTrue, refl, sym, ◌∙◌, subst, arith}
+use Rattle.std.proofs.lemmas.Int.{ints}
 use Rattle.std.specs.List.{All}
 use lib.Ieee.{Float}
 use Rattle.assign_core.specs.declared.sense.Sense.{Sense}
@@ -10,6 +11,8 @@ use Rattle.double_costs.specs.Units.{is_number, units_of}
 use Rattle.double_costs.specs.DoubleRows.{rows_of_doubles}
 use Rattle.double_costs.specs.Margins.{IsMarginOf}
 use Rattle.double_costs.proofs.DoublePairs.{doubles_within}
+use Rattle.double_costs.specs.Prices.{IsOnlyBest}
+use Rattle.double_costs.proofs.Alone.{only_best}
 use Rattle.double_costs.proofs.PricedDuality.{best_priced}
 use Rattle.double_checker.specs.inside.Outcome.{IsVerdictOrFault}
 use Rattle.double_checker.specs.Verdicts.{AreCosts, AreLong, IsVerdict, IsWithPrices, price_units}
@@ -91,4 +94,22 @@ best_of sense n m costs xs prices margin v r b persons objects o verdict best e 
       (best_priced sense (length prices) (rows_of_doubles (length prices) (length xs) costs) xs (price_units prices)
       (doubles_within (length prices) (length xs) costs) p.1))
   | inr h ↦ absurd (no_cost h.0 b (sym h.1 ∙ e))
+]
+
+pub alone_of : (sense : Sense) (n m : ℕ) (costs : List Float) (xs : List ℕ) (prices : List Float) (margin : Float)
+    (v r : Verdict) → length xs ≡ n → length prices ≡ m →
+    IsVerdictOrFault sense costs v r → (AreCosts sense costs → IsVerdict sense (length xs) (length prices)
+    costs xs prices margin v) → ((a : Bool) → v ≡ Best a → AreCosts sense costs) →
+    r ≡ Best true → IsOnlyBest sense (rows_of_doubles m n costs) xs
+alone_of sense n m costs xs prices margin v r persons objects o verdict best e = elim o [
+  | inl h ↦
+      let g : v ≡ Best true = sym h.0 ∙ e in
+      let p = subst (IsVerdict sense (length xs) (length prices) costs xs prices margin) g (verdict (best true g)) in
+      let by = p.2 refl in
+      let some = by.enough.some in
+      subst (λ (q : ℕ). IsOnlyBest sense (rows_of_doubles m q costs) xs) persons
+      (subst (λ (q : ℕ). IsOnlyBest sense (rows_of_doubles q (length xs) costs) xs) objects
+      (only_best sense (length prices) (units_of margin) (rows_of_doubles (length prices) (length xs) costs) xs
+      (price_units prices) (omega (arith, ints)) (doubles_within (length prices) (length xs) costs) p.1 by.worse))
+  | inr h ↦ absurd (no_cost h.0 true (sym h.1 ∙ e))
 ]

@@ -9,7 +9,7 @@ use lib.Pow.{pow-add, pow_pos, pow_mono}
 use lib.Ieee.{Float}
 use Rattle.double_checker.specs.declared.digits.Digits.{Digits}
 use Rattle.double_checker.specs.Far.{HasFar}
-use Rattle.double_checker.specs.inside.Sizes.{AreDigits, AreShiftedBy, low_shift, size_of}
+use Rattle.double_checker.specs.inside.Sizes.{AreDigits, low_shift, size_of}
 
 pub of_min : (P : ℕ → Type 0) (a b : ℕ) → P a → P b → P (min a b)
 of_min P a b p q = elim (cases_lt a b) [

@@ -1,7 +1,8 @@
 // The checker of plans.
-ghost use Rattle.std.specs.Prelude.{◌≡◌, ◌<◌, ◌^◌, Bool, false, All, IsTrue, length};
+ghost use Rattle.std.specs.Prelude.{◌≡◌, ◌<◌, ◌^◌, Bool, true, false, All, IsTrue, length};
 ghost use Rattle.assign_core.specs.Assignment.{IsAssignment, IsBest};
 ghost use Rattle.double_costs.specs.DoubleRows.{rows_of_doubles};
+ghost use Rattle.double_costs.specs.Prices.{IsOnlyBest};
 ghost use Rattle.double_costs.specs.Units.{is_number};
 ghost use Rattle.double_checker.specs.Verdicts.{AreCosts, AreLong, IsVerdict};
 ghost use Rattle.double_checker.specs.inside.Plans.{AreOwn, MarksJust};
@@ -111,7 +112,7 @@ fn verdict_or_fault(sense: Sense, costs: &[f64], verdict: Verdict) -> Verdict
 /// by cost less price under `Max`, and no price is below that of an unowned object. The prices may
 /// have any sign and size. All of this is decided in exact arithmetic. The lists may have any
 /// length and hold any doubles. `Best` says whether each other pair is worse by more than a margin
-/// too, which is above 0 and at least 2^-52 of the size of each cost.
+/// too, which is above 0 and at least 2^-52 of the size of each cost: then no other plan is as good.
 ///
 /// The time is linear in the costs. `owned` has a mark for each object, which may be of any value
 /// before; no other memory is taken.
@@ -129,6 +130,8 @@ pub fn check(
     ensures verdict { IsVerdict sense n m costs.now objects.now prices.now margin result }
     ensures best { (by_margin : Bool) → result ≡ Verdict.Best by_margin
         → IsBest sense (rows_of_doubles m n costs.now) objects.now }
+    ensures alone { result ≡ Verdict.Best true
+        → IsOnlyBest sense (rows_of_doubles m n costs.now) objects.now }
 {
     let (persons, width) = (n as usize, m as usize);
     if objects.len() != persons || prices.len() != width || costs.len() != persons * width {

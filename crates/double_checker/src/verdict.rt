@@ -22,7 +22,7 @@ pub enum Verdict {
     /// unowned objects have the least price.
     Best {
         /// Each other object that a person lists is worse by more than the margin, which is above 0
-        /// and at least 2^-52 of the size of each cost.
+        /// and at least 2^-52 of the size of each cost. No other plan is as good.
         by_margin: bool,
     },
 }

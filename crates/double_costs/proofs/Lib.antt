@@ -6,3 +6,5 @@ pub mod DoublePairs
 pub mod Multiples
 pub mod Moved
 pub mod Nearest
+pub mod Alone
+pub mod ExactUnits

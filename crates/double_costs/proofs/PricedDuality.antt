@@ -25,7 +25,7 @@ some_cost None s = absurd (search rules)
 some_cost (Some c) s = refl
 
 -- the sums over the rows
-weak_min : (prices : List ℤ) (rows : List Listing) (xs ys : List ℕ) → AreChoices Min prices rows xs →
+pub weak_min : (prices : List ℤ) (rows : List Listing) (xs ys : List ℕ) → AreChoices Min prices rows xs →
     AreListed rows ys →
     (total rows xs +ℤ sum_z (price_of prices) xs) ≤ℤ (total rows ys +ℤ sum_z (price_of prices) ys)
 weak_min prices [] [] [] k g = omega (arith, ints)
@@ -39,7 +39,7 @@ weak_min prices (row ∷ rows) (x ∷ xs) (y ∷ ys) k g =
     let i = weak_min prices rows xs ys k.1 g.1 in
     omega (arith, ints)
 
-weak_max : (prices : List ℤ) (rows : List Listing) (xs ys : List ℕ) → AreChoices Max prices rows xs →
+pub weak_max : (prices : List ℤ) (rows : List Listing) (xs ys : List ℕ) → AreChoices Max prices rows xs →
     AreListed rows ys →
     (total rows ys +ℤ sum_z (price_of prices) xs) ≤ℤ (total rows xs +ℤ sum_z (price_of prices) ys)
 weak_max prices [] [] [] k g = omega (arith, ints)
@@ -168,7 +168,7 @@ least_among f (suc m) = least_step f (suc m) (least_among f m)
 
 -- two lists of equally many different objects among m: if the objects outside the first have the
 -- least price, the sum of the first's prices is at least that of the second's
-least_sums : (m : ℕ) (prices : List ℤ) (xs ys : List ℕ) → IsDistinct nat_eq ys → InRange m xs → InRange m ys →
+pub least_sums : (m : ℕ) (prices : List ℤ) (xs ys : List ℕ) → IsDistinct nat_eq ys → InRange m xs → InRange m ys →
     length xs ≡ length ys → AreLeastUnowned m prices xs →
     sum_z (price_of prices) ys ≤ℤ sum_z (price_of prices) xs
 least_sums zero prices [] [] dy rx ry l low = omega (arith, ints)

@@ -5,7 +5,7 @@ use Rattle.assign_core.specs.declared.sense.Sense.{Sense}
 use Rattle.assign_core.specs.declared.sense.Sense.TheVariants.{Min, Max}
 use Rattle.assign_core.specs.Numbered.{IsNumber}
 use Rattle.assign_core.specs.Rows.{Listing, listed_in, listed_or_zero}
-use Rattle.assign_core.specs.Assignment.{IsAssignment}
+use Rattle.assign_core.specs.Assignment.{IsAssignment, total}
 use Rattle.assign_core.specs.Prices.{price_of}
 use Rattle.cost_lists.specs.Exact.{AreChoices, with_price}
 
@@ -20,6 +20,16 @@ pub record IsPricedBest (sense : Sense) (m : ℕ) (rows : List Listing) (xs : Li
   pub assigned : IsAssignment rows xs
   pub choices : AreChoices sense prices rows xs
   pub unowned : AreLeastUnowned m prices xs
+
+-- the first cost is better than the second
+abbrev pub IsBetter : Sense → ℤ → ℤ → Type 0
+IsBetter Min cost other = cost <ℤ other
+IsBetter Max cost other = other <ℤ cost
+
+-- an assignment that is better than each other one: none is as good
+pub record IsOnlyBest (sense : Sense) (rows : List Listing) (xs : List ℕ) : Type 0 where
+  pub assigned : IsAssignment rows xs
+  pub only : (ys : List ℕ) → IsAssignment rows ys → ys ≢ xs → IsBetter sense (total rows xs) (total rows ys)
 
 -- the second cost is worse than the first by more than the margin
 abbrev pub IsWorseBy : ℤ → Sense → ℤ → ℤ → Type 0

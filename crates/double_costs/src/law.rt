@@ -1,14 +1,14 @@
 // Laws on doubles as costs.
-ghost use Rattle.std.specs.Prelude.{◌≡◌, ◌+◌, ◌*◌, ◌<◌, ℕ, ℤ, pos, ◌+ℤ◌, ◌<ℤ◌, T, List, length};
+ghost use Rattle.std.specs.Prelude.{◌≡◌, ◌+◌, ◌*◌, ◌<◌, ℕ, ℤ, pos, ◌+ℤ◌, ◌≤ℤ◌, ◌<ℤ◌, T, List, length};
 ghost use Rattle.std.specs.Prelude.{All, IsTrue, slice_index_or};
 ghost use lib.Ieee.{Float, binary64, nan, add, fits, lt};
 ghost use Rattle.assign_core.specs.declared.sense.Sense.{Sense};
 ghost use Rattle.assign_core.specs.Rows.{Listing, IsWithin, listed_in, row_of};
 ghost use Rattle.assign_core.specs.Assignment.{IsBest};
-ghost use Rattle.double_costs.specs.Units.{is_number, units_of};
+ghost use Rattle.double_costs.specs.Units.{IsExactly, is_number, units_of};
 ghost use Rattle.double_costs.specs.DoubleRows.{cost_in, rows_of_doubles};
 ghost use Rattle.double_costs.specs.Margins.{AreRowsBeside, IsMarginOf, IsRoundedTo, IsWithinHalf};
-ghost use Rattle.double_costs.specs.Prices.{AreChoicesBy, IsPricedBest};
+ghost use Rattle.double_costs.specs.Prices.{AreChoicesBy, IsOnlyBest, IsPricedBest};
 
 /// An assignment with exact prices is optimal, whatever the size of the prices and their signs:
 /// weak duality with complementary slackness (Bertsekas, Network Optimization, 1998, section 7.1).
@@ -16,6 +16,15 @@ ghost use Rattle.double_costs.specs.Prices.{AreChoicesBy, IsPricedBest};
 pub fn exact_prices_mean_best()
     ensures { (sense : Sense) (m : ℕ) (rows : List Listing) (xs : List ℕ) (prices : List ℤ)
         → All (IsWithin m) rows → IsPricedBest sense m rows xs prices → IsBest sense rows xs }
+{}
+
+/// A plan that is best by a margin of 0 or more is better than each other one: none is as good.
+/// There may be more objects than persons.
+pub fn margins_leave_one_plan()
+    ensures { (sense : Sense) (m : ℕ) (margin : ℤ) (rows : List Listing) (xs : List ℕ)
+        (prices : List ℤ) → pos 0 ≤ℤ margin → All (IsWithin m) rows
+        → IsPricedBest sense m rows xs prices → AreChoicesBy margin sense prices rows xs
+        → IsOnlyBest sense rows xs }
 {}
 
 /// A plan that is best by a margin is best for all costs of the same pairs that are at most half
@@ -37,6 +46,12 @@ pub fn rounded_costs_keep_plans()
         → AreChoicesBy margin sense prices (rows_of_doubles m n costs) xs
         → AreRowsBeside (IsRoundedTo scale) (rows_of_doubles m n costs) others
         → IsBest sense others xs }
+{}
+
+/// A finite double counts as exactly the number that it is: its units of 2^-1074 are its sign, its
+/// digits and its exponent, with nothing rounded or cut off.
+pub fn doubles_are_exact()
+    ensures { (x : Float) → T (fits binary64 x) → IsTrue (is_number x) → IsExactly x (units_of x) }
 {}
 
 /// Rounding keeps the order. So where one rounded sum of two doubles is below another, the same

@@ -7,6 +7,6 @@ mod law;
 
 pub use faults::{first_fault, is_cost};
 pub use law::{
-    double_pairs, exact_prices_mean_best, margins_keep_plans, rounded_costs_keep_plans,
-    rounded_sums_tell,
+    double_pairs, doubles_are_exact, exact_prices_mean_best, margins_keep_plans,
+    margins_leave_one_plan, rounded_costs_keep_plans, rounded_sums_tell,
 };

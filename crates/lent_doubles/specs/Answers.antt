@@ -1,11 +1,11 @@
 -- Answers to problems over doubles.
-use Rattle.std.specs.Prelude.{◌≡◌, ℕ, List, Bool, true}
+use Rattle.std.specs.Prelude.{◌≡◌, ℕ, List, Bool, true, All, IsTrue}
 use lib.Ieee.{Float}
 use Rattle.assign_core.specs.declared.sense.Sense.{Sense}
 use Rattle.assign_core.specs.Assignment.{IsAssignment, IsBest}
 use Rattle.assign_core.specs.Hall.{IsHallSet}
-use Rattle.double_costs.specs.Prices.{IsPricedBest}
-use Rattle.double_costs.specs.Units.{units_of}
+use Rattle.double_costs.specs.Prices.{IsOnlyBest, IsPricedBest}
+use Rattle.double_costs.specs.Units.{is_number, units_of}
 use Rattle.double_checker.specs.Verdicts.{AreLong, IsBestByMargin, price_units}
 use Rattle.lent_doubles.specs.declared.answer.Answer.{Answer}
 use Rattle.lent_doubles.specs.declared.answer.Answer.TheVariants.{Best, Hall, Undecided}
@@ -18,11 +18,13 @@ pub record IsByMargin (g : GivenDoubles) (sense : Sense) (objects : List ℕ) (p
   pub margin : Float
   pub worse : IsBestByMargin sense (units_of margin) (rows_in g) g.costs objects (price_units prices)
 
--- an optimal plan with prices that prove it
+-- an optimal plan with prices that prove it, each a finite double; by a margin no other plan is as good
 pub record IsBestBy (g : GivenDoubles) (sense : Sense) (objects : List ℕ) (prices : List Float) (by_margin : Bool) : Type 0 where
   pub best : IsBest sense (rows_in g) objects
   pub long : AreLong g.n g.m g.costs objects prices
+  pub finite : All (λ p. IsTrue (is_number p)) prices
   pub proof : IsPricedBest sense g.m (rows_in g) objects (price_units prices)
+  pub alone : by_margin ≡ true → IsOnlyBest sense (rows_in g) objects
   pub margin : by_margin ≡ true → IsByMargin g sense objects prices
 
 -- a Hall set: there is no plan

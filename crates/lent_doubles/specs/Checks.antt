@@ -1,8 +1,9 @@
 -- What the checking call returns and records.
-use Rattle.std.specs.Prelude.{◌≡◌, ℕ, ℤ, pos, List, [], ◌∷◌, Some, length}
+use Rattle.std.specs.Prelude.{◌≡◌, ℕ, ℤ, pos, List, [], ◌∷◌, Some, true, length}
 use lib.Ieee.{Float}
 use Rattle.assign_core.specs.Assignment.{IsBest}
 use Rattle.assign_core.specs.declared.sense.Sense.{Sense}
+use Rattle.double_costs.specs.Prices.{IsOnlyBest}
 use Rattle.double_checker.specs.Verdicts.{IsVerdict}
 use Rattle.double_checker.specs.declared.verdict.Verdict.{Verdict}
 use Rattle.double_checker.specs.declared.verdict.Verdict.TheVariants.{Length, Cost, Unlisted, Twice, Price, Undecided, Best}
@@ -33,7 +34,7 @@ with_verdict (Price j) info = record info { object = j }
 with_verdict Undecided info = info
 with_verdict (Best by_margin) info = record info { by_margin = flag by_margin }
 
--- what holds at each verdict: at the best the plan is optimal
+-- what holds at each verdict: at the best the plan is optimal, and by a margin no other is as good
 abbrev pub IsProved : GivenDoubles → Sense → List ℕ → Verdict → Type 0
 IsProved g sense objects Length = Unit {0}
 IsProved g sense objects (Cost k) = Unit {0}
@@ -41,7 +42,8 @@ IsProved g sense objects (Unlisted i) = Unit {0}
 IsProved g sense objects (Twice i) = Unit {0}
 IsProved g sense objects (Price j) = Unit {0}
 IsProved g sense objects Undecided = Unit {0}
-IsProved g sense objects (Best by_margin) = IsBest sense (rows_in g) objects
+IsProved g sense objects (Best by_margin) =
+    IsBest sense (rows_in g) objects × (by_margin ≡ true → IsOnlyBest sense (rows_in g) objects)
 
 -- the verdict on a plan and prices
 pub record IsOfGiven (g : GivenDoubles) (objects : List ℕ) (prices : List Float) (verdict : Verdict) : Type 0 where

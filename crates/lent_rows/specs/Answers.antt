@@ -1,5 +1,5 @@
 -- The answers on what a caller gives.
-use Rattle.std.specs.Prelude.{◌≡◌, ℕ, ◌-◌, ◌<◌, ℤ, List, [], Option, None, Some, Bool, true, false, length}
+use Rattle.std.specs.Prelude.{◌≡◌, ℕ, ◌-◌, ◌<◌, ℤ, pos, ◌+ℤ◌, List, [], Option, None, Some, Bool, true, false, length}
 use Rattle.std.specs.Int.{w64}
 use Rattle.std.specs.Int.RustNames.{FitsSigned}
 use Rattle.row_checker.specs.declared.verdict.Verdict.{Verdict}
@@ -7,9 +7,10 @@ use Rattle.row_checker.specs.declared.verdict.Verdict.TheVariants as verdict
 use Rattle.row_checker.specs.Rows.{LinearRow, Meets, NoPlan, Plan, row_at, total}
 use Rattle.row_checker.specs.Trees.{verdict_on}
 use Rattle.lent_rows.specs.declared.answer.Answer.{Answer}
-use Rattle.lent_rows.specs.declared.answer.Answer.TheVariants.{Shown, Costs, Not, Length, Start, RowVariable, PlanNumber, Broken, Cost, Memory}
-use Rattle.lent_rows.specs.Lists.{IsFirstWrong, is_named, is_start}
-use Rattle.lent_rows.specs.Given.{AreRows, GivenRows, have_lengths, plan_of, rows_in, rows_of}
+use Rattle.lent_rows.specs.declared.answer.Answer.TheVariants.{Shown, Costs, Not, Length, Start, CostRow, RowVariable, PlanNumber, Broken, Cost, Memory}
+use Rattle.lent_rows.specs.Costs.{CostAtLeast}
+use Rattle.lent_rows.specs.Lists.{IsFirstWrong, is_named, is_start, whole_at}
+use Rattle.lent_rows.specs.Given.{AreRows, GivenRows, has_cost_row, have_lengths, plan_of, rows_in, rows_of}
 
 -- the first of so many rows that the plan doesn't meet; none if it meets each
 abbrev pub IsFirstBroken : Plan → List LinearRow → ℕ → Option ℕ → Type 0
@@ -30,6 +31,13 @@ all_rows g = rows_of g (rows_in g)
 abbrev pub cost_row : GivenRows → LinearRow
 cost_row g = row_at (all_rows g) (rows_in g - 1)
 
+-- the rows but the last, and the upper bound of the last
+abbrev pub other_rows : GivenRows → List LinearRow
+other_rows g = rows_of g (rows_in g - 1)
+
+abbrev pub cost_bound : GivenRows → ℤ
+cost_bound g = whole_at g.most (rows_in g - 1)
+
 -- the answer on a plan: the first row but the last that it doesn't meet, or its sum in the last
 abbrev pub IsPlanAnswer : GivenRows → Answer → Type 0
 IsPlanAnswer g (Broken r) = IsFirstBroken (plan_of g.plan) (all_rows g) (rows_in g - 1) (Some r)
@@ -42,7 +50,7 @@ IsPlanAnswer g answer = ⊥
 -- the answer before the tree is read: that there is no plan, or the one on the plan
 abbrev pub IsSoFar : GivenRows → Answer → Type 0
 IsSoFar g Shown = g.plan ≡ []
-IsSoFar g answer = IsPlanAnswer g answer
+IsSoFar g answer = (0 < length g.plan) × IsPlanAnswer g answer
 
 -- the plan has a fault
 abbrev pub is_fault : Answer → Bool
@@ -64,21 +72,29 @@ pub record IsShown (g : GivenRows) : Type 0 where
 abbrev pub IsReady : GivenRows → Type 0
 IsReady g = (answer : Answer) × IsSoFar g answer × (is_fault answer ≡ false)
 
--- the first of the answers that applies
+-- the first of the answers that applies. With a plan no other that meets the rows but the last costs
+-- less than the last one's upper bound and 1. Memory was refused: nothing is wrong with the lists
 abbrev pub IsAnswer : GivenRows → Answer → Type 0
 IsAnswer g Length = have_lengths g ≡ false
 IsAnswer g (Start k) =
     (have_lengths g ≡ true) × IsFirstWrong (λ i. is_start g.starts (length g.variables) i) (length g.starts) (Some k)
+IsAnswer g CostRow =
+    (have_lengths g ≡ true) × IsFirstWrong (λ i. is_start g.starts (length g.variables) i) (length g.starts) None
+    × (has_cost_row g ≡ false)
 IsAnswer g (RowVariable k) =
     (have_lengths g ≡ true) × IsFirstWrong (λ i. is_start g.starts (length g.variables) i) (length g.starts) None
+    × (has_cost_row g ≡ true)
     × IsFirstWrong (λ i. is_named g.variables g.n i) (length g.variables) (Some k)
 IsAnswer g (PlanNumber k) =
     (have_lengths g ≡ true) × IsFirstWrong (λ i. is_start g.starts (length g.variables) i) (length g.starts) None
+    × (has_cost_row g ≡ true)
     × IsFirstWrong (λ i. is_named g.variables g.n i) (length g.variables) None
     × IsFirstWrong (λ i. is_named g.plan 2 i) (length g.plan) (Some k)
-IsAnswer g (Broken r) = AreRows g × IsPlanAnswer g (Broken r)
-IsAnswer g Cost = AreRows g × IsPlanAnswer g Cost
+IsAnswer g (Broken r) = AreRows g × IsSoFar g (Broken r)
+IsAnswer g Cost = AreRows g × IsSoFar g Cost
 IsAnswer g (Not fault) = AreRows g × IsReady g × (verdict_on g.n (all_rows g) g.tree ≡ verdict.Not fault)
 IsAnswer g Shown = AreRows g × (g.plan ≡ []) × IsShown g
-IsAnswer g (Costs cost) = AreRows g × IsPlanAnswer g (Costs cost) × IsShown g
+IsAnswer g (Costs cost) =
+    AreRows g × IsSoFar g (Costs cost) × IsShown g
+    × CostAtLeast (cost_bound g +ℤ pos 1) g.n (other_rows g) (cost_row g).terms
 IsAnswer g Memory = AreRows g

@@ -3,7 +3,7 @@ use Rattle.std.specs.Prelude.{ℕ, ℤ, pos}
 use Rattle.row_checker.specs.declared.verdict.Fault.{Fault}
 use Rattle.row_checker.specs.declared.verdict.Fault.TheVariants as fault
 use Rattle.lent_rows.specs.declared.answer.Answer.{Answer}
-use Rattle.lent_rows.specs.declared.answer.Answer.TheVariants.{Shown, Costs, Not, Length, Start, RowVariable, PlanNumber, Broken, Cost, Memory}
+use Rattle.lent_rows.specs.declared.answer.Answer.TheVariants.{Shown, Costs, Not, Length, Start, CostRow, RowVariable, PlanNumber, Broken, Cost, Memory}
 
 abbrev pub code_of : Answer → ℤ
 code_of Shown = pos 0
@@ -16,6 +16,7 @@ code_of (Not (fault.Row k)) = pos 5
 code_of (Not (fault.Variable k)) = pos 6
 code_of Length = pos 7
 code_of (Start k) = pos 8
+code_of CostRow = pos 14
 code_of (RowVariable k) = pos 9
 code_of (PlanNumber k) = pos 10
 code_of (Broken r) = pos 11

@@ -1,5 +1,5 @@
 -- What a caller gives: rows, a plan or none, and a tree.
-use Rattle.std.specs.Prelude.{◌≡◌, ℕ, zero, suc, ◌+◌, ◌-◌, ◌==◌, nat_lt, ℤ, List, [], ◌∷◌, ◌++◌, Bool, true, not, ◌&&◌, ◌||◌, None, length, map}
+use Rattle.std.specs.Prelude.{◌≡◌, ℕ, zero, suc, ◌+◌, ◌-◌, ◌==◌, nat_lt, ℤ, List, [], ◌∷◌, ◌++◌, Bool, true, not, ◌&&◌, ◌||◌, None, is_none, is_some, length, map}
 use Rattle.row_checker.specs.Rows.{LinearRow, Plan}
 use Rattle.lent_rows.specs.Lists.{IsFirstWrong, bound_above, bound_below, is_named, is_start, natural_at, terms_from, whole_at}
 
@@ -24,6 +24,12 @@ have_lengths g =
     not (length g.starts == 0) && ((length g.coefficients == length g.variables) && ((length g.least == rows_in g)
     && ((length g.most == rows_in g) && ((length g.plan == 0) || ((length g.plan == g.n) && nat_lt 0 (rows_in g))))))
 
+-- with a plan the last row has an upper bound and no lower one: it bounds the plan's costs
+abbrev pub has_cost_row : GivenRows → Bool
+has_cost_row g =
+    (length g.plan == 0)
+    || (is_none (bound_below (whole_at g.least (rows_in g - 1))) && is_some (bound_above (whole_at g.most (rows_in g - 1))))
+
 -- row r, and the first rows
 abbrev pub row_of : GivenRows → ℕ → LinearRow
 row_of g r = record {
@@ -44,5 +50,6 @@ plan_of numbers = map (λ (b : ℕ). b == 1) numbers
 pub record AreRows (g : GivenRows) : Type 0 where
   pub lengths : have_lengths g ≡ true
   pub starts : IsFirstWrong (λ k. is_start g.starts (length g.variables) k) (length g.starts) None
+  pub cost_row : has_cost_row g ≡ true
   pub variables : IsFirstWrong (λ k. is_named g.variables g.n k) (length g.variables) None
   pub numbers : IsFirstWrong (λ k. is_named g.plan 2 k) (length g.plan) None

@@ -1,10 +1,10 @@
 // The answer on what a caller gives.
-ghost use Rattle.std.specs.Prelude.{◌≡◌, ◌<◌, ◌≤◌, ◌^◌, ◌-◌, [], ℕ, IfOk, MatchOption, length, map};
+ghost use Rattle.std.specs.Prelude.{◌≡◌, ◌<◌, ◌≤◌, ◌^◌, ◌-◌, [], ℕ, IfOk, IfErr, MatchOption, length, map};
 ghost use Rattle.row_checker.specs.Rows.{row_in};
 ghost use Rattle.lent_rows.specs.Given.{AreRows, plan_of, rows_in, rows_of};
 ghost use Rattle.lent_rows.specs.Answers.{IsAnswer, IsCost, IsFirstBroken, IsPlanAnswer, IsSoFar, is_fault, tree_answer};
 
-use super::given::{Given, count_rows, have_lengths};
+use super::given::{Given, count_rows, has_cost_row, have_lengths};
 use super::lists::{first_unnamed_variable, first_wrong_number, first_wrong_start};
 use super::plan::{meets, plan_of, total_in};
 use super::rows::rows_of;
@@ -16,7 +16,8 @@ use std::alloc::{AllocError, Global};
 pub enum Answer {
     /// No plan meets all rows.
     Shown,
-    /// No plan meets all rows; the given one meets all but the last, in which its sum is this.
+    /// No plan meets all rows; the given one meets all but the last, in which its sum is this. None
+    /// that meets these has a sum below the last row's bound and 1.
     Costs(i64),
     /// The tree doesn't show it.
     Not(Fault),
@@ -24,6 +25,8 @@ pub enum Answer {
     Length,
     /// The start at this place is wrong.
     Start(usize),
+    /// With a plan: the last row has a lower bound, or no upper one.
+    CostRow,
     /// The variable at this place of the rows' terms isn't there.
     RowVariable(usize),
     /// The plan's number at this place isn't 0 or 1.
@@ -45,6 +48,9 @@ fn rows_fault(given: &Given<'_>) -> Option<Answer>
     }
     if let Some(place) = first_wrong_start(given.starts, given.variables.len()) {
         return Some(Answer::Start(place));
+    }
+    if !has_cost_row(given) {
+        return Some(Answer::CostRow);
     }
     if let Some(place) = first_unnamed_variable(given.variables, given.n) {
         return Some(Answer::RowVariable(place));
@@ -132,7 +138,8 @@ fn is_fault(answer: Answer) -> bool
 // The answer, where memory isn't refused.
 #[tactic(auto, using(crate::proofs::Answering::plan_fault, crate::proofs::Answering::tree_is))]
 fn found(alloc: Global, given: &Given<'_>) -> Result<Answer, AllocError>
-    ensures { IfOk result (IsAnswer given.now) }
+    ensures answer { IfOk result (IsAnswer given.now) }
+    ensures refused { IfErr result (λ e. AreRows given.now) }
 {
     if let Some(fault) = rows_fault(given) {
         return Ok(fault);
@@ -148,8 +155,9 @@ fn found(alloc: Global, given: &Given<'_>) -> Result<Answer, AllocError>
 }
 
 /// What a caller's rows, plan and tree show: that no plan meets the rows, or the first fault.
+/// `Memory` comes only where nothing is wrong with the lists.
 pub fn answer_on(alloc: Global, given: &Given<'_>) -> Answer
-    ensures { (¬ (result ≡ Answer.Memory)) → IsAnswer given.now result }
+    ensures { IsAnswer given.now result }
 {
     match found(alloc, given) {
         Ok(answer) => answer,

@@ -1,7 +1,8 @@
 // What a caller gives.
 ghost use Rattle.std.specs.Prelude.{◌≡◌, ◌<◌, ◌^◌};
-ghost use Rattle.lent_rows.specs.Given.{GivenRows, have_lengths, rows_in};
+ghost use Rattle.lent_rows.specs.Given.{GivenRows, has_cost_row, have_lengths, rows_in};
 
+use super::lists::{bound_above, bound_below, whole_at};
 use std::marker::Model;
 
 /// Rows over variables that are 0 or 1, as compressed sparse rows, with a plan or none, and a tree.
@@ -19,7 +20,7 @@ pub struct Given<'a> {
     pub least: &'a [i64],
     /// The upper bounds; `i64::MAX` for none.
     pub most: &'a [i64],
-    /// 0 or 1 for each variable, or empty for no plan.
+    /// 0 or 1 for each variable, or empty for no plan. With a plan the last row is that of its costs.
     pub plan: &'a [u8],
     pub tree: &'a [i64],
 }
@@ -58,4 +59,14 @@ pub fn count_rows(given: &Given<'_>) -> usize
     ensures small { result < 2 ^ 63 }
 {
     given.starts.len().saturating_sub(1)
+}
+
+/// Whether with a plan the last row has an upper bound and no lower one.
+pub fn has_cost_row(given: &Given<'_>) -> bool
+    ensures { result ≡ has_cost_row given.now }
+{
+    let last = given.starts.len().saturating_sub(1).saturating_sub(1);
+    let has_least = bound_below(whole_at(given.least, last)).is_some();
+    let has_most = bound_above(whole_at(given.most, last)).is_some();
+    given.plan.is_empty() || (!has_least && has_most)
 }

@@ -39,6 +39,7 @@ fn code_of(answer: Answer) -> i32
         Answer::Not(fault) => code_of_fault(fault),
         Answer::Length => 7,
         Answer::Start(_) => 8,
+        Answer::CostRow => 14,
         Answer::RowVariable(_) => 9,
         Answer::PlanNumber(_) => 10,
         Answer::Broken(_) => 11,

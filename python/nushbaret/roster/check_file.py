@@ -20,13 +20,13 @@ def checked(path: str) -> Tuple[int, str]:
 
 
 def _claim(certificate: Certificate) -> str:
-    """What is shown. With a plan the last row bounds the cost. Costs are whole, in units of the roster's last
-    decimal."""
-    count = len(certificate.rows)
-    last = certificate.rows[-1] if certificate.rows else None
-    if certificate.plan is None or last is None or last.most is None:
+    """What is shown. With a plan the last row bounds the cost from above alone. Costs are whole, in units of the
+    roster's last decimal."""
+    count, plan = len(certificate.rows), certificate.plan
+    most = certificate.rows[-1].most if plan is not None else None
+    if plan is None or most is None:
         return f"no plan meets the {count} rows"
-    cost = sum(factor for variable, factor in last.terms if certificate.plan[variable])
-    better = cost - (last.most + 1)
+    cost = sum(factor for variable, factor in certificate.rows[-1].terms if plan[variable])
+    better = cost - (most + 1)
     rest = f"is more than {better} better" if better else "costs less"
     return f"a plan of cost {cost} meets the {count - 1} rows, and no plan that meets them {rest}"

@@ -3,7 +3,7 @@ import pathlib
 import re
 from typing import Dict, List, NamedTuple, Optional, Sequence, Union
 
-from .model import Certificate, Limits
+from .model import Certificate, Limits, bounds_costs
 
 _HEAD = "nushbaret rows 1"
 _LISTS = ("n", "starts", "variables", "coefficients", "least", "most", "plan", "tree")
@@ -53,6 +53,8 @@ def certificate_of(lists: Lists) -> Certificate:
     for row, (first, last) in enumerate(zip(starts, starts[1:])):
         terms = tuple(zip(lists.variables[first:last], lists.coefficients[first:last]))
         rows.append(Limits(lists.least[row], terms, lists.most[row]))
+    if lists.plan and not bounds_costs(rows):
+        raise CertificateFault("with a plan the last row bounds its cost: it needs an upper bound, and no lower one")
     return Certificate(lists.n, tuple(rows), tuple(lists.plan) if lists.plan else None, tuple(lists.tree))
 
 

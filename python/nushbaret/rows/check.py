@@ -2,7 +2,7 @@
 from typing import Dict, Iterator, List, NamedTuple, Optional, Sequence, Tuple
 
 from .library import shown_by_library
-from .model import Certificate, Limits, Terms
+from .model import Certificate, Limits, Terms, bounds_costs
 
 MOST_DEPTH = 1000
 
@@ -19,7 +19,8 @@ class _TreeNode(NamedTuple):
 
 
 def shows(certificate: Certificate) -> bool:
-    """Whether a certificate shows that no plan meets its rows, and its plan, where it has one, meets all but the last.
+    """Whether a certificate shows that no plan meets its rows, and its plan, where it has one, meets all but the last,
+    which bounds the costs.
     The library says so; where it isn't there, or a number is beyond 64 bits, this module does."""
     is_shown = shown_by_library(certificate)
     return shows_here(certificate) if is_shown is None else is_shown
@@ -28,7 +29,7 @@ def shows(certificate: Certificate) -> bool:
 def shows_here(certificate: Certificate) -> bool:
     """The same by this module alone."""
     plan, rows = certificate.plan, certificate.rows
-    if plan is not None and not (rows and len(plan) == certificate.variables and set(plan) <= {0, 1}
+    if plan is not None and not (bounds_costs(rows) and len(plan) == certificate.variables and set(plan) <= {0, 1}
                                  and meets(plan, rows[:-1])):
         return False
     try:

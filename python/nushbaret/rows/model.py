@@ -1,5 +1,5 @@
 """Models of 0/1 variables, rows with sentences, and costs; and what is found of one."""
-from typing import List, NamedTuple, Optional, Tuple, Union
+from typing import List, NamedTuple, Optional, Sequence, Tuple, Union
 
 # A sum of variables: each by its number, from 0, with a whole coefficient that isn't 0.
 Terms = Tuple[Tuple[int, int], ...]
@@ -77,14 +77,19 @@ def flat(proof: Proof) -> Tuple[int, ...]:
 class Certificate(NamedTuple):
     """The claim that no 0/1 plan meets all rows, with its proof as one list, in the form of `nushbaret_rows` in C.
 
-    With a plan the last row is `cost <= most`: the plan meets all rows but that one, and no plan costs less than `most
-    + 1`.
+    With a plan the last row is `cost <= most`, without a lower bound: the plan meets all rows but that one, and no plan
+    that does costs less than `most + 1`.
     """
 
     variables: int
     rows: Tuple[Limits, ...]
     plan: Optional[Tuple[int, ...]]
     tree: Tuple[int, ...]
+
+
+def bounds_costs(rows: Sequence[Limits]) -> bool:
+    """Whether the last row can be that of a plan's costs: it has an upper bound and no lower one."""
+    return bool(rows) and rows[-1].least is None and rows[-1].most is not None
 
 
 class Finding(NamedTuple):

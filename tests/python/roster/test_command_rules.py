@@ -422,6 +422,10 @@ class Plans(Files):
         most = self.read("c.txt").split("\nmost ")[1].split("\n")[0]
         self.file("d.txt", self.read("c.txt").replace(f"\nmost {most}", f"\nmost {most.rpartition(' ')[0]} 6"))
         self.expect(1, "d.txt: not shown\n", "", "--check", "d.txt")
+        self.file("e.txt", "nushbaret rows 1\nn 2\nstarts 0 2 4\nvariables 0 1 0 1\ncoefficients 1 1 5 3\nleast 1 9\n"
+                           "most - 4\nplan 1 0\ntree 0 2 1 1 1 -1\n")
+        self.expect(3, "e.txt: no certificate: with a plan the last row bounds its cost: it needs an upper bound, and "
+                    "no lower one\n", "", "--check", "e.txt")
         self.expect(3, "r.csv: no certificate: line 1: it isn't 'nushbaret rows 1'\n", "", "--check", "r.csv")
         self.rules("rest,Night > Early,", "Night per month,1,")
         self.assertEqual(self.run_words(*words, "--force")[0], 1)

@@ -21,6 +21,9 @@ TRIANGLE = Certificate(3, (Limits(None, ((0, 1), (1, 1)), 1), Limits(None, ((1, 
 # 2 x + 2 y = 1, by the sum of x and y.
 EVEN = Certificate(2, (Limits(1, ((0, 2), (1, 2)), 1),), None,
                    flat(Split(((0, 1), (1, 1)), 0, Leaf(((0, 1), (1, -2))), Leaf(((0, -1), (1, 2))))))
+# x + y >= 1 and 9 <= 5 x + 3 y <= 4: no plan meets both, and the plan 1 0 isn't the cheapest that meets the first.
+NO_COSTS = Certificate(2, (Limits(1, ((0, 1), (1, 1)), None), Limits(9, ((0, 5), (1, 3)), 4)), (1, 0),
+                       (0, 2, 1, 1, 1, -1))
 TEXT = ("nushbaret rows 1\nn 3\nstarts 0 2 4 6 9\nvariables 0 1 1 2 0 2 0 1 2\ncoefficients 1 1 1 1 1 1 -1 -1 "
         "-1\nleast - - - -\nmost 1 1 1 -2\nplan 0 1 0\ntree 0 4 0 -1 1 -1 2 -1 3 -2\n")
 
@@ -41,7 +44,9 @@ class Shown(unittest.TestCase):
         self.assertEqual((shows(certificate), shows_here(certificate)), (is_shown, is_shown))
         if is_shown:
             plans = itertools.product((0, 1), repeat=certificate.variables)
-            self.assertFalse(any(models.meets(plan, certificate.rows) for plan in plans))
+            self.assertFalse(any(models.meets(plan, certificate.rows if certificate.plan is None else
+                                              (*certificate.rows[:-1], certificate.rows[-1]._replace(least=None)))
+                                 for plan in plans))
         return is_shown
 
     def test_examples(self):
@@ -50,6 +55,17 @@ class Shown(unittest.TestCase):
         for tree in ((), EVEN.tree[:-1], EVEN.tree + (0,), EVEN.tree + EVEN.tree, (2, 0), (0, -1), (1, 0, 0, 0, 0),
                      (1, 1, 0, 2, 1, 0, 0, 0, 0)):
             self.assertFalse(self.agree(EVEN._replace(tree=tree)))
+
+    def test_cost_row(self):
+        """With a plan the last row bounds the costs from above alone; without one it is a row like the others."""
+        self.assertTrue(self.agree(NO_COSTS._replace(plan=None)))
+        unbounded = NO_COSTS._replace(rows=(NO_COSTS.rows[0], NO_COSTS.rows[-1]._replace(most=None)))
+        from_below = TRIANGLE._replace(rows=(*TRIANGLE.rows[:-1], TRIANGLE.rows[-1]._replace(least=-3)))
+        for certificate in (NO_COSTS, unbounded, from_below, NO_COSTS._replace(rows=())):
+            self.assertFalse(shows_here(certificate) or models.shows(certificate))
+            with self.assertRaisesRegex(files.CertificateFault, "with a plan the last row bounds its cost: it needs an "
+                                                                "upper bound, and no lower one"):
+                files.certificate_from(files.certificate_text(certificate))
 
     def test_drawn_trees(self):
         draw, counts = random.Random(1), [0, 0]
@@ -108,7 +124,7 @@ class Library(unittest.TestCase):
             self.assertIs(library.shown_by_library(EVEN._replace(rows=(Limits(-2**63, (), None),))), None)
 
     def test_undecided(self):
-        for code, shown in ((2, None), (13, None), (0, True), (1, False), (4, False)):
+        for code, shown in ((2, None), (13, None), (0, True), (1, False), (4, False), (14, False)):
             with mock.patch.object(library, "_rows_call", return_value=lambda *_: code):
                 self.assertIs(library.shown_by_library(EVEN), shown)
         with mock.patch.object(library, "_rows_call", return_value=None):

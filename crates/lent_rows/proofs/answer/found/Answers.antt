@@ -2,7 +2,7 @@ use Rattle.std.proofs.Common.{◌≡◌, length, ap, sym, ◌∙◌, arith}
 use Rattle.std.proofs.lemmas.List.{length-map}
 use Rattle.row_checker.specs.Rows.{row_in}
 use Rattle.lent_rows.specs.Given.{rows_in}
-use Rattle.lent_rows.proofs.Answering.{has_last, rows_long}
+use Rattle.lent_rows.proofs.Cheaper.{has_last, rows_long}
 use Rattle.lent_rows.proofs.answer.found.Goals as goal
 
 pub answer_so_far-requires-clause-count : goal.answer_so_far-requires-clause-count
