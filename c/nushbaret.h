@@ -254,8 +254,8 @@ int32_t nushbaret_check_hall(size_t n, size_t m,
    person in several blocks the least of these) less the sum of all prices bounds the cost of each assignment from below
    (under NUSHBARET_MAX its cost with the other sign): `blocks_bound`. There is no assignment if all blocks show that some
    persons list only objects of a set which is smaller than they are: nushbaret_check_hall over a block returns
-   NUSHBARET_HALL, NUSHBARET_HALL_EXTRA or NUSHBARET_HALL_COUNT exactly where its persons list no other object
-   (`closed_verdicts`, `blocks_forbid`).
+   NUSHBARET_HALL, NUSHBARET_HALL_EXTRA or NUSHBARET_HALL_COUNT only where the block's named persons list no object that
+   isn't named (`closed_verdicts`, `blocks_forbid`).
 
    nushbaret_block looks at n persons of the problem, numbered from 1 in the block, and all m objects. The block's pairs are
    given as for nushbaret_check. objects and numbers have a value for each person: its own object and its number, any
