@@ -498,7 +498,7 @@ struct nushbaret_counts_record {
    row, column_numbers and column_marks one a column; marks are 1 and 0. Of several faults a call returns the first in the
    order of its codes, but NUSHBARET_COUNTS_MEMORY may come where there are faults from NUSHBARET_COUNTS_SIZE on. What a code
    doesn't name stays as it was. The search isn't trusted: its answer is checked, and NUSHBARET_COUNTS_UNDECIDED says that
-   the checker didn't take it. Beside the lists a call takes some 30 bytes a pair, and 100 a row and a column. */
+   the checker didn't take it. A call copies 13 bytes a pair, 21 where it writes the pairs out, and takes what the search needs. */
 int32_t nushbaret_counts(uint32_t sense,
     const uint32_t *of_rows, size_t of_rows_count,
     const uint32_t *of_columns, size_t of_columns_count,
@@ -536,8 +536,8 @@ int32_t nushbaret_counts_from(uint32_t sense,
     struct nushbaret_counts_info *info);
 
 /* Checks a plan of any origin, by numbers: NUSHBARET_COUNTS_BEST says that they prove it best, and else the code is the first
-   fault. A byte other than 0 chooses its pair. The time is linear in the pairs; the memory is 8 bytes a row or 16 a column,
-   whichever is more. */
+   fault. A byte other than 0 chooses its pair. The time is linear in the pairs; the memory is the greater of 8 bytes a row
+   and 16 a column. */
 int32_t nushbaret_check_counts(uint32_t sense,
     const uint32_t *of_rows, size_t of_rows_count,
     const uint32_t *of_columns, size_t of_columns_count,
