@@ -477,6 +477,147 @@ int32_t nushbaret_rows(size_t n,
     const int64_t *tree, size_t tree_count,
     struct nushbaret_rows_info *info);
 
+/* COUNTS. Rows and columns, listed pairs of them with costs, and for each row and each column from how many to how many
+   pairs are to be chosen: row i takes row_least[i] to row_most[i] columns, and column j is taken by column_least[j] to
+   column_most[j] rows. Columns may be in groups: of one group a row takes at most one column. A plan chooses pairs so; the
+   sum of its costs is to be least, under NUSHBARET_MAX greatest. (Students and projects; hands and shifts of which one a
+   day; vehicles and tours.)
+
+   Pairs are listed by rising rows: of_rows[k] and of_columns[k], numbered from 1, at costs[k]. A pair that is listed twice is
+   chosen at most once. With of_rows_count and of_columns_count 0 and costs_count above 0 each row lists each column: costs
+   are row by row, as many as rows times columns, and the call writes the pairs out, 8 bytes each. The number of rows is
+   row_least_count, that of columns column_least_count, each from 1 to NUSHBARET_MOST_PERSONS; there are at most 2^30
+   pairs, and costs are from -10^12 to 10^12. groups has for each column its group, from 1 to the number of columns, or 0 for
+   none; groups_count 0 stands for no groups.
+
+   Numbers of rows and columns prove a plan best. With e = cost - row's number - column's number, of the cost negated under
+   NUSHBARET_MAX: each chosen pair has e <= 0 and the least e that its row lists in its group; each other pair has e >= 0, or
+   its row has chosen another column of its group; a number is above 0 only where its count is the least, and below 0 only
+   where it is the greatest.
+
+   Two kinds of shortages prove that there is no plan. Rows lack: the least counts of the marked rows come to more than the
+   greatest counts of the marked columns and, for each marked row, the groups that it lists outside of them. Columns lack:
+   the least counts of the marked columns come to more than the greatest counts of the marked rows and, for each other row,
+   the groups that it lists among the marked columns. (A column without a group is a group of its own.) */
+enum nushbaret_counts_code {
+    NUSHBARET_COUNTS_BEST = 0,           /* plan, row_numbers, column_numbers and info->total_high and total_low are written */
+    NUSHBARET_COUNTS_ROWS_LACK = 1,      /* there is no plan: row_marks and column_marks are written */
+    NUSHBARET_COUNTS_COLUMNS_LACK = 2,   /* there is no plan: row_marks and column_marks are written */
+    NUSHBARET_COUNTS_SENSE = 3,          /* the sense isn't 0 or 1 */
+    NUSHBARET_COUNTS_DENSE = 4,          /* no pairs are listed, and there isn't a cost for each row and each column */
+    NUSHBARET_COUNTS_BUFFER = 5,         /* a list that is written has the wrong length */
+    NUSHBARET_COUNTS_SIZE = 6,           /* no rows, no columns, too many of either, or too many pairs */
+    NUSHBARET_COUNTS_LENGTH = 7,         /* the lengths of the lists don't fit each other */
+    NUSHBARET_COUNTS_ROW = 8,            /* of_rows[info->place] is no row */
+    NUSHBARET_COUNTS_ORDER = 9,          /* of_rows[info->place] is below the one before */
+    NUSHBARET_COUNTS_COLUMN = 10,        /* of_columns[info->place] is no column */
+    NUSHBARET_COUNTS_GROUP = 11,         /* groups[info->place] is above the number of columns */
+    NUSHBARET_COUNTS_ROW_COUNTS = 12,    /* row_least[info->place] is above row_most[info->place] */
+    NUSHBARET_COUNTS_COLUMN_COUNTS = 13, /* the same of columns */
+    NUSHBARET_COUNTS_COST = 14,          /* costs[info->place] is out of range */
+    NUSHBARET_COUNTS_MEMORY = 15,        /* memory was refused */
+    NUSHBARET_COUNTS_STOPPED = 16,       /* the budget is spent: plan, row_numbers, column_numbers and record are written */
+    NUSHBARET_COUNTS_UNDECIDED = 17,     /* the search found nothing that the checker takes: no claim, nothing is written */
+    NUSHBARET_COUNTS_NUMBERS = 18,       /* checking: plan or numbers have the wrong length */
+    NUSHBARET_COUNTS_TWICE = 19,         /* the pair at info->place and one before it are chosen, of one row and of one column or group */
+    NUSHBARET_COUNTS_ROW_LOOSE = 20,     /* the count of row info->row is out of its range, or its number has the wrong sign */
+    NUSHBARET_COUNTS_COLUMN_LOOSE = 21,  /* the same of column info->column */
+    NUSHBARET_COUNTS_SLACK = 22,         /* the pair at info->place isn't as e asks */
+    NUSHBARET_COUNTS_MARKS = 23,         /* checking: marks have the wrong length */
+    NUSHBARET_COUNTS_ENOUGH = 24,        /* the marked ones have what they need: no shortage of this kind */
+    NUSHBARET_COUNTS_SIDE = 25           /* the side isn't NUSHBARET_COUNTS_ROWS_LACK or NUSHBARET_COUNTS_COLUMNS_LACK */
+};
+
+/* What a call on counts reports. The sum is total_high * 2^64 + total_low: where it fits 64 bits, (int64_t)total_low. */
+struct nushbaret_counts_info {
+    int64_t total_high;
+    uint64_t total_low;
+    uint64_t place;  /* the place of what the code names */
+    uint64_t row;    /* the row that it names, from 1 */
+    uint64_t column; /* the column, from 1 */
+};
+
+/* Where a search stands between two calls. All 0: it begins from nothing. state[0] = 1 and the rest 0: it begins from the
+   plan and the numbers of the columns. */
+struct nushbaret_counts_record {
+    uint64_t state[8];
+};
+
+/* Solves a problem. plan has a byte a pair, 1 for a chosen one and 0 for another; row_numbers and row_marks have a value a
+   row, column_numbers and column_marks one a column; marks are 1 and 0. Of several faults a call returns the first in the
+   order of its codes, but NUSHBARET_COUNTS_MEMORY may come where there are faults from NUSHBARET_COUNTS_SIZE on. What a code
+   doesn't name stays as it was. The search isn't trusted: its answer is checked, and NUSHBARET_COUNTS_UNDECIDED says that
+   the checker didn't take it. A call copies 13 bytes a pair, 21 where it writes the pairs out, and takes what the search needs. */
+int32_t nushbaret_counts(uint32_t sense,
+    const uint32_t *of_rows, size_t of_rows_count,
+    const uint32_t *of_columns, size_t of_columns_count,
+    const int64_t *costs, size_t costs_count,
+    const uint32_t *row_least, size_t row_least_count,
+    const uint32_t *row_most, size_t row_most_count,
+    const uint32_t *column_least, size_t column_least_count,
+    const uint32_t *column_most, size_t column_most_count,
+    const uint32_t *groups, size_t groups_count,
+    uint8_t *plan, size_t plan_count,
+    int64_t *row_numbers, size_t row_numbers_count,
+    int64_t *column_numbers, size_t column_numbers_count,
+    uint8_t *row_marks, size_t row_marks_count,
+    uint8_t *column_marks, size_t column_marks_count,
+    struct nushbaret_counts_info *info);
+
+/* The same, from what record says, with a budget in looks at pairs, 0 for none. After NUSHBARET_COUNTS_STOPPED call it again
+   with the same problem, plan, numbers and record. Whatever these hold, an answer is as good. */
+int32_t nushbaret_counts_from(uint32_t sense,
+    const uint32_t *of_rows, size_t of_rows_count,
+    const uint32_t *of_columns, size_t of_columns_count,
+    const int64_t *costs, size_t costs_count,
+    const uint32_t *row_least, size_t row_least_count,
+    const uint32_t *row_most, size_t row_most_count,
+    const uint32_t *column_least, size_t column_least_count,
+    const uint32_t *column_most, size_t column_most_count,
+    const uint32_t *groups, size_t groups_count,
+    uint8_t *plan, size_t plan_count,
+    int64_t *row_numbers, size_t row_numbers_count,
+    int64_t *column_numbers, size_t column_numbers_count,
+    uint8_t *row_marks, size_t row_marks_count,
+    uint8_t *column_marks, size_t column_marks_count,
+    uint64_t budget,
+    struct nushbaret_counts_record *record,
+    struct nushbaret_counts_info *info);
+
+/* Checks a plan of any origin, by numbers: NUSHBARET_COUNTS_BEST says that they prove it best, and else the code is the first
+   fault. A byte other than 0 chooses its pair. The time is linear in the pairs; the memory is the greater of 8 bytes a row
+   and 16 a column. */
+int32_t nushbaret_check_counts(uint32_t sense,
+    const uint32_t *of_rows, size_t of_rows_count,
+    const uint32_t *of_columns, size_t of_columns_count,
+    const int64_t *costs, size_t costs_count,
+    const uint32_t *row_least, size_t row_least_count,
+    const uint32_t *row_most, size_t row_most_count,
+    const uint32_t *column_least, size_t column_least_count,
+    const uint32_t *column_most, size_t column_most_count,
+    const uint32_t *groups, size_t groups_count,
+    const uint8_t *plan, size_t plan_count,
+    const int64_t *row_numbers, size_t row_numbers_count,
+    const int64_t *column_numbers, size_t column_numbers_count,
+    struct nushbaret_counts_info *info);
+
+/* Checks a shortage of any origin: the side is NUSHBARET_COUNTS_ROWS_LACK or NUSHBARET_COUNTS_COLUMNS_LACK, and the call
+   returns the same code where the marks are a shortage of this kind. A byte other than 0 marks its row or column. The time
+   is linear in the pairs; the memory is a byte a pair and 16 bytes a column. */
+int32_t nushbaret_check_shortage(uint32_t sense,
+    const uint32_t *of_rows, size_t of_rows_count,
+    const uint32_t *of_columns, size_t of_columns_count,
+    const int64_t *costs, size_t costs_count,
+    const uint32_t *row_least, size_t row_least_count,
+    const uint32_t *row_most, size_t row_most_count,
+    const uint32_t *column_least, size_t column_least_count,
+    const uint32_t *column_most, size_t column_most_count,
+    const uint32_t *groups, size_t groups_count,
+    uint32_t side,
+    const uint8_t *row_marks, size_t row_marks_count,
+    const uint8_t *column_marks, size_t column_marks_count,
+    struct nushbaret_counts_info *info);
+
 #ifdef __cplusplus
 }
 #endif

@@ -84,6 +84,11 @@ if [ "$("$work/example_rows" 2> /dev/null)" != $'cost -1, and no plan costs less
 fi
 run 'rows: calls' python3 "$top/tests/door/rows.py" "$top/c/out/libnushbaret.so"
 
+# The example of counts, and problems with counts against a plain program.
+run 'counts: build' cc -std=c99 -pedantic "${flags[@]}" "$top/c/example_counts.c" "$archive" -o "$work/example_counts"
+run 'counts: example' "$work/example_counts"
+run 'counts: calls' python3 "$top/tests/door/counts.py" "$top/c/out/libnushbaret.so"
+
 # Costs in doubles: each code, and drawn problems.
 run 'doubles' python3 "$top/tests/door/doubles.py" "$top/c/out/libnushbaret.so"
 

@@ -33,9 +33,9 @@ GENERATED = "docs/DEFINITIONS.md"
 # The most words of each page. The generated one and the list of changes may have any number.
 MOST_OF_PAGE = {"README.md": 1430, "SECURITY.md": 175, "bench/README.md": 1130,
                 "examples/README.md": 155,
-                "docs/ARCHITECTURE.md": 1365, "docs/CALLING.md": 585, "docs/CONTRIBUTING.md": 725,
-                "docs/DECISIONS.md": 1430, "docs/FORMATS.md": 1965, "docs/MODELLING.md": 1040, "docs/PROOFS.md": 1200,
-                "docs/PROVED.md": 3410, "docs/PYTHON.md": 1565, "docs/RATTLE.md": 335, "docs/ROSTERS.md": 1765,
+                "docs/ARCHITECTURE.md": 1385, "docs/CALLING.md": 605, "docs/CONTRIBUTING.md": 725,
+                "docs/DECISIONS.md": 1525, "docs/FORMATS.md": 1965, "docs/MODELLING.md": 1040, "docs/PROOFS.md": 1200,
+                "docs/PROVED.md": 3590, "docs/PYTHON.md": 1565, "docs/RATTLE.md": 335, "docs/ROSTERS.md": 1765,
                 "docs/RULES.md": 865, "docs/SCRIPTS.md": 720, "docs/TESTING.md": 650}
 UNCOUNTED = (GENERATED, "CHANGELOG.md")
 # The sources whose comments avoid the same words, the beginning of these comments, and code in them.

@@ -167,6 +167,7 @@ int main(void) {
     test_large();
     test_doubles();
     test_rows();
+    test_counts();
     test_threads();
     puts(failed ? "failed" : "calls: all as wanted");
     return failed;

@@ -61,5 +61,6 @@ void test_memory(void);
 void test_large(void);
 void test_doubles(void);
 void test_rows(void);
+void test_counts(void);
 void test_threads(void);
 #endif

@@ -13,12 +13,15 @@ LISTS = TOP / "crates/lent_lists/src"
 SOLVER = TOP / "crates/list_solver/src"
 ROWS = TOP / "crates/lent_rows/src/info.rt"
 DOUBLES = TOP / "crates/lent_doubles/src"
+COUNTS = TOP / "crates/lent_counts/src"
+SEARCH = TOP / "crates/count_search/src"
 HEADER = re.sub(r"/\*.*?\*/", "", (TOP / "c/nushbaret.h").read_text(), flags=re.S)
 NUMBERS = {"u8": "uint8_t", "u32": "uint32_t", "u64": "uint64_t", "usize": "size_t", "i32": "int32_t",
            "i64": "int64_t", "f64": "double",
            "Person": "uint32_t", "Object": "uint32_t", "Cost": "int64_t", "Price": "int64_t",
            "Record": "struct nushbaret_record", "Info": "struct nushbaret_info",
-           "RowsInfo": "struct nushbaret_rows_info", "DoublesInfo": "struct nushbaret_doubles_info"}
+           "RowsInfo": "struct nushbaret_rows_info", "DoublesInfo": "struct nushbaret_doubles_info",
+           "CountsInfo": "struct nushbaret_counts_info", "CountsRecord": "struct nushbaret_counts_record"}
 # What a code's variant is called in the header, where that isn't its own name.
 CALLED = {"Verdict::Length": "ANSWER_LENGTH", "Verdict::PriceRange": "PRICE_RANGE", "HallVerdict::Range": "HALL_RANGE",
           "HallVerdict::Order": "HALL_ORDER", "HallVerdict::Missing": "HALL_MISSING",
@@ -76,6 +79,19 @@ def row_codes():
         yield "SHOWN" if variant == "Costs" else called.get(variant, variant.upper()), int(number)
 
 
+def count_codes():
+    """The codes of counts: those that `Yes` has are two ends."""
+    called = {"RowsLack": "ROWS_LACK", "ColumnsLack": "COLUMNS_LACK", "RowCounts": "ROW_COUNTS", "ColumnCounts": "COLUMN_COUNTS",
+              "CountVerdict::Length": "NUMBERS", "CountVerdict::Row": "ROW_LOOSE", "CountVerdict::Column": "COLUMN_LOOSE",
+              "CountVerdict::Pair": "SLACK", "ShortageVerdict::Length": "MARKS"}
+    for file in ["end.rt", "checking.rt"]:
+        named = r"(\w+)::(\w+)(?:\([^)]*\))? => (?:\{[^}]*?\n\s*)?(\d+)[,\n]"
+        for kind, variant, number in re.findall(named, (COUNTS / file).read_text()):
+            if variant != "Yes" and kind != "Side":
+                yield called.get(f"{kind}::{variant}", called.get(variant, variant.upper())), int(number)
+    yield "SIDE", int(re.search(r"return (\d+);", (COUNTS / "checking.rt").read_text())[1])
+
+
 def double_codes():
     """The codes of calls over doubles: most of them are those of other calls."""
     called = {"Verdict::Price": "PRICE_RANGE"}
@@ -101,7 +117,7 @@ calls, declared = dict(crate_calls()), dict(header_calls())
 compare("calls", sorted(declared), sorted(calls))
 for name in sorted(calls.keys() & declared.keys()):
     compare(name, declared[name], calls[name])
-compare("codes", dict(sorted((name, int(code)) for name, code in re.findall(r"NUSHBARET_(?!ROWS_)(\w+) = (\d+)",
+compare("codes", dict(sorted((name, int(code)) for name, code in re.findall(r"NUSHBARET_(?!ROWS_|COUNTS_)(\w+) = (\d+)",
                                                                             HEADER))),
         dict(sorted({**dict(crate_codes()), **dict(double_codes())}.items())))
 compare("codes over doubles", {name: code for name, code in crate_codes() if name in dict(double_codes())},
@@ -109,6 +125,12 @@ compare("codes over doubles", {name: code for name, code in crate_codes() if nam
 compare("codes of rows", dict(sorted((name, int(code))
                                      for name, code in re.findall(r"NUSHBARET_ROWS_(\w+) = (\d+)", HEADER))),
         dict(sorted(row_codes())))
+compare("codes of counts", dict(sorted((name, int(code))
+                                       for name, code in re.findall(r"NUSHBARET_COUNTS_(\w+) = (\d+)", HEADER))),
+        dict(sorted(count_codes())))
+compare("nushbaret_counts_info", fields("nushbaret_counts_info"), crate_fields(COUNTS / "info.rt", "CountsInfo"))
+compare("nushbaret_counts_record", "uint64_t state[8]",
+        f"uint64_t state[{len(crate_fields(SEARCH / 'record.rt', 'Record'))}]")
 compare("nushbaret_rows_info", fields("nushbaret_rows_info"), crate_fields(ROWS, "RowsInfo"))
 compare("nushbaret_doubles_info", fields("nushbaret_doubles_info"), crate_fields(DOUBLES / "info.rt", "DoublesInfo"))
 compare("nushbaret_record", fields("nushbaret_record"), crate_fields(SOLVER / "record.rt", "Record"))

@@ -122,7 +122,7 @@ module _ (l : CountLists) (lists : AreCountLists l) where
       all_chosen : (P : Triple → Type 0) → ((t : Triple) → Contains (chosen (problem_in l).pairs plan) t → P t) → All P (chosen (problem_in l).pairs plan)
       all_chosen P h k d lt = h (get_or (chosen (problem_in l).pairs plan) k d) (k, lt, get_or_default (chosen (problem_in l).pairs plan) k (get_or (chosen (problem_in l).pairs plan) k d) d lt)
 
-    -- such a plan and numbers have no fault
+    -- a plan with numbers that prove it has no fault
     pub none_double : IsPlan (problem_in l) plan → (k : ℕ) → k < length l.rows.now → IsDouble l plan k → ⊥
     none_double is k lt d =
         let less = d.less in

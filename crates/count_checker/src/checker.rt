@@ -141,8 +141,8 @@ fn are_long(
 /// and a number is above 0 only where its count is the least, and below 0 only where it is the greatest
 /// (complementary slackness for the transportation problem: Bertsekas and Castañon, Annals of
 /// Operations Research 20, 1989). The marks and the numbers may be of any length and hold anything. The
-/// time is linear in the pairs, rows and columns; the memory is 8 bytes a row or 16 bytes a column,
-/// whichever is more.
+/// time is linear in the pairs, rows and columns; the memory is the greater of 8 bytes a row and 16 bytes a
+/// column.
 ///
 /// # Errors
 /// `AllocError` if memory is refused. None is taken for lists of wrong lengths.

@@ -6,7 +6,7 @@ ghost use Rattle.count_checker.specs.CountSets.{ColumnsLack, RowsLack};
 ghost use Rattle.count_checker.specs.CountFaults.{CountVerdictsDiffer};
 ghost use Rattle.count_checker.specs.Shortages.{ShortageVerdictsDiffer};
 
-/// No plan that keeps counts and groups is better than one with such numbers of rows and columns: weak
+/// No plan that keeps counts and groups is better than one with these numbers of rows and columns: weak
 /// duality with complementary slackness (Bertsekas and Castañon, Annals of Operations Research 20,
 /// 1989).
 pub fn count_prices_mean_best()

@@ -4,6 +4,7 @@
 
 mod blocks;
 mod check;
+mod counts;
 mod dense;
 mod doubles;
 mod rows;
@@ -12,6 +13,9 @@ mod version;
 
 pub use blocks::nushbaret_block;
 pub use check::{nushbaret_check, nushbaret_check_hall};
+pub use counts::{
+    nushbaret_check_counts, nushbaret_check_shortage, nushbaret_counts, nushbaret_counts_from,
+};
 pub use dense::{nushbaret_dense, nushbaret_dense_from};
 pub use doubles::{nushbaret_check_doubles, nushbaret_doubles, nushbaret_doubles_from};
 pub use rows::nushbaret_rows;

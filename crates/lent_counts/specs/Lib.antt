@@ -1,0 +1,6 @@
+pub mod Given
+pub mod Lists
+pub mod Sums
+pub mod Answers
+pub mod Ends
+pub mod Checks

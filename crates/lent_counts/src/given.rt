@@ -1,0 +1,72 @@
+// What a caller gives.
+ghost use Rattle.std.specs.Prelude.{◌≡◌, ◌↔◌, ◌*◌, IsTrue, length};
+ghost use Rattle.cost_lists.specs.ListedCosts.{IsCount};
+ghost use Rattle.lent_counts.specs.Given.{GivenCounts, IsDense, is_dense};
+
+use cost_lists::GREATEST_NUMBER;
+use std::marker::Model;
+
+/// A problem with counts and groups: its pairs by rising rows, or, where there are costs but no rows and
+/// columns of pairs, a cost for each row and each column, row by row. None of it has been checked.
+#[derive(Drop)]
+pub struct Given<'a> {
+    pub sense: u32,
+    /// The rows of the listed pairs, numbered from 1.
+    pub rows: &'a [u32],
+    /// Their columns, numbered from 1.
+    pub columns: &'a [u32],
+    pub costs: &'a [i64],
+    pub row_least: &'a [u32],
+    pub row_most: &'a [u32],
+    pub column_least: &'a [u32],
+    pub column_most: &'a [u32],
+    /// For each column its group, or 0 for none; empty for no groups.
+    pub groups: &'a [u32],
+}
+
+impl<'a> Model for Given<'a> {
+    ghost Value = { GivenCounts };
+
+    ghost view = { λ g. record {
+      sense = g.sense;
+      rows = g.rows.now;
+      columns = g.columns.now;
+      costs = g.costs.now;
+      row_least = g.row_least.now;
+      row_most = g.row_most.now;
+      column_least = g.column_least.now;
+      column_most = g.column_most.now;
+      groups = g.groups.now;
+    } };
+}
+
+/// Whether there is a cost for each row and each column in place of listed pairs.
+pub fn is_dense(given: &Given<'_>) -> bool
+    ensures { result ≡ is_dense given.now }
+{
+    given.rows.is_empty() && given.columns.is_empty() && !given.costs.is_empty()
+}
+
+// Whether a problem may have this many rows, or columns.
+fn is_count(n: usize) -> bool
+    ensures { IsTrue result ↔ IsCount n }
+{
+    0 < n && n <= GREATEST_NUMBER as usize
+}
+
+// The number of pairs of this many rows and columns.
+pub fn pairs_of(n: usize, m: usize) -> usize
+    requires rows { IsCount n }
+    requires columns { IsCount m }
+    ensures { result ≡ n * m }
+{
+    n * m
+}
+
+/// Whether there is a cost for each row and each column, of which there are few enough.
+pub fn has_dense(given: &Given<'_>) -> bool
+    ensures { IsTrue result ↔ IsDense given.now }
+{
+    let (n, m) = (given.row_least.len(), given.column_least.len());
+    is_count(n) && is_count(m) && given.costs.len() == pairs_of(n, m)
+}

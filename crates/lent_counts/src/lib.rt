@@ -1,0 +1,20 @@
+//! Problems with counts and groups that a caller in C lends: the lists are checked, the search is
+//! called, what it finds is checked, and an answer is written into the buffers. A code says which answer.
+#![tactic(auto)]
+
+mod checking;
+mod end;
+mod fault;
+mod given;
+mod info;
+mod judge;
+mod prepare;
+mod search;
+mod solving;
+mod written;
+
+pub use checking::{check_given, check_shortage_given};
+pub use fault::Fault;
+pub use given::Given;
+pub use info::CountsInfo;
+pub use solving::solve;

@@ -1,0 +1,73 @@
+// Lists in the form that the search reads. Nothing here is trusted: the checkers judge what it finds.
+use assign_core::{Cost, Sense};
+use count_checker::CountLists;
+use std::alloc::{AllocError, Global};
+
+/// Where the pairs of each row begin, the columns from 0, and the costs as ones to minimise.
+#[derive(Drop)]
+pub struct Prepared {
+    pub starts: Vec<usize>,
+    pub columns: Vec<u32>,
+    pub costs: Vec<Cost>,
+}
+
+// Counts the pairs of each row, at its number.
+fn count_rows(starts: &mut [usize], rows: &[u32]) {
+    for row in rows {
+        if let Some(start) = starts.get_mut(*row as usize) {
+            *start = start.wrapping_add(1);
+        }
+    }
+}
+
+// Adds to each number all before it.
+fn add_up(starts: &mut [usize]) {
+    let mut sum = 0usize;
+    for start in starts {
+        sum = sum.wrapping_add(*start);
+        *start = sum;
+    }
+}
+
+// Where the pairs of each row begin.
+fn starts_of(alloc: Global, lists: CountLists<'_>) -> Result<Vec<usize>, AllocError> {
+    let mut starts = vec![in alloc; 0usize; lists.row_least.len().saturating_add(1)]?;
+    count_rows(starts.as_mut_slice(), lists.rows);
+    add_up(starts.as_mut_slice());
+    Ok(starts)
+}
+
+// The columns from 0.
+fn columns_of(alloc: Global, lists: CountLists<'_>) -> Result<Vec<u32>, AllocError> {
+    let mut columns = Vec::with_capacity(alloc, lists.columns.len())?;
+    for column in lists.columns {
+        columns.push(column.saturating_sub(1))?;
+    }
+    Ok(columns)
+}
+
+// The costs as ones to minimise.
+fn costs_of(alloc: Global, lists: CountLists<'_>) -> Result<Vec<Cost>, AllocError> {
+    let mut costs = Vec::with_capacity(alloc, lists.costs.len())?;
+    for cost in lists.costs {
+        let turned = match lists.sense {
+            Sense::Min => *cost,
+            Sense::Max => cost.wrapping_neg(),
+        };
+        costs.push(turned)?;
+    }
+    Ok(costs)
+}
+
+impl Prepared {
+    pub fn of(alloc: Global, lists: CountLists<'_>) -> Result<Prepared, AllocError> {
+        let starts = starts_of(alloc, lists)?;
+        let columns = columns_of(alloc, lists)?;
+        let costs = costs_of(alloc, lists)?;
+        Ok(Prepared {
+            starts,
+            columns,
+            costs,
+        })
+    }
+}
