@@ -1,0 +1,327 @@
+// Bids of rows and of the dummy row.
+use super::auction::Auction;
+use super::offers::{NO_PLACE, Offer, Two, select, two_best, two_best_open, value_at};
+use super::problem::{Problem, Row};
+use super::slots::Slot;
+use super::state::State;
+use super::values::{FAR, add_count, count_at, price_at, set_count, set_price};
+use sparse_search::{NOBODY, place_at};
+use std::alloc::AllocError;
+
+// Values from here on are out of reach.
+const OUT_OF_REACH: i64 = 1 << 60;
+
+// The two best of the pairs whose groups the row doesn't take.
+fn two_best_grouped(state: &mut State, row: Row<'_>, scale: i64) -> Two {
+    let stamp = state.next_stamp();
+    state.mark_taken(row, NOBODY, stamp);
+    let mut two = Two::none();
+    for (place, (column, cost)) in row.columns.iter().zip(row.costs).enumerate() {
+        if !state.is_marked(*column, stamp) {
+            two = two.with(
+                place,
+                value_at(*column, *cost, state.prices.as_slice(), scale),
+            );
+        }
+    }
+    two
+}
+
+impl Auction {
+    #[inline(always)]
+    fn two_of(&mut self, state: &mut State, row: Row<'_>, held: u32) -> Two {
+        let scale = self.terms.scale;
+        if held == 0 {
+            two_best(row, state.prices.as_slice(), scale)
+        } else if state.is_grouped {
+            two_best_grouped(state, row, scale)
+        } else {
+            two_best_open(row, state.chosen(row), state.prices.as_slice(), scale)
+        }
+    }
+
+    // One hand of a row bids.
+    #[inline(always)]
+    fn bid_once(
+        &mut self,
+        problem: &Problem<'_>,
+        state: &mut State,
+        row: u32,
+    ) -> Result<(), AllocError> {
+        let pairs = problem.row(row);
+        self.bids = self.bids.wrapping_add(1);
+        self.looks.add(pairs.columns.len());
+        let mut two = self.two_of(state, pairs, state.held_of(row));
+        let outside = state.outside();
+        if self.room_outside(state, row) > 0 {
+            two = two.with(pairs.columns.len(), state.price(outside));
+        }
+        if two.place == NO_PLACE || two.best >= OUT_OF_REACH {
+            self.is_failed = true;
+            return Ok(());
+        }
+        let (column, pair) = match pairs.columns.get(two.place) {
+            Some(column) => (
+                *column as usize,
+                place_at(pairs.first.wrapping_add(two.place)),
+            ),
+            None => (outside, NOBODY),
+        };
+        let raise = self.capped(two.best, two.second).wrapping_sub(two.best);
+        let level = state
+            .price(column)
+            .wrapping_add(raise)
+            .wrapping_add(self.terms.slackness);
+        self.take(state, column, Slot { level, row, pair })
+    }
+
+    // All pairs that the row may take, for many hands.
+    fn offer_open(&mut self, state: &State, row: Row<'_>) -> Result<(), AllocError> {
+        let scale = self.terms.scale;
+        let pairs = row.columns.iter().zip(row.costs).zip(state.chosen(row));
+        for (k, ((column, cost), byte)) in pairs.enumerate() {
+            if *byte == 0 {
+                self.offers.push(Offer {
+                    value: value_at(*column, *cost, state.prices.as_slice(), scale),
+                    next: FAR,
+                    pair: place_at(row.first.wrapping_add(k)),
+                })?;
+            }
+        }
+        Ok(())
+    }
+
+    // The best pair of each group that the row doesn't take.
+    fn offer_grouped(&mut self, state: &mut State, row: Row<'_>) -> Result<(), AllocError> {
+        let scale = self.terms.scale;
+        let taken = state.next_stamp();
+        let seen = state.next_stamp();
+        state.mark_taken(row, NOBODY, taken);
+        for (k, (column, cost)) in row.columns.iter().zip(row.costs).enumerate() {
+            if !state.is_marked(*column, taken) {
+                let offer = Offer {
+                    value: value_at(*column, *cost, state.prices.as_slice(), scale),
+                    next: FAR,
+                    pair: place_at(row.first.wrapping_add(k)),
+                };
+                let key = state.key(*column);
+                self.add_offer(offer, key, state.mark(*column, seen))?;
+            }
+        }
+        Ok(())
+    }
+
+    // One more pair of a group.
+    #[inline(always)]
+    fn add_offer(&mut self, offer: Offer, key: usize, is_new: bool) -> Result<(), AllocError> {
+        if is_new {
+            set_count(self.places.as_mut_slice(), key, place_at(self.offers.len()));
+            return Ok(self.offers.push(offer)?);
+        }
+        let place = count_at(self.places.as_slice(), key) as usize;
+        if place < self.offers.len() {
+            let old = self.offers[place];
+            self.offers[place] = if offer.value < old.value {
+                Offer {
+                    next: old.value,
+                    ..offer
+                }
+            } else {
+                Offer {
+                    next: old.next.min(offer.value),
+                    ..old
+                }
+            };
+        }
+        Ok(())
+    }
+
+    fn offer_outside(&mut self, state: &State, row: u32, hands: u32) -> Result<(), AllocError> {
+        let room = self.room_outside(state, row).min(hands.saturating_add(1));
+        let price = state.price(state.outside());
+        for _hand in 0..room {
+            self.offers.push(Offer {
+                value: price,
+                next: FAR,
+                pair: NOBODY,
+            })?;
+        }
+        Ok(())
+    }
+
+    // All free hands of a row bid at once, each up to the best that none of them takes.
+    fn bid_hands(
+        &mut self,
+        problem: &Problem<'_>,
+        state: &mut State,
+        row: u32,
+    ) -> Result<(), AllocError> {
+        let pairs = problem.row(row);
+        let hands = self.hands_of(row);
+        self.bids = self.bids.wrapping_add(u64::from(hands));
+        self.looks.add(pairs.columns.len());
+        self.offers.clear();
+        if state.is_grouped {
+            self.offer_grouped(state, pairs)?;
+        } else {
+            self.offer_open(state, pairs)?;
+        }
+        self.offer_outside(state, row, hands)?;
+        if self.offers.len() < hands as usize {
+            self.is_failed = true;
+            return Ok(());
+        }
+        select(self.offers.as_mut_slice(), hands as usize);
+        let left = match self.offers.get(hands as usize) {
+            Some(offer) => offer.value,
+            None => FAR,
+        };
+        self.take_offers(problem, state, row, left)
+    }
+
+    fn take_offers(
+        &mut self,
+        problem: &Problem<'_>,
+        state: &mut State,
+        row: u32,
+        left: i64,
+    ) -> Result<(), AllocError> {
+        for turn in 0..self.hands_of(row) as usize {
+            let Some(offer) = self.offers.get(turn).copied() else {
+                return Ok(());
+            };
+            if self.is_failed || offer.value >= OUT_OF_REACH {
+                self.is_failed = true;
+                return Ok(());
+            }
+            self.take_offer(problem, state, row, offer, left)?;
+        }
+        Ok(())
+    }
+
+    fn take_offer(
+        &mut self,
+        problem: &Problem<'_>,
+        state: &mut State,
+        row: u32,
+        offer: Offer,
+        left: i64,
+    ) -> Result<(), AllocError> {
+        let most = self.capped(offer.value, offer.next.min(left));
+        let pair = offer.pair;
+        if pair != NOBODY {
+            let column = problem.column(pair);
+            let raise = most.wrapping_sub(offer.value);
+            let level = state
+                .price(column)
+                .wrapping_add(raise)
+                .wrapping_add(self.terms.slackness);
+            return self.take(state, column, Slot { level, row, pair });
+        }
+        let level = most.wrapping_add(self.terms.slackness);
+        if state.price(state.outside()) < level {
+            self.take(state, state.outside(), Slot { level, row, pair })?;
+        }
+        Ok(())
+    }
+
+    /// All free hands of a row bid.
+    pub fn bid_row(
+        &mut self,
+        problem: &Problem<'_>,
+        state: &mut State,
+        row: u32,
+    ) -> Result<(), AllocError> {
+        for _turn in self.bids..=self.terms.budget {
+            let hands = self.hands_of(row);
+            if hands == 0 || self.is_failed {
+                return Ok(());
+            }
+            if hands > 1 {
+                self.bid_hands(problem, state, row)?;
+            } else {
+                self.bid_once(problem, state, row)?;
+            }
+        }
+        Ok(())
+    }
+
+    /// The dummy row bids until it holds as many slots as it wants.
+    pub fn bid_dummy(&mut self, state: &mut State) {
+        for _turn in self.bids..=self.terms.budget {
+            if self.dummy_hands == 0 || self.is_failed {
+                return;
+            }
+            self.bids = self.bids.wrapping_add(1);
+            let (column, best) = self.tournament.best();
+            if best >= OUT_OF_REACH {
+                self.is_failed = true;
+                return;
+            }
+            let second = self.tournament.runner_up(column);
+            let level = self.capped(best, second).wrapping_add(self.terms.slackness);
+            self.take_cheaper(state, column, level);
+        }
+    }
+
+    // The dummy row takes as many slots of a column as are cheaper than the level.
+    fn take_cheaper(&mut self, state: &mut State, column: usize, level: i64) {
+        for _slot in 0..u64::from(count_at(self.dummy_most.as_slice(), column)).saturating_add(2) {
+            let held = count_at(self.dummy_held.as_slice(), column);
+            let is_open = held < count_at(self.dummy_most.as_slice(), column);
+            let is_cheaper = state.price(column) < level;
+            if self.dummy_hands == 0 || !is_open || !is_cheaper || self.is_failed {
+                return;
+            }
+            if held > 0 && price_at(self.dummy_levels.as_slice(), column) < level {
+                set_price(self.dummy_levels.as_mut_slice(), column, level);
+            }
+            self.take_for_dummy(state, column, level);
+            self.reprice(state, column);
+        }
+    }
+
+    // Free slots, or the lowest one that a row holds, if they are cheaper than the level.
+    fn take_for_dummy(&mut self, state: &mut State, column: usize, level: i64) {
+        let lowest = match self.slots.get(column) {
+            Some(slots) => slots.first(),
+            None => None,
+        };
+        let held = match lowest {
+            Some(slot) => slot.level,
+            None => FAR,
+        };
+        let free = count_at(self.free.as_slice(), column);
+        let first = price_at(self.first_prices.as_slice(), column);
+        if free > 0 && first < level && first <= held {
+            self.take_free(column, free);
+        } else if held < level {
+            self.put_out_lowest(state, column);
+        } else {
+            return;
+        }
+        set_price(self.dummy_levels.as_mut_slice(), column, level);
+    }
+
+    fn take_free(&mut self, column: usize, free: u32) {
+        let held = count_at(self.dummy_held.as_slice(), column);
+        let room = count_at(self.dummy_most.as_slice(), column).saturating_sub(held);
+        let hands = (self.dummy_hands.min(0xffff_ffff) & 0xffff_ffff) as u32;
+        let taken = free.min(room).min(hands);
+        add_count(self.free.as_mut_slice(), column, taken.wrapping_neg());
+        add_count(self.dummy_held.as_mut_slice(), column, taken);
+        self.dummy_hands = self.dummy_hands.saturating_sub(u64::from(taken));
+    }
+
+    fn put_out_lowest(&mut self, state: &mut State, column: usize) {
+        let lost = match self.slots.get_mut(column) {
+            Some(slots) => slots.pop(),
+            None => None,
+        };
+        if let Some(lost) = lost {
+            add_count(self.dummy_held.as_mut_slice(), column, 1);
+            self.dummy_hands = self.dummy_hands.saturating_sub(1);
+            self.put_out(state, column, lost);
+        }
+    }
+}

@@ -1,0 +1,30 @@
+//! Best plans of counts: rows take columns, each from so many to so many. An untrusted search by an
+//! auction with similar slots (Bertsekas and Castañon, Annals of Operations Research 20, 1989) and exact
+//! repair by shortest paths. Sums wrap, and a checker decides about what it finds.
+#![tactic(auto)]
+
+mod answers;
+mod auction;
+mod bids;
+mod calls;
+mod cut;
+mod edges;
+mod layout;
+mod numbers;
+mod offers;
+mod phases;
+mod problem;
+mod queue;
+mod record;
+mod repair;
+mod resume;
+mod shortage;
+mod slots;
+mod state;
+mod tournament;
+mod transposed;
+mod values;
+
+pub use calls::{Answer, Found, search};
+pub use problem::Problem;
+pub use record::Record;

@@ -1,0 +1,83 @@
+// Row numbers and column numbers: the duals of a plan at exact prices.
+use super::answers::{Range, range_of};
+use super::problem::Problem;
+use super::state::State;
+use super::values::{add_count, count_at, set_price};
+use sparse_search::place_at;
+use std::alloc::{AllocError, Global};
+
+/// A number a row and a number a column.
+#[derive(Drop)]
+pub struct Numbers {
+    pub rows: Vec<i64>,
+    pub columns: Vec<i64>,
+}
+
+// How many rows take each column.
+fn taken_of(alloc: Global, problem: &Problem<'_>, plan: &[u8]) -> Result<Vec<u32>, AllocError> {
+    let mut taken = vec![in alloc; 0u32; problem.column_count()]?;
+    for (column, byte) in problem.columns.iter().zip(plan) {
+        if *byte != 0 {
+            add_count(taken.as_mut_slice(), *column as usize, 1);
+        }
+    }
+    Ok(taken)
+}
+
+// A greatest count that was cut to the pairs listed binds without a number.
+fn column_number(state: &State, column: usize, taken: u32, most: u32) -> i64 {
+    let number = state
+        .price(state.outside())
+        .wrapping_sub(state.price(column));
+    if number < 0 && taken < most {
+        0
+    } else {
+        number
+    }
+}
+
+// By the bounds that were given, and what is left of costs without the columns' numbers.
+fn row_number(problem: &Problem<'_>, state: &State, place: u32, rests: Range) -> i64 {
+    let count = state.held_of(place);
+    let is_least = count <= count_at(problem.row_least, place as usize);
+    let is_most = count >= count_at(problem.row_most, place as usize);
+    match (is_least, is_most) {
+        (true, true) if count > 0 => rests.held,
+        (true, true) if rests.open < i64::MAX => rests.open,
+        (true, true) => 0,
+        (true, false) => rests.held.max(0),
+        (false, true) => rests.open.min(0),
+        (false, false) => 0,
+    }
+}
+
+impl Numbers {
+    /// The numbers of a plan at exact prices, for which these are left.
+    pub fn of(
+        alloc: Global,
+        problem: &Problem<'_>,
+        state: &mut State,
+    ) -> Result<Numbers, AllocError> {
+        let taken = taken_of(alloc, problem, state.plan.as_slice())?;
+        let mut numbers = Numbers {
+            rows: vec![in alloc; 0i64; problem.row_count()]?,
+            columns: vec![in alloc; 0i64; problem.column_count()]?,
+        };
+        for (column, count) in taken.iter().enumerate() {
+            let most = count_at(problem.column_most, column);
+            let number = column_number(state, column, *count, most);
+            set_price(numbers.columns.as_mut_slice(), column, number);
+        }
+        state.take_numbers(numbers.columns.as_slice());
+        numbers.set_rows(problem, state);
+        Ok(numbers)
+    }
+
+    fn set_rows(&mut self, problem: &Problem<'_>, state: &mut State) {
+        for row in 0..place_at(problem.row_count()) {
+            let rests = range_of(state, problem.row(row));
+            let number = row_number(problem, state, row, rests);
+            set_price(self.rows.as_mut_slice(), row as usize, number);
+        }
+    }
+}

@@ -1,0 +1,138 @@
+// What a row is offered: values of pairs, cost and price, of which less is better.
+use super::problem::Row;
+use super::values::{FAR, price_at};
+
+/// A pair's value, or that of staying out.
+#[derive(Clone, Copy)]
+pub struct Offer {
+    pub value: i64,
+    /// The next best value in the pair's group, `FAR` if there is none.
+    pub next: i64,
+    /// The place of the pair among all; `NOBODY` for staying out.
+    pub pair: u32,
+}
+
+/// The best pair of a row, by its place in it, and the two least values.
+#[derive(Clone, Copy)]
+pub struct Two {
+    pub place: usize,
+    pub best: i64,
+    pub second: i64,
+}
+
+/// The place of no pair.
+pub const NO_PLACE: usize = usize::MAX;
+
+impl Two {
+    pub fn none() -> Two {
+        Two {
+            place: NO_PLACE,
+            best: FAR,
+            second: FAR,
+        }
+    }
+
+    #[inline(always)]
+    pub fn with(self, place: usize, value: i64) -> Two {
+        if value >= self.second {
+            self
+        } else if value < self.best {
+            Two {
+                place,
+                best: value,
+                second: self.best,
+            }
+        } else {
+            Two {
+                second: value,
+                ..self
+            }
+        }
+    }
+}
+
+#[inline(always)]
+pub fn value_at(column: u32, cost: i64, prices: &[i64], scale: i64) -> i64 {
+    cost.wrapping_mul(scale)
+        .wrapping_add(price_at(prices, column as usize))
+}
+
+/// The two best of a row's pairs.
+#[inline(always)]
+pub fn two_best(row: Row<'_>, prices: &[i64], scale: i64) -> Two {
+    let mut two = Two::none();
+    for (place, (column, cost)) in row.columns.iter().zip(row.costs).enumerate() {
+        two = two.with(place, value_at(*column, *cost, prices, scale));
+    }
+    two
+}
+
+/// The two best of the pairs that aren't chosen.
+#[inline(always)]
+pub fn two_best_open(row: Row<'_>, chosen: &[u8], prices: &[i64], scale: i64) -> Two {
+    let mut two = Two::none();
+    let pairs = row.columns.iter().zip(row.costs).zip(chosen);
+    for (place, ((column, cost), byte)) in pairs.enumerate() {
+        if *byte == 0 {
+            two = two.with(place, value_at(*column, *cost, prices, scale));
+        }
+    }
+    two
+}
+
+// The offers below this value come first, or those up to it. Returns how many they are.
+fn split(offers: &mut [Offer], pivot: i64, is_up_to: bool) -> usize {
+    let mut count = 0usize;
+    for k in 0..offers.len() {
+        let value = offers[k].value;
+        if (value < pivot || (is_up_to && value == pivot)) && count < offers.len() {
+            offers.swap(k, count);
+            count = count.wrapping_add(1);
+        }
+    }
+    count
+}
+
+// A part of the offers, from one place to another.
+#[derive(Clone, Copy)]
+struct Part {
+    from: usize,
+    to: usize,
+}
+
+// The part of offers in which the one at this place stands among equal ones, or nothing where it stands
+// already.
+fn narrow(offers: &mut [Offer], part: Part, count: usize) -> Option<Part> {
+    let middle = part
+        .from
+        .wrapping_add(part.to.saturating_sub(part.from) / 2);
+    let pivot = offers.get(middle)?.value;
+    let below = split(offers.get_mut(part.from..part.to)?, pivot, false);
+    let first = part.from.wrapping_add(below);
+    if count < first {
+        return Some(Part { to: first, ..part });
+    }
+    let same = split(offers.get_mut(first..part.to)?, pivot, true);
+    let last = first.wrapping_add(same);
+    if count < last {
+        return None;
+    }
+    Some(Part { from: last, ..part })
+}
+
+/// Brings the least so many offers to the front, and the next one behind them (Hoare 1961).
+pub fn select(offers: &mut [Offer], count: usize) {
+    let mut part = Part {
+        from: 0,
+        to: offers.len(),
+    };
+    for _split in 0..offers.len() {
+        if part.from >= part.to {
+            return;
+        }
+        match narrow(offers, part, count) {
+            Some(narrower) => part = narrower,
+            None => return,
+        }
+    }
+}

@@ -1,0 +1,170 @@
+// The phases of an auction, whose slackness falls from one to the next.
+use super::auction::Auction;
+use super::layout::Layout;
+use super::problem::Problem;
+use super::state::State;
+use super::values::{clear_bytes, clear_counts, count_at, set_count};
+use sparse_search::{Looks, place_at};
+use std::alloc::{AllocError, Global};
+
+// The numbers come from measurements; no answer depends on them.
+// The slackness falls by this factor.
+const FALL: i64 = 8;
+// After a phase with more bids of a hand than this it falls by less.
+const BIDS_OF_A_WAR: u64 = 2;
+
+const FALL_IN_A_WAR: i64 = 5;
+
+// So many bids of a hand in a phase are a war without end.
+const BIDS_OF_A_HAND: u64 = 20;
+
+const FEW_BIDS: u64 = 1000;
+
+const MOST_PHASES: usize = 64;
+
+/// No price of a phase is higher.
+pub const HIGHEST_PRICE: i64 = 1 << 60;
+
+// The slackness after a phase of so many bids.
+fn fallen(slackness: i64, bids: u64, hands: u64) -> i64 {
+    let is_war = bids > hands.saturating_mul(BIDS_OF_A_WAR);
+    let next = if is_war {
+        slackness / FALL_IN_A_WAR
+    } else {
+        slackness / FALL
+    };
+    next.max(1)
+}
+
+/// How a phase, or an auction, ended.
+#[derive(Clone, Copy)]
+pub enum Ended {
+    /// Every hand has what is best at these prices, up to the slackness.
+    Settled,
+    /// It went on for too long, or a row was offered too little.
+    War,
+    /// The looks are spent.
+    Spent,
+}
+
+impl Auction {
+    /// One for this layout, before its first phase.
+    pub fn for_layout(alloc: Global, layout: Layout, looks: Looks) -> Result<Auction, AllocError> {
+        Auction::new(alloc, layout.sizes, layout.terms, looks)
+    }
+
+    // How many slots of a column, and of staying out, the dummy row may hold.
+    pub fn set_dummy_most(&mut self, state: &State, outside: u32) {
+        let last = state.outside();
+        for column in 0..self.dummy_most.len() {
+            let most = if column == last {
+                outside
+            } else {
+                count_at(state.column_most.as_slice(), column).saturating_sub(count_at(
+                    state.column_least.as_slice(),
+                    column,
+                ))
+            };
+            set_count(self.dummy_most.as_mut_slice(), column, most);
+        }
+    }
+
+    // The highest price and the bids that a phase may come to.
+    fn set_terms(&mut self, state: &mut State, layout: Layout, slackness: i64) {
+        let top = state.top().wrapping_sub(state.base());
+        state.lower_all();
+        let steps = self.terms.spread.wrapping_add(slackness);
+        let raise = steps.checked_mul(layout.nodes).unwrap_or(HIGHEST_PRICE);
+        self.terms.slackness = slackness;
+        self.terms.limit = top
+            .saturating_add(raise)
+            .saturating_add(1)
+            .min(HIGHEST_PRICE);
+        self.terms.budget = self.bids.saturating_add(self.most_bids(layout));
+    }
+
+    /// The bids that a phase may come to.
+    pub fn most_bids(&self, layout: Layout) -> u64 {
+        let bids = layout.hands.saturating_mul(BIDS_OF_A_HAND);
+        bids.saturating_add(FEW_BIDS)
+    }
+
+    // Every hand waits.
+    fn wait_all(&mut self, state: &State) {
+        self.queue.clear();
+        for row in 0..place_at(self.hands.len()) {
+            let hands = state.most_of(row);
+            set_count(self.hands.as_mut_slice(), row as usize, hands);
+            if hands > 0 {
+                self.queue.push(row);
+            }
+        }
+        self.dummy_hands = self.dummies;
+        let dummy = self.dummy();
+        if self.dummies > 0 {
+            self.queue.push(dummy);
+        }
+    }
+
+    /// Begins a phase at the prices, with nothing held.
+    pub fn begin_phase(&mut self, state: &mut State, layout: Layout, slackness: i64) {
+        self.set_terms(state, layout, slackness);
+        self.set_dummy_most(state, layout.sizes.outside);
+        self.clear_slots(state, layout.sizes.outside);
+        clear_bytes(state.plan.as_mut_slice());
+        clear_counts(state.held.as_mut_slice());
+        clear_counts(self.out.as_mut_slice());
+        self.wait_all(state);
+    }
+
+    /// Bids until nobody waits, the looks are spent, or the bids are too many.
+    pub fn run_phase(
+        &mut self,
+        problem: &Problem<'_>,
+        state: &mut State,
+    ) -> Result<Ended, AllocError> {
+        for _turn in self.bids..self.terms.budget.saturating_add(2) {
+            if self.is_failed {
+                return Ok(Ended::War);
+            }
+            if self.looks.is_spent() {
+                return Ok(Ended::Spent);
+            }
+            let Some(place) = self.queue.pop() else {
+                return Ok(Ended::Settled);
+            };
+            if place == self.dummy() {
+                self.bid_dummy(state);
+            } else {
+                self.bid_row(problem, state, place)?;
+            }
+            self.is_failed = self.is_failed || self.bids > self.terms.budget;
+        }
+        Ok(Ended::War)
+    }
+
+    /// Phases from this slackness down to 1. A phase that was begun goes on.
+    pub fn run(
+        &mut self,
+        problem: &Problem<'_>,
+        state: &mut State,
+        layout: Layout,
+    ) -> Result<Ended, AllocError> {
+        for _phase in 0..MOST_PHASES {
+            let begun = self.bids;
+            let ended = self.run_phase(problem, state)?;
+            if !matches!(ended, Ended::Settled) || self.terms.slackness <= 1 {
+                return Ok(ended);
+            }
+            let bids = self.bids.saturating_sub(begun);
+            let slackness = fallen(self.terms.slackness, bids, layout.hands);
+            self.begin_phase(state, layout, slackness);
+        }
+        Ok(Ended::War)
+    }
+}
+
+/// The slackness of the first phase.
+pub fn first_slackness(layout: Layout) -> i64 {
+    (layout.terms.spread / FALL).max(1)
+}
