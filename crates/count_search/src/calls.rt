@@ -143,9 +143,7 @@ impl Run<'_, '_> {
         };
         let mut auction = Auction::for_layout(self.alloc, layout, self.looks)?;
         if self.record.stage == AUCTION {
-            self.state.take_plan(self.problem, answer.plan);
-            let numbers = (&*answer.row_numbers, &*answer.column_numbers);
-            auction.resume(self.problem, &mut self.state, layout, self.record, numbers)?;
+            self.resume(&mut auction, layout, answer)?;
         } else {
             auction.begin_phase(&mut self.state, layout, first_slackness(layout));
         }
@@ -153,6 +151,23 @@ impl Run<'_, '_> {
         let ended = auction.run(self.problem, &mut self.state, layout)?;
         self.looks = auction.looks;
         self.end_bids(answer, &auction, layout, ended)
+    }
+
+    fn resume(
+        &mut self,
+        auction: &mut Auction,
+        layout: Layout,
+        answer: &Answer<'_>,
+    ) -> Result<(), AllocError> {
+        self.state.take_plan(self.problem, answer.plan);
+        auction.resume(
+            self.problem,
+            &mut self.state,
+            layout,
+            self.record,
+            answer.row_numbers,
+            answer.column_numbers,
+        )
     }
 
     // Where the looks end that begin here.

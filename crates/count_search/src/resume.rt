@@ -32,9 +32,9 @@ impl Auction {
         state: &mut State,
         layout: Layout,
         record: Record,
-        numbers: (&[i64], &[i64]),
+        rows: &[i64],
+        columns: &[i64],
     ) -> Result<(), AllocError> {
-        let (rows, columns) = numbers;
         let prices = state.prices.as_mut_slice();
         take_prices(prices, columns, signed64(record.outside));
         let slackness = signed64(record.slackness).max(1).min(layout.terms.spread);
