@@ -1,15 +1,16 @@
 #!/usr/bin/env python3
 """Calls nushbaret_counts, nushbaret_counts_from, nushbaret_check_counts and nushbaret_check_shortage over the shared
-library: each fault of the lists, and drawn problems, each against a plain slow program that looks at all plans and reads
-the definitions. tests/door/counts.py LIBRARY [PROBLEMS]"""
+library: each fault of the lists, and drawn problems, each against a plain slow program that looks at all plans and
+reads the definitions. tests/door/counts.py LIBRARY [PROBLEMS]"""
 import ctypes
 import itertools
 import random
 import sys
 from ctypes import c_int32, c_int64, c_size_t, c_uint32, c_uint64, c_uint8
 
-(BEST, ROWS_LACK, COLUMNS_LACK, SENSE, DENSE, BUFFER, SIZE, LENGTH, ROW, ORDER, COLUMN, GROUP, ROW_COUNTS, COLUMN_COUNTS,
- COST, MEMORY, STOPPED, UNDECIDED, NUMBERS, TWICE, ROW_LOOSE, COLUMN_LOOSE, SLACK, MARKS, ENOUGH, SIDE) = range(26)
+(BEST, ROWS_LACK, COLUMNS_LACK, SENSE, DENSE, BUFFER, SIZE, LENGTH, ROW, ORDER, COLUMN, GROUP, ROW_COUNTS,
+ COLUMN_COUNTS, COST, MEMORY, STOPPED, UNDECIDED, NUMBERS, TWICE, ROW_LOOSE, COLUMN_LOOSE, SLACK, MARKS, ENOUGH,
+ SIDE) = range(26)
 KINDS = {"rows": c_uint32, "columns": c_uint32, "costs": c_int64, "row_least": c_uint32, "row_most": c_uint32,
          "column_least": c_uint32, "column_most": c_uint32, "groups": c_uint32}
 
@@ -55,7 +56,8 @@ def solve(library, problem, budget=None):
     plan, rows, columns = (c_uint8 * max(1, k))(*[7] * k), (c_int64 * n)(*[7] * n), (c_int64 * m)(*[7] * m)
     row_marks, column_marks = (c_uint8 * n)(*[7] * n), (c_uint8 * m)(*[7] * m)
     info, record = Info(7, 7, 7, 7, 7), Record()
-    buffers = [plan, c_size_t(k), rows, c_size_t(n), columns, c_size_t(m), row_marks, c_size_t(n), column_marks, c_size_t(m)]
+    buffers = [plan, c_size_t(k), rows, c_size_t(n), columns, c_size_t(m)]
+    buffers += [row_marks, c_size_t(n), column_marks, c_size_t(m)]
     code = STOPPED
     if budget is None:
         code = library.nushbaret_counts(*given(problem), *buffers, ctypes.byref(info))
@@ -77,9 +79,9 @@ def keeps(problem, pairs, chosen):
         taken.add((i, group(problem, j)))
         row_counts[i] += 1
         column_counts[j] += 1
-    return (all(map(lambda low, count, high: low <= count <= high, problem["row_least"], row_counts, problem["row_most"]))
-            and all(map(lambda low, count, high: low <= count <= high, problem["column_least"], column_counts,
-                        problem["column_most"])))
+    sides = [("row", row_counts), ("column", column_counts)]
+    return all(low <= count <= high for side, counts in sides
+               for low, count, high in zip(problem[f"{side}_least"], counts, problem[f"{side}_most"]))
 
 
 def best_of_all(problem, pairs):
@@ -142,8 +144,9 @@ def check_shortage(library, problem, side, rows, columns):
 def drawn(dice):
     n, m = dice.randint(1, 3), dice.randint(1, 4)
     dense = dice.random() < 0.2
-    pairs = sorted(dice.sample([(i, j) for i in range(1, n + 1) for j in range(1, m + 1)], dice.randint(0, min(9, n * m))))
-    costs = [dice.choice([dice.randint(-3, 3), dice.randint(-10**12, 10**12)]) for _ in range(n * m if dense else len(pairs))]
+    every = [(i, j) for i in range(1, n + 1) for j in range(1, m + 1)]
+    pairs = every if dense else sorted(dice.sample(every, dice.randint(0, min(9, n * m))))
+    costs = [dice.choice([dice.randint(-3, 3), dice.randint(-10**12, 10**12)]) for _ in pairs]
     least = [dice.choice([0, 0, 1, 2]) for _ in range(n + m)]
     most = [low + dice.choice([0, 1, 2]) for low in least]
     return {"sense": dice.randint(0, 1), "rows": [] if dense else [i for i, _ in pairs],
@@ -183,21 +186,24 @@ def judge_checkers(library, problem, dice):
     plan = [dice.choice([0, 0, 1, 200]) for _ in pairs]
     r = [dice.choice([0, 0, 1, -2**63, 2**63 - 1]) for _ in problem["row_least"]]
     v = [dice.randint(-2, 2) for _ in problem["column_least"]]
-    want(f"another verdict on {problem}", (check(library, problem, plan, r, v)[0] == BEST) == proves(problem, pairs, plan, r, v))
+    is_best = check(library, problem, plan, r, v)[0] == BEST
+    want(f"another verdict on {problem}", is_best == proves(problem, pairs, plan, r, v))
     for side in (ROWS_LACK, COLUMNS_LACK):
         rows, columns = [dice.randint(0, 1) for _ in r], [dice.randint(0, 2) for _ in v]
         code = check_shortage(library, problem, side, rows, columns)
-        want(f"another verdict on a shortage of {problem}", code == (side if lacks(problem, pairs, side, rows, columns) else ENOUGH))
+        is_short = lacks(problem, pairs, side, rows, columns)
+        want(f"another verdict on a shortage of {problem}", code == (side if is_short else ENOUGH))
     want("marks too short", check_shortage(library, problem, ROWS_LACK, rows + [0], columns) == MARKS)
     want("a side", check_shortage(library, problem, 3, rows, columns) == SIDE)
     want("numbers too long", check(library, problem, plan, r + [0], v)[0] == NUMBERS)
 
 
 def faults(library):
-    whole = {"sense": 0, "rows": [1, 1, 2], "columns": [1, 2, 1], "costs": [3, 1, 2], "row_least": [1, 1], "row_most": [1, 1],
-             "column_least": [0, 0], "column_most": [1, 1], "groups": []}
+    whole = {"sense": 0, "rows": [1, 1, 2], "columns": [1, 2, 1], "costs": [3, 1, 2], "row_least": [1, 1],
+             "row_most": [1, 1], "column_least": [0, 0], "column_most": [1, 1], "groups": []}
     table = [({}, BEST, 7), ({"sense": 2}, SENSE, 7), ({"rows": [], "columns": []}, DENSE, 7),
-             ({"row_least": [], "row_most": []}, SIZE, 7), ({"rows": [1, 1]}, LENGTH, 7), ({"row_most": [1]}, LENGTH, 7),
+             ({"row_least": [], "row_most": []}, SIZE, 7), ({"rows": [1, 1]}, LENGTH, 7),
+             ({"row_most": [1]}, LENGTH, 7),
              ({"groups": [0]}, LENGTH, 7), ({"rows": [1, 3, 2]}, ROW, 1), ({"rows": [0, 1, 2]}, ROW, 0),
              ({"rows": [1, 2, 1]}, ORDER, 2), ({"columns": [1, 3, 1]}, COLUMN, 1), ({"groups": [2, 3]}, GROUP, 1),
              ({"row_least": [1, 2]}, ROW_COUNTS, 1), ({"column_least": [2, 0]}, COLUMN_COUNTS, 0),
@@ -208,9 +214,9 @@ def faults(library):
         want(f"code {answer[0]} for {change}", answer[0] == code and answer[-1].place == place)
         judged = check(library, problem, [0] * len(problem["costs"]), [0] * len(problem["row_least"]), [0, 0])
         want(f"code {judged[0]} of the check for {change}", judged[0] == code or code == BEST)
-    n, m, k = 2, 2, 3
-    code = library.nushbaret_counts(*given(whole), (c_uint8 * k)(), c_size_t(k - 1), (c_int64 * n)(), c_size_t(n), (c_int64 * m)(),
-                                    c_size_t(m), (c_uint8 * n)(), c_size_t(n), (c_uint8 * m)(), c_size_t(m), ctypes.byref(Info()))
+    n, m = (c_int64 * 2)(), (c_uint8 * 2)()
+    buffers = [(c_uint8 * 3)(), c_size_t(2), n, c_size_t(2), n, c_size_t(2), m, c_size_t(2), m, c_size_t(2)]
+    code = library.nushbaret_counts(*given(whole), *buffers, ctypes.byref(Info()))
     want("a plan too short", code == BUFFER)
 
 

@@ -81,9 +81,10 @@ def row_codes():
 
 def count_codes():
     """The codes of counts: those that `Yes` has are two ends."""
-    called = {"RowsLack": "ROWS_LACK", "ColumnsLack": "COLUMNS_LACK", "RowCounts": "ROW_COUNTS", "ColumnCounts": "COLUMN_COUNTS",
-              "CountVerdict::Length": "NUMBERS", "CountVerdict::Row": "ROW_LOOSE", "CountVerdict::Column": "COLUMN_LOOSE",
-              "CountVerdict::Pair": "SLACK", "ShortageVerdict::Length": "MARKS"}
+    called = {"RowsLack": "ROWS_LACK", "ColumnsLack": "COLUMNS_LACK", "RowCounts": "ROW_COUNTS",
+              "ColumnCounts": "COLUMN_COUNTS", "CountVerdict::Length": "NUMBERS", "CountVerdict::Row": "ROW_LOOSE",
+              "CountVerdict::Column": "COLUMN_LOOSE", "CountVerdict::Pair": "SLACK",
+              "ShortageVerdict::Length": "MARKS"}
     for file in ["end.rt", "checking.rt"]:
         named = r"(\w+)::(\w+)(?:\([^)]*\))? => (?:\{[^}]*?\n\s*)?(\d+)[,\n]"
         for kind, variant, number in re.findall(named, (COUNTS / file).read_text()):
