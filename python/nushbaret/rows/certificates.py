@@ -2,7 +2,7 @@
 import pathlib
 import re
 from array import array
-from typing import Dict, Iterator, List, NamedTuple, Optional, Sequence, Union
+from typing import Callable, Dict, Iterator, List, NamedTuple, Optional, Sequence, Union
 
 from .model import Certificate, Limits
 
@@ -143,7 +143,8 @@ def _numbers(piece: str, line: int) -> "array[int]":
     is_plain = len(piece) <= 2 * _PIECE and not piece.encode().translate(None, _LETTERS)
     try:
         if is_plain and str(_MOST) not in piece and str(_LEAST) not in piece:
-            return array("q", list(map(_SMALL.__getitem__ if len(words) * _FEW > len(piece) else int, words)))
+            read: Callable[[str], int] = _SMALL.__getitem__ if len(words) * _FEW > len(piece) else int
+            return array("q", list(map(read, words)))
     except (ValueError, OverflowError):
         pass
     fault = next((word for word in words if not _is_number(word)), None)
@@ -177,11 +178,9 @@ def read_certificate(path: Union[str, "pathlib.Path"]) -> Certificate:
 def read_lists(path: Union[str, "pathlib.Path"]) -> Lists:
     """Reads a certificate's lists, as they stand in its file. Raises `CertificateFault` where they are none, OSError
     where it can't be read."""
-    with open(path, "rb") as file:
-        content = file.read(_MOST_BYTES + 1)
-    if len(content) > _MOST_BYTES:
+    if pathlib.Path(path).stat().st_size > _MOST_BYTES:
         raise CertificateFault(f"longer than {_MOST_BYTES} bytes")
     try:
-        return lists_from(content.decode("ascii"))
+        return lists_from(pathlib.Path(path).read_bytes().decode("ascii"))
     except UnicodeDecodeError:
         raise CertificateFault("it isn't a text of ASCII characters") from None
