@@ -3,6 +3,8 @@ import { RosterFault } from "./faults.mjs";
 
 const SAVE = "save the sheet as 'CSV UTF-8'";
 const WESTERN = "windows-1252";
+// So many bytes at the beginning say which encoding one with NUL bytes is.
+const SAMPLE = 65536;
 /** @type {[number[], string][]} */
 const BOMS = [[[0xef, 0xbb, 0xbf], "utf-8"], [[0xff, 0xfe], "utf-16le"], [[0xfe, 0xff], "utf-16be"]];
 const UTF_32 = [[0xff, 0xfe, 0, 0], [0, 0, 0xfe, 0xff]];
@@ -56,6 +58,32 @@ function placeOfOther(bytes) {
 }
 
 /**
+ * Says which encoding a text with NUL bytes is likely in. UTF-16 has one for each letter of English.
+ * @param {Uint8Array} bytes
+ * @param {number} place The first NUL byte
+ */
+function refuseNuls(bytes, place) {
+  const sample = bytes.subarray(0, SAMPLE);
+  /** @param {number} side */
+  const count = (side) => sample.filter((byte, k) => byte === 0 && k % 2 === side).length;
+  const [least, most] = [count(0), count(1)].sort((one, other) => one - other);
+  if (most >= Math.max(4, sample.length / 16, 8 * least)) {
+    throw new RosterFault(`a text in UTF-16 without a mark (BOM) at its beginning: ${SAVE}`);
+  }
+  const what = bytes.some((byte) => byte !== 0) ? "NUL bytes, which no text has" : "NUL bytes alone, and no text";
+  throw new RosterFault(`${what}: ${SAVE}`, lineOf(bytes, place));
+}
+
+/**
+ * @param {Uint8Array} bytes
+ * @param {number} place
+ * @returns {number}
+ */
+function lineOf(bytes, place) {
+  return bytes.subarray(0, place).reduce((count, byte) => count + Number(byte === 10), 1);
+}
+
+/**
  * @param {Uint8Array} bytes
  * @param {string} encoding
  * @returns {string}
@@ -80,6 +108,8 @@ export function decoded(bytes) {
   if (WORKBOOKS.some((begin) => beginsWith(bytes, begin))) {
     throw new RosterFault(`a workbook, and no text: ${SAVE}, or copy its cells and paste them here`);
   }
+  const nul = bytes.indexOf(0);
+  if (nul >= 0) refuseNuls(bytes, nul);
   try {
     return { text: strictly(bytes, "utf-8"), isGuess: false };
   } catch (fault) {
@@ -94,6 +124,5 @@ export function decoded(bytes) {
 function western(bytes) {
   const place = placeOfOther(bytes);
   if (place < 0) return new TextDecoder(WESTERN).decode(bytes);
-  const line = bytes.subarray(0, place).reduce((count, byte) => count + Number(byte === 10), 1);
-  throw new RosterFault(`bytes that are no UTF-8 and no western text in Windows-1252: ${SAVE}`, line);
+  throw new RosterFault(`bytes that are no UTF-8 and no western text in Windows-1252: ${SAVE}`, lineOf(bytes, place));
 }

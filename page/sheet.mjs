@@ -1,9 +1,11 @@
 // The cells of CSV and of pasted cells, and what is wrong in them. Lines and columns are counted from 1.
 import { RosterFault } from "./faults.mjs";
-import { hasControl, isPrintable, onOneLine, quoted, stripped } from "./texts.mjs";
+import { hasControl, isPrintable, onOneLine, quoted, stripped, unguarded } from "./texts.mjs";
 
 const SEPARATORS = ";\t,";
 const MOST_LETTERS = 131072;
+// A person, and its costs for as many objects as the command takes.
+const MOST_CELLS = 4194305;
 
 /**
  * @typedef {{ line: number, cells: string[] }} Row
@@ -64,18 +66,28 @@ function recordAt(text, begin, separator) {
     let cell = "";
     if (text[at] === '"') {
       ({ cell, end: at } = quotedCell(text, at));
-      if (at < 0) return { cells, end: text.length, fault: "unexpected end of data" };
+      if (at < 0) return { cells, end: text.length, fault: "no CSV: the quotes around a cell aren't closed" };
     } else {
       const end = endOfCell(text, at, separator);
       cell = text.slice(at, end);
       at = end;
     }
-    if (cell.length > MOST_LETTERS) return { cells, end: at, fault: `field larger than field limit (${MOST_LETTERS})` };
+    if (isLong(cell)) return { cells, end: at, fault: `a cell of more than ${MOST_LETTERS} characters` };
+    if (cells.length === MOST_CELLS) return { cells, end: at, fault: `more than ${MOST_CELLS} cells in one record` };
     cells.push(cell);
     if (at >= text.length || text[at] === "\n" || text[at] === "\r") return { cells, end: at, fault: "" };
-    if (text[at] !== separator) return { cells, end: at, fault: `'${separator}' expected after '"'` };
+    if (text[at] !== separator) return { cells, end: at, fault: "no CSV: text after the quotes around a cell" };
     at++;
   }
+}
+
+/**
+ * Whether a text has more characters than a cell may.
+ * @param {string} text
+ * @returns {boolean}
+ */
+function isLong(text) {
+  return text.length > MOST_LETTERS && Array.from(text).length > MOST_LETTERS;
 }
 
 /**
@@ -116,8 +128,8 @@ export class Sheet {
     let at = 0;
     while (at < text.length && this.fault === null) {
       const record = recordAt(text, at, this.separator);
-      if (record.fault) this.fault = new RosterFault(`no CSV: ${record.fault}`, line);
-      else this.add(line, record.cells.map(stripped));
+      if (record.fault) this.fault = new RosterFault(record.fault, line);
+      else this.add(line, record.cells.map((cell) => unguarded(stripped(cell))));
       const end = text.startsWith("\r\n", record.end) ? record.end + 2 : record.end + 1;
       line += text.slice(at, record.end).includes('"') ? breaksIn(text.slice(at, end)) : 1;
       at = end;
@@ -172,6 +184,7 @@ export class Sheet {
 export function nameOf(cell, line, column) {
   const name = isPrintable(cell) ? cell : onOneLine(cell);
   if (name === "") throw new RosterFault("an empty name", line, column);
+  if (isLong(name)) throw new RosterFault(`a name of more than ${MOST_LETTERS} characters`, line, column);
   if (hasControl(name)) throw new RosterFault(`a control character in the name ${quoted(name)}`, line, column);
   return name.normalize("NFC");
 }

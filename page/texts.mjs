@@ -5,7 +5,12 @@ const IS_SPACE = new RegExp(`[${SPACES}]`);
 const ALL_SPACE = new RegExp(`[${SPACES}]+`, "g");
 const LINE_BREAKS = new RegExp(`[${SPACES}]*[\\r\\n][${SPACES}]*`, "g");
 const NOT_PRINTABLE = /(?! )[\p{C}\p{Z}]/u;
-const CONTROL = /\p{Cc}/u;
+// Also what turns the direction of a text or ends a line in it, and halves of characters.
+const CONTROL = /[\p{Cc}\p{Cs}\u200e\u200f\u2028-\u202e\u2066-\u2069]/u;
+const NUMBER = "[0-9]+(?:[.,][0-9]*)?(?:[eE][+-]?[0-9]{1,2})?$";
+const RUN = `(?:[=@\\t\\r]|[+-](?!${NUMBER}))`;
+const IS_RUN = new RegExp(`^'*${RUN}`);
+const IS_GUARDED = new RegExp(`^'+${RUN}`);
 const MOST_QUOTED = 40;
 
 /**
@@ -19,6 +24,25 @@ export function stripped(cell) {
   while (begin < end && IS_SPACE.test(cell[begin])) begin++;
   while (end > begin && IS_SPACE.test(cell[end - 1])) end--;
   return cell.slice(begin, end);
+}
+
+/**
+ * A cell of CSV as it is written: with an apostrophe in front where a spreadsheet would run it, and one more where apostrophes
+ * stand before such a beginning.
+ * @param {string} cell
+ * @returns {string}
+ */
+export function guarded(cell) {
+  return IS_RUN.test(cell) ? `'${cell}` : cell;
+}
+
+/**
+ * A cell of CSV as it is meant: without the first of the apostrophes before what a spreadsheet would run.
+ * @param {string} cell
+ * @returns {string}
+ */
+export function unguarded(cell) {
+  return cell[0] === "'" && IS_GUARDED.test(cell) ? stripped(cell.slice(1)) : cell;
 }
 
 /**

@@ -31,7 +31,7 @@ RUN = ["README.md", "docs/MODELLING.md", "docs/SCRIPTS.md"]
 RELEASED = re.compile(r"\./try\b|\brelease/|\bplanner\b")
 GENERATED = "docs/DEFINITIONS.md"
 # The most words of each page. The generated one and the list of changes may have any number.
-MOST_OF_PAGE = {"README.md": 1430, "SECURITY.md": 175, "bench/README.md": 1130,
+MOST_OF_PAGE = {"README.md": 1430, "SECURITY.md": 220, "bench/README.md": 1130,
                 "examples/README.md": 155,
                 "docs/ARCHITECTURE.md": 1385, "docs/CALLING.md": 605, "docs/CONTRIBUTING.md": 725,
                 "docs/DECISIONS.md": 1525, "docs/FORMATS.md": 1965, "docs/MODELLING.md": 1040, "docs/PROOFS.md": 1200,

@@ -17,6 +17,7 @@ from typing import Any, Dict, List
 sys.path.insert(0, os.path.join(os.path.dirname(os.path.abspath(__file__)), "../../python"))
 sys.dont_write_bytecode = True
 
+from nushbaret.roster.cells import guarded  # noqa: E402
 from nushbaret.roster.answer import Request, answer_of, left_out  # noqa: E402
 from nushbaret.roster.names import without_marks  # noqa: E402
 from nushbaret.roster.roster import Roster, read_roster  # noqa: E402
@@ -34,7 +35,7 @@ WORDS = {
 }
 NAMES = ["Ada", "Ben", "Cleo", "Zoë", "Müller", "O'Hara", "Anne Marie", "day 1", "2027-03-01", "1.3.2027",
          "night, late", 'the "wall"', "x", "a;b", "7", "ada", "Straße", "Łukasz", "早番", " padded ", "n/a", "A\u00a0B",
-         "12.5", "Mon 01.03."]
+         "12.5", "Mon 01.03.", "=1+1", "'=a", "''=a", "@b", "+c", "-d", "'-7", "-7", "'", "'+"]
 COSTS = ["0", "1", "2", "3", "17", "-4", "+5", "2.5", "2.50", "0.125", "-0.000001", "1e2", "1.5E+01", "007", ".5", "5.",
          "1000000", " 3 ", "-0"]
 ODD = ["x", "1.2.3", "0.1234567", "1000000000001", "-", "2,5", "1e99", "--1", "½", "٣"]
@@ -97,7 +98,7 @@ def _with_fault(random_: random.Random, text: str) -> str:
     if kind == 0:
         return text[:place] + text[place + 1:]
     if kind == 1:
-        return text[:place] + random_.choice(';,\t"\n\rx-1\x07é\u200b ') + text[place:]
+        return text[:place] + random_.choice(';,\t"\n\rx-1\x07é\u200b \u202e\u200e\u2028\0=@+\'') + text[place:]
     lines = text.splitlines(True) or [text]
     line = random_.randrange(len(lines))
     return "".join(lines[:line] + lines[line:line + 1] * (2 if kind == 2 else 0) + lines[line + 1:])
@@ -124,13 +125,19 @@ def read(path: str, case: Dict[str, Any]) -> Dict[str, Any]:
     return {"titles": list(roster.titles), "persons": roster.persons, "objects": roster.objects,
             "ofPersons": list(roster.of_persons), "ofObjects": list(roster.of_objects), "costs": list(roster.costs),
             "decimals": roster.decimals, "separator": roster.separator, "comma": roster.comma,
-            "isMatrix": roster.is_matrix, "isGuess": bool(notes), "said": said(roster, case["max"])}
+            "isMatrix": roster.is_matrix, "isGuess": bool(notes), "said": said(roster, case["max"]),
+            "written": list(map(guarded, [*roster.titles, *roster.persons, *roster.objects]))}
+
+
+def text_of(case: Dict[str, Any]) -> str:
+    """The text of a case, with what is long in it written out."""
+    return case["text"].replace("LONG", case.get("letter", "a") * case["long"]) if "long" in case else case["text"]
 
 
 def main() -> None:
     with open(sys.argv[1], encoding="utf-8") as file:
         table = json.load(file)
-    cases = [{"bytes": bytes.fromhex(case["bytes"]) if "bytes" in case else case["text"].encode(), "name": case["name"],
+    cases = [{"bytes": bytes.fromhex(case["bytes"]) if "bytes" in case else text_of(case).encode(), "name": case["name"],
               "comma": case.get("comma", False), "form": case.get("form", ""), "max": case.get("max", False)}
              for case in table]
     for path in sys.argv[3:]:

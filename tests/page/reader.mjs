@@ -4,6 +4,9 @@ import assert from "node:assert";
 import fs from "node:fs";
 import { answerOf, firstLines, leftOut, rowsOf } from "../../page/plan.mjs";
 import { Library, MOST_PERSONS } from "../../page/library.mjs";
+import { csvOf } from "../../page/outputs.mjs";
+import { Sheet } from "../../page/sheet.mjs";
+import { guarded } from "../../page/texts.mjs";
 import { RosterFault } from "../../page/faults.mjs";
 import { rosterOfBytes } from "../../page/roster.mjs";
 import { moduleOf } from "./page_parts.mjs";
@@ -22,7 +25,12 @@ function said(roster, max) {
 function read({ bytes, form, comma, max }) {
   try {
     const roster = rosterOfBytes(new Uint8Array(Buffer.from(bytes, "base64")), { form, comma, most: MOST_PERSONS });
-    return { ...roster, said: said(roster, max) };
+    const { titles, persons, objects } = roster;
+    const names = [...titles, ...persons, ...objects];
+    // What the page writes it reads again as it was.
+    const rows = [titles, ...persons.map((person) => [person, objects[0], "1"])];
+    assert.deepStrictEqual(new Sheet(csvOf(rows, roster.separator)).rows.map(({ cells }) => cells), rows);
+    return { ...roster, said: said(roster, max), written: names.map(guarded) };
   } catch (fault) {
     if (!(fault instanceof RosterFault)) throw fault;
     return { text: fault.text, line: fault.line, column: fault.column };

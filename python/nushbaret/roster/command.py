@@ -17,7 +17,7 @@ from .answer import Answer, Fair, Request, answer_of
 from .files import (STANDARD_OUTPUT, Output, OutputFault, is_device, make_folder, print_content, refuse_existing,
     write_files)
 from .groups import read_counts, read_groups, refuse_two_of_a_group, with_rules
-from .names import quoted, without_marks
+from .names import quoted, shown_path, without_marks
 from .output.texts import (Hand, Report, as_csv, first_lines, forgotten_line, gone_line, in_encoding_of, printed,
     read_lines)
 from .roster import OldPlan, PlanLine, Roster, read_hand_plan, read_old_plan, read_plan, read_roster
@@ -84,7 +84,7 @@ def _refused(fault: object, status: int) -> int:
 
 def _device(fault: Exception) -> str:
     if isinstance(fault, OSError) and fault.filename is not None:
-        return f"{fault.filename}: {fault.strerror}"
+        return f"{shown_path(str(fault.filename))}: {fault.strerror}"
     return str(fault)
 
 
@@ -106,11 +106,11 @@ def _run(options: Options) -> int:
             _say(gone_line(plan, report.roster))
     lines = list(map(without_marks, first_lines(report)))
     is_content = _write(report, lines)
-    skipped = [f"{output.path} isn't written: {_why_none(report)}" for output in options.outputs
+    skipped = [f"{shown_path(output.path)} isn't written: {_why_none(report)}" for output in options.outputs
                if not _is_written(output, answer, options)]
     skipped += _lines_on_each(report)
     if options.certificate is not None and (report.proved is None or report.proved.certificate is None):
-        skipped.append(f"{options.certificate} isn't written: nothing was proved")
+        skipped.append(f"{shown_path(options.certificate)} isn't written: nothing was proved")
     _print_lines(lines + ([] if options.quiet else printed(report)) + skipped, is_content)
     return _status(report)
 
@@ -291,7 +291,7 @@ def _refuse_existing_of_each(options: Options, roster: Roster) -> None:
     others = {os.path.realpath(path) for path in options.written}
     for path in paths_of(roster, options.each):
         if os.path.realpath(path) in others:
-            raise OutputFault(f"{path} is another output too")
+            raise OutputFault(f"{shown_path(path)} is another output too")
         if not options.force:
             refuse_existing(path)
 
@@ -302,7 +302,7 @@ def _lines_on_each(report: Report) -> List[str]:
     if folder is None:
         return []
     from .output.each import lines_on_calendars
-    return ([f"{folder}: nothing is written: {_why_none(report)}"] if plan is None
+    return ([f"{shown_path(folder)}: nothing is written: {_why_none(report)}"] if plan is None
             else lines_on_calendars(report.roster, plan, folder))
 
 

@@ -1,7 +1,7 @@
 """The text of a file's bytes: in the encoding that was named, or by its BOM, as UTF-8, or as western text of
 Windows."""
 import re
-from typing import NamedTuple, Optional
+from typing import NamedTuple, NoReturn, Optional
 
 SAVE = "save the sheet as 'CSV UTF-8'"
 WESTERN = "Windows-1252"
@@ -19,6 +19,10 @@ PLAUSIBLE = bytes(range(128)) + (LETTERS + MARKS).encode(WESTERN)
 NOT_PLAUSIBLE = re.compile(b"[^" + re.escape(PLAUSIBLE) + b"]")
 # DOS has letters with accents where Windows has these quotes, which stand between letters in no text.
 QUOTE_IN_WORD = re.compile("[A-Za-z][\u201a\u201c\u201d\u201e][a-z]".encode(WESTERN))
+
+
+# So many bytes at the beginning say which encoding one with NUL bytes is.
+SAMPLE = 2**16
 
 
 class Undecodable(ValueError):
@@ -48,13 +52,29 @@ def decoded(data: bytes, named: Optional[str]) -> Decoded:
     if by_bom is not None:
         return Decoded(_strictly(data, by_bom), "utf-8", has_bom=True)
     if named is not None:
-        return Decoded(_strictly(data, named), named)
+        text = _strictly(data, named)
+        if "\0" in text:
+            raise Undecodable(f"NUL characters, which no text in {named} has: {SAVE}, or name its encoding by --encoding")
+        return Decoded(text, named)
     if data.startswith(SPREADSHEETS):
         raise Undecodable(f"a spreadsheet that is no .xlsx, and no text: save it as .xlsx, or {SAVE}")
+    if b"\0" in data:
+        _refuse_nuls(data)
     try:
         return Decoded(data.decode(), "utf-8")
     except UnicodeDecodeError:
         return Decoded(_western(data), WESTERN, is_guess=True)
+
+
+def _refuse_nuls(data: bytes) -> NoReturn:
+    """Says which encoding a text with NUL bytes is likely in. UTF-16 has one for each letter of English."""
+    sample = data[:SAMPLE]
+    least, most = sorted((sample[::2].count(0), sample[1::2].count(0)))
+    if most >= max(4, len(sample) / 16, 8 * least):
+        raise Undecodable(f"a text in UTF-16 without a mark (BOM) at its beginning: {SAVE}, or name its encoding by "
+                          "--encoding")
+    what = "NUL bytes, which no text has" if data.strip(b"\0") else "NUL bytes alone, and no text"
+    raise Undecodable(f"{what}: {SAVE}, or name its encoding by --encoding", data.index(b"\0"))
 
 
 def _strictly(data: bytes, encoding: str) -> str:

@@ -6,6 +6,7 @@ import tempfile
 from typing import BinaryIO, NamedTuple, Sequence, Tuple, Union
 
 from .interrupts import interrupts_raise
+from .names import shown_path
 
 KINDS = ("csv", "json", "html", "xlsx")
 STANDARD_OUTPUT = ("/dev/stdout", "/dev/fd/1", "/proc/self/fd/1")
@@ -30,7 +31,7 @@ class OutputFault(Exception):
 def refuse_existing(path: str) -> None:
     """Refuses a file that exists."""
     if os.path.lexists(path) and not is_device(path):
-        raise OutputFault(f"{path} exists: --force overwrites it")
+        raise OutputFault(f"{shown_path(path)} exists: --force overwrites it")
 
 
 def is_device(path: str) -> bool:
@@ -44,7 +45,7 @@ def make_folder(path: str) -> None:
         os.makedirs(path, exist_ok=True)
     except OSError as fault:
         is_file = isinstance(fault, (FileExistsError, NotADirectoryError))
-        raise OutputFault(f"{path}: {'no folder' if is_file else fault.strerror or fault}") from fault
+        raise OutputFault(f"{shown_path(path)}: {'no folder' if is_file else fault.strerror or fault}") from fault
 
 
 def write_files(contents: Sequence[Tuple[str, bytes]], force: bool) -> None:
@@ -65,9 +66,9 @@ def write_file(path: str, content: bytes, force: bool) -> None:
         else:
             _fill(open(path, "xb"), path, content)
     except FileExistsError:
-        raise OutputFault(f"{path} exists: --force overwrites it") from None
+        raise OutputFault(f"{shown_path(path)} exists: --force overwrites it") from None
     except OSError as fault:
-        raise OutputFault(f"{path}: {fault.strerror or fault}") from fault
+        raise OutputFault(f"{shown_path(path)}: {fault.strerror or fault}") from fault
 
 
 def _fill(file: BinaryIO, path: str, content: bytes) -> None:
@@ -109,7 +110,7 @@ def _mode_of(target: str) -> int:
         return 0o666 & ~mask
     mode = os.stat(target).st_mode
     if not stat.S_ISREG(mode):
-        raise OutputFault(f"{target} is no regular file")
+        raise OutputFault(f"{shown_path(target)} is no regular file")
     return stat.S_IMODE(mode)
 
 

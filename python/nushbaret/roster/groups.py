@@ -107,7 +107,8 @@ class _Groups:
     def __init__(self, sheet: Sheet, roster: Roster, title: Sequence[str], line: int, has_earlier: bool):
         self._sheet, self._roster, self._has_earlier = sheet, roster, has_earlier
         self._columns, self._kind = columns_of(sheet, title, line), _column_of_kinds(sheet, title, line)
-        self.found = Groups(title[1], [], {}, {}, {}, self._kind is not None)
+        own = sheet.name(title[1], line, 2) if title[1] else ""
+        self.found = Groups(own, [], {}, {}, {}, self._kind is not None)
         self.earlier: List[Earlier] = []
         self.lines: Dict[int, int] = {}
         self.group_lines: List[int] = []

@@ -80,3 +80,8 @@ def with_counts(names: Sequence[str], counts: Sequence[int]) -> List[str]:
 def quoted(cell: str) -> str:
     """A cell as a message shows it: in quotes, on one line, and not too long."""
     return repr(cell if len(cell) <= 40 else cell[:37] + "...")
+
+
+def shown_path(path: str) -> str:
+    """A file's name as a message shows it: in quotes, where it has what can't be printed."""
+    return path if path.isprintable() else repr(path)

@@ -6,8 +6,9 @@ from typing import Dict, List, NamedTuple, NoReturn, Optional, Sequence, Tuple
 from .answer import counted, listed
 from .costs import CostColumn
 from .dates import dates_of
-from .names import quoted
-from .roster import Groups, NamedPair, OldPlan, PlanLine, Roster, like, old_plan_of
+from .names import quoted, shown_path
+from .plan_json import NamedPair
+from .roster import Groups, OldPlan, PlanLine, Roster, like, old_plan_of
 from .sheets import RosterFault, is_json
 
 Triple = Tuple[int, int, int]
@@ -122,9 +123,9 @@ def _cost_in_file(path: str, roster: Roster, pair: NamedPair, rounds: Optional[i
 def _first_line(roster: Roster, groups: Groups, kept: OldPlan, name: str, earlier: List[int], count: int) -> str:
     """How much stays."""
     if not earlier:
-        return f"{kept.path}: no {groups.title} is before {name}"
+        return f"{shown_path(kept.path)}: no {groups.title} is before {name}"
     which = f"{counted(len(earlier), groups.title)} before {name} ({listed(groups.names, earlier)})"
-    return f"{kept.path}: {counted(count, 'pair')} of {which} {'stays' if count == 1 else 'stay'}"
+    return f"{shown_path(kept.path)}: {counted(count, 'pair')} of {which} {'stays' if count == 1 else 'stay'}"
 
 
 def _forbidden_lines(roster: Roster, kept: OldPlan, added: Sequence[Triple]) -> List[str]:
@@ -132,12 +133,12 @@ def _forbidden_lines(roster: Roster, kept: OldPlan, added: Sequence[Triple]) -> 
     own: Dict[int, List[str]] = {}
     for person, object_, cost in added:
         own.setdefault(person, []).append(f"{roster.objects[object_]}, {roster.shown(cost)}")
-    return [f"{kept.path}: {roster.persons[person]} keeps what the roster doesn't allow now: {'; '.join(pairs)}"
+    return [f"{shown_path(kept.path)}: {roster.persons[person]} keeps what the roster doesn't allow now: {'; '.join(pairs)}"
             for person, pairs in own.items()]
 
 
 def _most_line(roster: Roster, kept: OldPlan, person: int, had: int) -> str:
-    return (f"{kept.path}: {roster.persons[person]} has {counted(had, roster.titles[1])} in the past, more than the "
+    return (f"{shown_path(kept.path)}: {roster.persons[person]} has {counted(had, roster.titles[1])} in the past, more than the "
             f"most of {roster.tasks_of(person)}: {had} is the most")
 
 

@@ -2,34 +2,28 @@
 mode, which cells are merged and which formulas have no value, is read from the sheet itself."""
 import datetime
 import posixpath
-import re
 import warnings
 import zipfile
-from typing import IO, Any, Dict, List, NamedTuple, Optional, Set, Tuple
+from typing import Any, Dict, List, NamedTuple, Optional, Set, Tuple
 from xml.etree import ElementTree
+from xml.parsers import expat
 
 from .encodings import SAVE
 from .names import quoted
+from .sheet_scan import MOST_CELLS, Coordinates, Scan, WorkbookFault, well_formed
 
-# A cell, from 0: its row and its column.
-Coordinates = Tuple[int, int]
-PIECE = 2**20
-# What a sheet has where there is more to say than openpyxl does.
-MARKED = re.compile(rb"<(?:\w+:)?(?:f[\s/>]|mergeCell\s)")
 MOST_SHEETS_SHOWN = 8
-
-
-class WorkbookFault(Exception):
-    """Why a workbook can't be read, and where: line and column from 1, if it is known."""
-
-    def __init__(self, text: str, line: Optional[int] = None, column: Optional[int] = None) -> None:
-        super().__init__(text)
-        self.line, self.column = line, column
+# A part of a workbook has so many bytes at most, and unpacked no more than these and so many times the file's.
+MOST_BYTES, LEAST_BYTES, MOST_TIMES = 2**30, 2**24, 128
+# What a workbook's parts are for, by openpyxl's functions that read them.
+PARTS = {"read_manifest": "list of parts", "read_strings": "texts", "read_workbook": "list of sheets",
+         "read_properties": "properties", "read_theme": "theme", "apply_stylesheet": "styles",
+         "read_worksheets": "sheets", "assign_names": "names"}
 
 
 class Taken(NamedTuple):
-    """The rows of a sheet, all of one length, as a CSV file would have them; the sheet's name, and those of all; and
-    the lines that are one merged cell."""
+    """The rows of a sheet as a CSV file would have them, each at least as long as the first that isn't empty, or empty;
+    the sheet's name, and those of all; and the lines that are one merged cell."""
 
     rows: List[List[str]]
     name: str
@@ -49,39 +43,95 @@ def read_workbook(path: str, comma: bool, name: Optional[str], preferred: Option
         raise WorkbookFault(f"an Excel workbook is read where openpyxl is installed; elsewhere {SAVE}") from None
     try:
         # openpyxl warns of what it leaves out, such as colours by rules, and none of it is read.
-        with warnings.catch_warnings():
+        with warnings.catch_warnings(), zipfile.ZipFile(path) as archive:
             warnings.simplefilter("ignore")
-            return _taken(openpyxl.load_workbook(path, read_only=True, data_only=True), path, comma, name or preferred,
-                          name is not None, skipped)
-    except (OSError, WorkbookFault):
+            _refuse_great(archive)
+            return _taken(openpyxl.load_workbook(path, read_only=True, data_only=True), archive, comma,
+                          name or preferred, name is not None, skipped)
+    except (OSError, MemoryError, WorkbookFault):
         raise
     except Exception as fault:
         # openpyxl lets pass whatever the parsers beneath it raise.
-        raise WorkbookFault(f"no workbook that openpyxl reads ({fault}): {SAVE}") from fault
+        raise WorkbookFault(f"no workbook that openpyxl reads: {_what_is_wrong(path, fault)}; {SAVE}") from fault
 
 
-def _taken(book: Any, path: str, comma: bool, wanted: Optional[str], is_needed: bool, skipped: int) -> Taken:
+def _refuse_great(archive: zipfile.ZipFile) -> None:
+    """Refuses a workbook with a part that is too large when unpacked."""
+    packed = sum(part.compress_size for part in archive.infolist())
+    for part in archive.infolist():
+        if part.file_size > min(MOST_BYTES, LEAST_BYTES + MOST_TIMES * packed):
+            raise WorkbookFault(f"its part {quoted(part.filename)} would be {part.file_size} bytes long, more than is "
+                                "unpacked of a workbook of this size")
+
+
+def _what_is_wrong(path: str, fault: Optional[BaseException]) -> str:
+    """Which part of a workbook is wrong."""
+    part = ""
+    try:
+        with zipfile.ZipFile(path) as archive:
+            for part in archive.namelist():
+                with archive.open(part) as content:
+                    if part.endswith((".xml", ".rels")):
+                        well_formed(content)
+    except expat.ExpatError as place:
+        return f"its part {quoted(part)} is no XML, in line {place.lineno}"
+    except RuntimeError:
+        return "it is encrypted"
+    except Exception:
+        return f"its part {quoted(part)} can't be unpacked" if part else "it is no zip archive"
+    trace = fault.__traceback__ if fault else None
+    found = "parts"
+    while trace is not None:
+        found, trace = PARTS.get(trace.tb_frame.f_code.co_name, found), trace.tb_next
+    return f"there is a fault in its {found}"
+
+
+def _taken(book: Any, archive: zipfile.ZipFile, comma: bool, wanted: Optional[str], is_needed: bool,
+           skipped: int) -> Taken:
     """The rows of the wanted sheet, or of the first where it isn't needed and isn't there."""
     names = [sheet.title for sheet in book.worksheets]
     if is_needed and wanted not in names:
         raise WorkbookFault(f"no sheet {quoted(wanted or '')}: it has {listed_sheets(names)}")
+    if not names:
+        raise WorkbookFault("a workbook without a sheet of cells")
     place = names.index(wanted) if wanted in names else 0
     sheet = book.worksheets[place]
+    scan = _scan(archive, names[place], sheet)
     # Some writers say a wrong size; without one openpyxl reads all there is.
     sheet.reset_dimensions()
-    rows = [[_cell_text(value, comma) for value in row] for row in sheet.iter_rows(values_only=True)]
+    rows = _rows(sheet, comma)
     book.close()
-    width = max(map(len, rows), default=0)
-    rows = [row + [""] * (width - len(row)) for row in rows]
-    marks = _marks_of(path, names[place])
-    for row, column in marks.unvalued:
+    for row, column in scan.unvalued:
         if row >= skipped:
             raise WorkbookFault("a formula without a value: open the workbook in your spreadsheet, and save it there",
                                 row + 1, column + 1)
-    rows = _with_merged(rows, marks.merged)
-    whole = {row + 1 for (top, left), (bottom, right) in marks.merged if left == 0 and rows
-             and right + 1 >= len(rows[0]) > 1 for row in range(top, min(bottom + 1, len(rows)))}
-    return Taken(rows[skipped:], names[place], names, whole)
+    _fill_merged(rows, scan.merged)
+    width = max(map(len, rows), default=0)
+    whole = {row + 1 for (top, left), (bottom, right) in scan.merged if left == 0 and right + 1 >= width > 1
+             for row in range(top, min(bottom + 1, len(rows)))}
+    rows = rows[skipped:]
+    width = len(next(filter(None, rows), []))
+    rows = [row + [""] * (width - len(row)) if row else row for row in rows]
+    return Taken(rows, names[place], names, whole)
+
+
+def _rows(sheet: Any, comma: bool) -> List[List[str]]:
+    """The cells of a sheet as texts, each row up to its last that has any."""
+    rows: List[List[str]] = []
+    try:
+        for values in sheet.iter_rows(values_only=True):
+            row = [_cell_text(value, comma) for value in values]
+            while row and not row[-1]:
+                row.pop()
+            rows.append(row)
+    except (OSError, MemoryError):
+        raise
+    except Exception as fault:
+        raise WorkbookFault(f"a cell below line {len(rows)} isn't of the type that it says, or is damaged; "
+                            f"{SAVE}") from fault
+    while rows and not rows[-1]:
+        rows.pop()
+    return rows
 
 
 def listed_sheets(names: List[str]) -> str:
@@ -106,26 +156,17 @@ def _cell_text(value: Any, comma: bool) -> str:
     return str(value).replace("_x000D_", "\r")
 
 
-class _Marks(NamedTuple):
-    """The merged cells of a sheet, each range from its first cell to its last, and the formulas that have no value."""
-
-    merged: List[Tuple[Coordinates, Coordinates]]
-    unvalued: List[Coordinates]
-
-
-def _marks_of(path: str, name: str) -> _Marks:
-    """What a sheet of a workbook has of both."""
-    marks = _Marks([], [])
-    with zipfile.ZipFile(path) as archive:
-        part, is_stale = _part_of(archive, name)
-        if part is None:
-            return marks
-        with archive.open(part) as sheet:
-            is_marked = _is_marked(sheet)
-        if is_marked:
-            with archive.open(part) as sheet:
-                _mark(sheet, is_stale, marks)
-    return marks
+def _scan(archive: zipfile.ZipFile, name: str, sheet: Any) -> Scan:
+    """What the XML of a sheet says, by its name. The part is the one that openpyxl reads, where it says which."""
+    part, is_stale = _part_of(archive, name)
+    part = getattr(sheet, "_worksheet_path", None) or part
+    if part is None:
+        raise WorkbookFault(f"its list of sheets doesn't say where {quoted(name)} is")
+    texts = getattr(sheet, "_shared_strings", None)
+    scan = Scan(is_stale, None if texts is None else len(texts))
+    with archive.open(part) as content:
+        scan.read(content)
+    return scan
 
 
 def _part_of(archive: zipfile.ZipFile, name: str) -> Tuple[Optional[str], bool]:
@@ -159,52 +200,15 @@ def _bare(tag: str) -> str:
     return tag.rpartition("}")[2]
 
 
-def _is_marked(sheet: IO[bytes]) -> bool:
-    """Whether a sheet has merged cells or formulas at all."""
-    before = b""
-    for piece in iter(lambda: sheet.read(PIECE), b""):
-        if MARKED.search(before + piece):
-            return True
-        before = piece[-100:]
-    return False
-
-
-def _mark(sheet: IO[bytes], is_stale: bool, marks: _Marks) -> None:
-    """Finds the merged cells and the formulas without a value."""
-    for _, element in ElementTree.iterparse(sheet):
-        tag = _bare(element.tag)
-        if tag == "mergeCell":
-            begin, _, end = element.get("ref", "").partition(":")
-            marks.merged.append((_coordinates(begin), _coordinates(end or begin)))
-        elif tag == "c" and _is_unvalued(element, is_stale):
-            marks.unvalued.append(_coordinates(element.get("r", "")))
-        elif tag == "row":
-            element.clear()
-
-
-def _is_unvalued(cell: ElementTree.Element, is_stale: bool) -> bool:
-    """Whether a cell has a formula whose value isn't there. A formula whose value is an empty text says so by its
-    type."""
-    held = {_bare(child.tag): child.text for child in cell}
-    return "f" in held and (is_stale or not held.get("v") and cell.get("t") != "str") and cell.get("r") is not None
-
-
-def _coordinates(reference: str) -> Coordinates:
-    """The row and the column of a cell such as B12, from 0."""
-    found = re.fullmatch(r"\$?([A-Z]{1,3})\$?([0-9]{1,7})", reference)
-    if found is None:
-        raise ValueError(f"{reference!r} is no cell")
-    column = 0
-    for letter in found[1]:
-        column = column * 26 + ord(letter) - ord("A") + 1
-    return int(found[2]) - 1, column - 1
-
-
-def _with_merged(rows: List[List[str]], merged: List[Tuple[Coordinates, Coordinates]]) -> List[List[str]]:
-    """Rows in which a merged cell counts for all of its cells, up to the last column that has anything of its own."""
-    width = max((column + 1 for row in rows for column, cell in enumerate(row) if cell), default=0)
+def _fill_merged(rows: List[List[str]], merged: List[Tuple[Coordinates, Coordinates]]) -> None:
+    """Lets a merged cell count for all of its cells, up to the last column that has anything of its own."""
+    width, filled = max(map(len, rows), default=0), 0
     for (top, left), (bottom, right) in merged:
-        text = rows[top][left] if top < len(rows) and left < width else ""
-        for row in rows[top:bottom + 1] if text else ():
+        text = rows[top][left] if top < len(rows) and left < len(rows[top]) else ""
+        own = rows[top:bottom + 1] if text else []
+        filled += len(own) * (min(right + 1, width) - left)
+        if filled > MOST_CELLS:
+            raise WorkbookFault(f"merged cells with more than {MOST_CELLS} cells in all")
+        for row in own:
+            row += [""] * (min(right + 1, width) - len(row))
             row[left:right + 1] = [text] * (min(right + 1, len(row)) - left)
-    return [row[:width] for row in rows] if merged else rows

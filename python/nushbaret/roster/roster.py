@@ -2,37 +2,30 @@
 
 A roster is read in one of two forms, a line for each pair or a matrix; a plan is lines of a person and an object.
 """
-import json
 import os
 import re
-import unicodedata
 from array import array
 from bisect import bisect_left, bisect_right
 from itertools import compress, islice, repeat
 from operator import add, le, mul
-from typing import Any, Dict, FrozenSet, List, NamedTuple, Optional, Sequence, Set, Tuple, cast
+from typing import Dict, FrozenSet, List, NamedTuple, Optional, Sequence, Set, Tuple, cast
 
 from ..costs.limits import MOST_PERSONS, Numbers
+from .cells import is_plain
 from .costs import CostColumn
 from .dates import spellings
 from .names import quoted
-from .sheets import MOST_BYTES, Reading, RosterFault, Sheet, is_json, item_of
+from .plan_json import NamedPair, plan_of_json
+from .sheets import Reading, RosterFault, Sheet, is_json, item_of
 from .times import Times
 
 LINES, MATRIX = "lines", "matrix"
 TITLES = ("person", "object", "cost")
-# Of plans in JSON; those before are read too.
-FORMAT = 4
 # Where a workbook has its plan.
 PLAN_SHEET = "Plan"
 # The column of a plan that says what changed from an earlier one, and its words: for a new pair, and for two that are
 # no pairs of the plan.
 CHANGE, COMES, GOES, NOT_POSSIBLE = "change", "comes", "goes", "not possible"
-
-
-def is_plain(name: str) -> bool:
-    """Whether a cell is a name as it stands."""
-    return name.isprintable() and name != "" and unicodedata.is_normalized("NFC", name)
 
 
 class Names:
@@ -449,16 +442,6 @@ def read_plan(path: str, roster: Roster) -> List[PlanLine]:
     return [PlanLine(person, object_, line, costs[person, object_]) for person, object_, line in numbered]
 
 
-class NamedPair(NamedTuple):
-    """A pair of a plan by names, the line where it stands, or in JSON its number, and its cost as it is written there,
-    if any is."""
-
-    person: str
-    object: str
-    line: int
-    cost: str
-
-
 class OldPlan(NamedTuple):
     """An earlier plan, by the file's name: its pairs by names, those that the roster allows, the names that the roster
     doesn't have, and the pairs of known names that it forbids, each with its line."""
@@ -515,7 +498,7 @@ def _as_written(names: List[str], numbers: Dict[str, int], name: str) -> str:
 
 def named_pairs(path: str, roster: Roster) -> List[NamedPair]:
     """The pairs of a plan by names."""
-    pairs = _plan_of_json(path) if is_json(path) else _plan_of_sheet(path, roster)
+    pairs = plan_of_json(path) if is_json(path) else _plan_of_sheet(path, roster)
     return [NamedPair(_as_written(roster.persons, roster.person_numbers, pair.person),
                       _as_written(roster.objects, roster.object_numbers, pair.object), pair.line, pair.cost)
             for pair in pairs]
@@ -533,29 +516,6 @@ def _plan_of_sheet(path: str, roster: Roster) -> List[NamedPair]:
     has_costs = len(title) > 2 and (roster.groups is None or title[2] != roster.groups.title)
     return [NamedPair(sheet.name(cells[0], line, 1), sheet.name(cells[1], line, 2), line, cells[2] if has_costs else "")
             for line, cells in sheet.body(len(title)) if change is None or cells[change] not in (GOES, NOT_POSSIBLE)]
-
-
-def _plan_of_json(path: str) -> List[NamedPair]:
-    with open(path, "rb") as file:
-        data = file.read(MOST_BYTES)
-    try:
-        plan = json.loads(data.decode("utf-8-sig"))
-        pairs, form = list(plan["pairs"]), plan.get("format", FORMAT)
-    except (ValueError, RecursionError, KeyError, TypeError, AttributeError) as fault:
-        raise RosterFault(path, f"no plan with pairs in JSON: {fault}") from fault
-    if form not in range(1, FORMAT + 1):
-        raise RosterFault(path, f"format {form} of a plan in JSON, where 1 to {FORMAT} can be read")
-    return [_pair_of_json(path, pair, number) for number, pair in enumerate(pairs, 1)]
-
-
-def _pair_of_json(path: str, pair: Any, number: int) -> NamedPair:
-    person, object_ = (pair.get(key) if isinstance(pair, dict) else None for key in ("person", "object"))
-    if not isinstance(person, str) or not isinstance(object_, str) or not (person and object_):
-        raise RosterFault(path, "a person and an object are needed, each a text", number)
-    cost = pair.get("cost", "")
-    is_number = isinstance(cost, (str, int, float)) and not isinstance(cost, bool)
-    return NamedPair(unicodedata.normalize("NFC", person), unicodedata.normalize("NFC", object_), number,
-                     str(cost) if is_number else "")
 
 
 def known(sheet: Sheet, roster: Roster, cell: str, line: int, side: int, column: int) -> int:

@@ -7,7 +7,8 @@ from .by_counts import bounds_around
 from .changes import pairs_of
 from .groups import Broken, Missing, Paired, missing_of, order_of
 from .names import joined
-from .roster import NamedPair, OldPlan, PlanLine, Roster
+from .plan_json import NamedPair
+from .roster import OldPlan, PlanLine, Roster
 from .sheets import item_of
 
 

@@ -3,13 +3,16 @@ is a cell of its line."""
 import csv
 import os
 import re
+import stat
 import sys
-import unicodedata
 from itertools import accumulate, islice
-from typing import Callable, Generator, Iterable, Iterator, List, NamedTuple, NoReturn, Optional, Sequence, Set, Tuple
+from typing import (IO, Callable, Generator, Iterable, Iterator, List, Match, NamedTuple, NoReturn, Optional, Sequence, Set,
+    Tuple, cast)
 
+from ..costs.limits import MOST_PERSONS
+from .cells import GUARDS, NoName, as_name, unguarded
 from .encodings import Undecodable, decoded
-from .names import quoted
+from .names import quoted, shown_path
 
 MOST_BYTES = 2**30
 SEPARATORS = ";\t,"
@@ -18,7 +21,12 @@ Block = Tuple[Sequence[int], List[Sequence[str]]]
 # So many records, and letters of a text, are looked at in one go.
 BLOCK = 1024
 PIECE = 2**20
-LINE_BREAKS = re.compile(r"\s*[\r\n]\s*")
+# A person, and its costs for as many objects as there may be.
+MOST_CELLS = MOST_PERSONS + 1
+MANY_CELLS = f"more than {MOST_CELLS} cells in one record"
+# What of a line is in quotes, where it begins outside of them, and where inside.
+QUOTED = (re.compile('"[^"]*"?'), re.compile('^[^"]*"?|"[^"]*"?'))
+FIRST_LINE = re.compile(r"[\r\n]*([^\r\n]*)")
 # str.splitlines ends a line here too.
 OTHER_ENDS = "\v\f\x1c\x1d\x1e\x85\u2028\u2029"
 
@@ -29,7 +37,7 @@ class RosterFault(ValueError):
 
     def __init__(self, path: str, text: str, line: Optional[int] = None, column: Optional[int] = None) -> None:
         self.path, self.text, self.line, self.column = path, text, line, column
-        where = path
+        where = shown_path(path)
         if line is not None:
             where += f", {item_of(path)} {line}"
         if column is not None and item_of(path) == "line":
@@ -67,19 +75,31 @@ def item_of(path: str) -> str:
     return "pair" if is_json(path) else "line"
 
 
-def _content_of(path: str) -> bytes:
-    """What a file holds, or standard input where the path is `-`; no more than one byte too many."""
+def content_of(path: str) -> bytes:
+    """What a file holds, or standard input where the path is `-`; of more than MOST_BYTES not all."""
     if path == "-":
         return _standard_input()
     with open(path, "rb") as file:
-        return file.read(MOST_BYTES + 1)
+        status = os.fstat(file.fileno())
+        # What read() makes room for is what it was asked for.
+        return file.read() if stat.S_ISREG(status.st_mode) and status.st_size <= MOST_BYTES else _bounded(file)
+
+
+def _bounded(file: IO[bytes]) -> bytes:
+    pieces, size = [], 0
+    for piece in iter(lambda: file.read(PIECE), b""):
+        pieces.append(piece)
+        size += len(piece)
+        if size > MOST_BYTES:
+            break
+    return b"".join(pieces)
 
 
 def _standard_input() -> bytes:
     if sys.stdin is None:
         raise OSError("standard input is closed")
     try:
-        return sys.stdin.buffer.read(MOST_BYTES + 1)
+        return _bounded(sys.stdin.buffer)
     except OSError as fault:
         raise OSError(fault.errno, fault.strerror, "standard input") from fault
 
@@ -98,6 +118,8 @@ class Sheet:
         self.rows: Optional[List[List[str]]] = None
         # What a refusal says of other sheets, and the lines that are one merged cell.
         self.others = ""
+        # Whether any cell may have an apostrophe that is taken off.
+        self.has_guards = True
         self.merged: Set[int] = set()
         file, own_name = file_and_sheet(path)
         if os.path.splitext(file)[1].lower() == ".xlsx":
@@ -105,17 +127,19 @@ class Sheet:
         elif name is not None:
             self.refuse("only a workbook, .xlsx, has sheets: not with --sheet")
         else:
-            self._take_text(_content_of(path), reading)
+            self._take_text(content_of(path), reading)
 
     def _take_workbook(self, path: str, comma: bool, name: Optional[str], preferred: Optional[str],
                        reading: Reading) -> None:
-        from .read_workbook import WorkbookFault, listed_sheets, read_workbook
+        from .read_workbook import listed_sheets, read_workbook
+        from .sheet_scan import WorkbookFault
         self.has_bom, self.has_hint, self.separator, self.encoding = False, False, ";" if comma else ",", "utf-8"
         try:
             self.rows, read, names, self.merged = read_workbook(path, comma, name, preferred, self.skipped)
         except WorkbookFault as fault:
             self.refuse(str(fault), fault.line, fault.column)
         if len(names) > 1 and name is None and read != preferred:
+            path = shown_path(path)
             self.others = f" (in the sheet {quoted(read)} of {listed_sheets(names)}: {path}#SHEET reads another)"
             reading.say(f"{path}: the sheet {quoted(read)} was read, of {len(names)}: {path}#SHEET reads another")
 
@@ -127,13 +151,17 @@ class Sheet:
         except Undecodable as fault:
             self.refuse(str(fault), None if fault.place is None else data.count(b"\n", 0, fault.place) + 1)
         if is_guess:
-            reading.say(f"{self.path}: read as {self.encoding}, since it is no UTF-8; --encoding names another")
+            reading.say(f"{shown_path(self.path)}: read as {self.encoding}, since it is no UTF-8; --encoding names another")
+        del data
         self.text = _after_lines(text, self.skipped)
-        first = re.split("[\r\n]", self.text.lstrip("\r\n"), maxsplit=1)[0]
+        self.has_guards = "'" in self.text and any(map(self.text.__contains__, GUARDS))
+        begin, end = cast(Match[str], FIRST_LINE.match(self.text)).span(1)
         # Spreadsheets write this line ahead of the title to name the separator.
+        first = self.text[begin:min(end, begin + len('"sep=;"') + 1)]
         self.has_hint = re.fullmatch('"?sep=.?"?', first, re.IGNORECASE) is not None
         hinted = first.strip('"')[4:]
-        self.separator = hinted if self.has_hint and hinted in SEPARATORS and hinted else separator_of(first)
+        self.separator = (hinted if self.has_hint and hinted in SEPARATORS and hinted
+                          else separator_of(self.text, begin, end))
 
     def refuse(self, text: str, line: Optional[int] = None, column: Optional[int] = None) -> NoReturn:
         """Raises the fault of this file."""
@@ -143,19 +171,36 @@ class Sheet:
         """The records that aren't empty, each with the number of its first line; cells without the white space around
         them."""
         if self.rows is not None:
-            yield from ((line, cells) for line, cells in enumerate(map(_stripped, self.rows), self.skipped + 1)
+            yield from ((line, cells) for line, cells in enumerate(map(self._cleaned, self.rows), self.skipped + 1)
                         if any(cells))
             return
-        reader = csv.reader(_lines_of(self.text), delimiter=self.separator, strict=True)
+        reader = csv.reader(self._lines(0), delimiter=self.separator, strict=True)
         line = self.skipped + 1
         try:
             for cells in reader:
-                cells = _stripped(cells)
+                cells = self._cleaned(cells)
                 if any(cells) and not self._is_hint(line):
                     yield line, cells
                 line = self.skipped + reader.line_num + 1
         except csv.Error as error:
-            self.refuse(f"no CSV: {error}", line)
+            self.refuse(_in_words(error), line)
+
+    def _lines(self, begin: int) -> Iterator[str]:
+        """The lines of the text from a place on. Raises `csv.Error` before a record has more cells than it may."""
+        cells, is_open = 1, False
+        for line in _lines_of(self.text, begin, self.separator):
+            cells = (cells if is_open else 1) + line.count(self.separator)
+            if cells > MOST_CELLS:
+                cells -= sum(line.count(self.separator, *part.span()) for part in QUOTED[is_open].finditer(line))
+            if cells > MOST_CELLS:
+                raise csv.Error(MANY_CELLS)
+            is_open ^= line.count('"') % 2 == 1
+            yield line
+
+    def _cleaned(self, cells: List[str]) -> List[str]:
+        """A record without white space around its cells, and without the apostrophes that guard them."""
+        cells = _stripped(cells)
+        return list(map(unguarded, cells)) if self.has_guards else cells
 
     def _is_hint(self, line: int) -> bool:
         """Whether this line only names the separator."""
@@ -191,11 +236,11 @@ class Sheet:
         begin, line = yield from self._plain_blocks(width)
         begun = begin > 0
         for lines, rows in self._raw_blocks(begin, line):
-            columns = _columns(rows, width) if begun else None
+            columns = _columns(rows, width) if begun and not self.has_guards else None
             if columns is not None:
                 yield lines, columns
                 continue
-            records = [(line, cells) for line, cells in zip(lines, map(_stripped, rows)) if any(cells)
+            records = [(line, cells) for line, cells in zip(lines, map(self._cleaned, rows)) if any(cells)
                        and not self._is_hint(line)]
             body, fault = self._of_width(records if begun else records[1:], width), None
             begun = begun or bool(records)
@@ -217,6 +262,8 @@ class Sheet:
             return 0, self.skipped + 1
         while begin < len(self.text):
             end = self.text.find("\n", begin + PIECE) + 1 or len(self.text)
+            if end - begin > 2 * PIECE:
+                break
             columns = _plain_columns(self.text[begin:end], self.separator, width)
             if columns is None:
                 break
@@ -228,7 +275,7 @@ class Sheet:
         """Where the second line begins, if the first one is the title and has no quotes; else 0."""
         end = self.text.find("\n") + 1
         title = self.text[:end].replace("\r\n", "\n")
-        is_plain = not self.has_hint and title.replace(self.separator,
+        is_plain = not self.has_hint and not self.has_guards and title.replace(self.separator,
                                                        "").strip() and '"' not in title and "\r" not in title
         return end if is_plain else 0
 
@@ -238,7 +285,7 @@ class Sheet:
         if self.rows is not None:
             yield range(self.skipped + 1, self.skipped + len(self.rows) + 1), self.rows
             return
-        reader = csv.reader(_lines_of(self.text, begin), delimiter=self.separator, strict=True)
+        reader = csv.reader(self._lines(begin), delimiter=self.separator, strict=True)
         lines: Sequence[int] = (line,)
         fault: Optional[csv.Error] = None
         while fault is None:
@@ -252,25 +299,34 @@ class Sheet:
                 yield lines[:-1], rows
             elif fault is None:
                 return
-        self.refuse(f"no CSV: {fault}", lines[-1])
+        self.refuse(_in_words(fault), lines[-1])
 
     def name(self, cell: str, line: int, column: int) -> str:
-        """A cell as a name, with a blank for each line break; letters with accents are one name however they are
-        written."""
-        if not cell.isprintable():
-            cell = LINE_BREAKS.sub(" ", cell)
-        if not cell:
-            self.refuse("an empty name", line, column)
-        if not cell.isprintable() and any(unicodedata.category(letter) == "Cc" for letter in cell):
-            self.refuse(f"a control character in the name {quoted(cell)}", line, column)
-        return unicodedata.normalize("NFC", cell)
+        """A cell as a name, as `as_name` makes it."""
+        try:
+            return as_name(cell)
+        except NoName as fault:
+            self.refuse(str(fault), line, column)
 
 
-def separator_of(first: str) -> str:
-    """What stands most between the cells of a first line; `,` where nothing does."""
-    bare = re.sub('"[^"]*"', "", first)
-    most = max(SEPARATORS, key=bare.count)
-    return most if most in bare else ","
+def separator_of(text: str, begin: int, end: int) -> str:
+    """What stands most between the cells of a first line, which is a part of a text; `,` where nothing does."""
+    if text.find('"', begin, end) >= 0:
+        text = re.sub('"[^"]*"', "", text[begin:end])
+        begin, end = 0, len(text)
+    counts = [text.count(mark, begin, end) for mark in SEPARATORS]
+    return SEPARATORS[counts.index(max(counts))] if any(counts) else ","
+
+
+def _in_words(fault: object) -> str:
+    """What Python's reader of CSV says, in our words."""
+    text = str(fault)
+    for part, words in (("field limit", f"a cell of more than {csv.field_size_limit()} characters"),
+                        ("end of data", "no CSV: the quotes around a cell aren't closed"),
+                        ("expected after", "no CSV: text after the quotes around a cell"), (MANY_CELLS, MANY_CELLS)):
+        if part in text:
+            return words
+    return "no CSV"
 
 
 def _after_lines(text: str, count: int) -> str:
@@ -281,14 +337,26 @@ def _after_lines(text: str, count: int) -> str:
     return text[end.end():] if end else ""
 
 
-def _lines_of(text: str, begin: int = 0) -> Iterator[str]:
-    """The lines of a text from a place on, with their ends, of any make."""
+def _lines_of(text: str, begin: int, separator: str) -> Iterator[str]:
+    """The lines of a text from a place on, with their ends, of any make. Raises `csv.Error` for a line that alone has
+    more cells than a record may."""
     while begin < len(text):
         end = text.find("\n", begin + PIECE) + 1 or len(text)
+        if end - begin > PIECE + MOST_CELLS:
+            end = text.rfind("\n", begin, begin + PIECE) + 1 or end
+            if _has_many(text, begin, end, separator):
+                raise csv.Error(MANY_CELLS)
         piece = text[begin:end]
         is_plain = not any(map(piece.__contains__, OTHER_ENDS))
         yield from piece.splitlines(True) if is_plain else re.findall("[^\r\n]*(?:\r\n?|\n)|[^\r\n]+", piece)
         begin = end
+
+
+def _has_many(text: str, begin: int, end: int, separator: str) -> bool:
+    """Whether a part of a text is one line with more cells than a record may have, and without quotes. No copy of it is
+    made."""
+    is_line = text.find("\n", begin, end - 1) < 0 and text.find("\r", begin, end - 2) < 0
+    return is_line and text.find('"', begin, end) < 0 and text.count(separator, begin, end) >= MOST_CELLS
 
 
 def _numbered(rows: List[List[str]], first: int, last: Optional[int]) -> Sequence[int]:

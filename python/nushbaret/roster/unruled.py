@@ -5,7 +5,7 @@ from typing import Iterator, Optional
 from .answer import counted, listed, named
 from .dates import weekdays_among
 from .month import WEEK, Before, Month, undated
-from .names import quoted
+from .names import quoted, shown_path
 from .roster import Roster, alike
 from .rule_file import WEEKLY, Rules
 
@@ -35,18 +35,18 @@ def left_out(roster: Roster, before: Optional[Before]) -> Iterator[str]:
     gone = [person for person in dict.fromkeys(person for person, _, _ in before.pairs)
             if person not in roster.person_numbers]
     if gone:
-        yield f"{before.path}: the roster has no {listed(gone, list(range(len(gone))))}"
+        yield f"{shown_path(before.path)}: the roster has no {listed(gone, list(range(len(gone))))}"
     names = [] if roster.groups is None else undated(roster.groups, before)
     if names:
         shown = listed(names, list(range(len(names))))
-        yield (f"{before.path}: the groups' file doesn't list {counted(len(names), roster.titles[1])} ({shown}): no "
+        yield (f"{shown_path(before.path)}: the groups' file doesn't list {counted(len(names), roster.titles[1])} ({shown}): no "
                "rule looks at them")
 
 
 def kinds_alike(path: str, month: Month) -> Iterator[str]:
     """Lines on kinds that differ in case or spaces alone: a rule is for the one that it names."""
     for kinds in alike(month.kinds):
-        yield f"{path}: the kinds {', '.join(map(quoted, kinds))} differ in case or spaces alone"
+        yield f"{shown_path(path)}: the kinds {', '.join(map(quoted, kinds))} differ in case or spaces alone"
 
 
 def other_holidays(rules: Rules, month: Month) -> Iterator[str]:
@@ -54,7 +54,7 @@ def other_holidays(rules: Rules, month: Month) -> Iterator[str]:
     names = [month.name(day) for day in sorted(rules.holidays) if not month.known <= day <= month.last]
     if names:
         are = "1 holiday isn't a day" if len(names) == 1 else f"{len(names)} holidays aren't days"
-        yield f"{rules.path}: {are} of the roster ({listed(names, list(range(len(names))))})"
+        yield f"{shown_path(rules.path)}: {are} of the roster ({listed(names, list(range(len(names))))})"
 
 
 def days_in_order(path: str, rules: Rules, month: Month) -> Iterator[str]:
@@ -67,7 +67,7 @@ def days_in_order(path: str, rules: Rules, month: Month) -> Iterator[str]:
     apart = [(one, other) for one, other in zip(names, names[1:]) if one in weekdays and other in weekdays
              and weekdays[other].isdisjoint((day + 1) % WEEK for day in weekdays[one])]
     if apart:
-        yield f"{path}: {apart[0][1]} counts as the day after {apart[0][0]}: only dates leave days out"
+        yield f"{shown_path(path)}: {apart[0][1]} counts as the day after {apart[0][0]}: only dates leave days out"
     first = month.name(month.begin)
     if 0 not in weekdays.get(first, {0}) and any(rule.per == WEEKLY for rule in rules.rules):
-        yield f"{path}: weeks begin with {first}: only those of dates begin on Monday"
+        yield f"{shown_path(path)}: weeks begin with {first}: only those of dates begin on Monday"

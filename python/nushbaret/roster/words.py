@@ -10,6 +10,7 @@ from ..costs.reading import MOST_UNIT_DECIMALS
 from ..lap.library import VERSION
 from .encodings import WESTERN
 from .files import KINDS, Output, OutputFault, print_content
+from .names import shown_path
 from .roster import LINES, MATRIX
 from .sheets import file_and_sheet
 
@@ -218,6 +219,16 @@ class _Help(argparse.HelpFormatter):
 class _Parser(argparse.ArgumentParser):
     """A parser that says in one line why words are refused."""
 
+    def _print_message(self, message: str, file: Any = None) -> None:
+        """Prints a message; where standard output takes none of it, that is the last line."""
+        if file is not sys.stdout or file is None:
+            super()._print_message(message, file)
+            return
+        try:
+            print_content(message)
+        except OutputFault as fault:
+            self.exit(4, f"{NAME}: {fault}\n")
+
     def error(self, message: str) -> NoReturn:
         for begin, text in (("the following arguments are required: ROSTER", "the file of a roster is needed"),
                             ("argument ", ""), ("unrecognized arguments: ", "one roster at a time, and there is also "
@@ -271,7 +282,7 @@ class _Once(argparse.Action):
                  option_string: Optional[str] = None) -> None:
         before = getattr(namespace, self.dest)
         if before is not None:
-            raise argparse.ArgumentError(self, f"given twice, with {before} and {values}")
+            raise argparse.ArgumentError(self, f"given twice, with {shown_path(before)} and {shown_path(values)}")
         setattr(namespace, self.dest, values)
 
 
@@ -401,10 +412,10 @@ def _judge_files(options: Options, refuse: Callable[[str], NoReturn]) -> None:
     if "-" in read[1:]:
         refuse("only the roster can come from standard input")
     if options.sheet is not None and file_and_sheet(options.roster)[1] is not None:
-        refuse(f"--sheet and {options.roster} both name a sheet")
+        refuse(f"--sheet and {shown_path(options.roster)} both name a sheet")
     seen = {os.path.realpath(file_and_sheet(path)[0]) for path in read if path}
     for path in options.written:
         file = os.path.realpath(path)
         if file in seen:
-            refuse(f"{path} is named twice, or is read too")
+            refuse(f"{shown_path(path)} is named twice, or is read too")
         seen.add(file)

@@ -1,7 +1,8 @@
 """Files of certificates: rows, a plan where there is one, and a tree, as lists of whole numbers in a text."""
 import pathlib
 import re
-from typing import Dict, List, NamedTuple, Optional, Sequence, Union
+from array import array
+from typing import Callable, Dict, Iterator, List, NamedTuple, Optional, Sequence, Union
 
 from .model import Certificate, Limits, bounds_costs
 
@@ -9,7 +10,12 @@ _HEAD = "nushbaret rows 1"
 _LISTS = ("n", "starts", "variables", "coefficients", "least", "most", "plan", "tree")
 # A whole number of 64 bits has at most 19 digits.
 _NUMBER = re.compile("-?[0-9]{1,19}")
+_LETTERS = b"-0123456789 \t\r\n\v\f"
+_SPACE = re.compile(r"\s")
 _LEAST, _MOST = -2**63, 2**63 - 1
+# About so many letters of a line are looked at in one go.
+_PIECE = 2**16
+_MOST_BYTES = 2**30
 
 
 class CertificateFault(ValueError):
@@ -20,13 +26,24 @@ class Lists(NamedTuple):
     """A certificate's lists: rows as starts, variables and coefficients, and bounds, None where there is none."""
 
     n: int
-    starts: List[int]
-    variables: List[int]
-    coefficients: List[int]
-    least: List[Optional[int]]
-    most: List[Optional[int]]
-    plan: List[int]
-    tree: List[int]
+    starts: Sequence[int]
+    variables: Sequence[int]
+    coefficients: Sequence[int]
+    least: Sequence[Optional[int]]
+    most: Sequence[Optional[int]]
+    plan: Sequence[int]
+    tree: Sequence[int]
+
+    @property
+    def last(self) -> Optional[Limits]:
+        """The last row, if there is one."""
+        return self.row(len(self.least) - 1) if self.least else None
+
+    def row(self, number: int) -> Limits:
+        """A row by its number, from 0."""
+        first, last = self.starts[number], self.starts[number + 1]
+        terms = tuple(zip(self.variables[first:last], self.coefficients[first:last]))
+        return Limits(self.least[number], terms, self.most[number])
 
 
 def lists_of(certificate: Certificate) -> Lists:
@@ -42,20 +59,23 @@ def lists_of(certificate: Certificate) -> Lists:
 
 def certificate_of(lists: Lists) -> Certificate:
     """The certificate of lists whose lengths fit; raises `CertificateFault` where they don't."""
-    starts, rows = lists.starts, []
+    refuse_unfit(lists)
+    rows = tuple(map(lists.row, range(len(lists.least))))
+    return Certificate(lists.n, rows, tuple(lists.plan) if lists.plan else None, tuple(lists.tree))
+
+
+def refuse_unfit(lists: Lists) -> None:
+    """Raises `CertificateFault` where the lists are those of no certificate."""
+    starts = lists.starts
     fits = len(lists.variables) == len(lists.coefficients) and len(lists.least) == len(lists.most) == len(starts) - 1
-    if not starts or starts[0] != 0 or sorted(starts) != starts or starts[-1] != len(lists.variables) or not fits:
+    if not starts or starts[0] != 0 or sorted(starts) != list(starts) or starts[-1] != len(lists.variables) or not fits:
         raise CertificateFault("the lists of rows don't fit one another")
-    if lists.n < 0 or any(not 0 <= variable < lists.n for variable in lists.variables):
+    if lists.n < 0 or lists.variables and not (0 <= min(lists.variables) and max(lists.variables) < lists.n):
         raise CertificateFault("a row names a variable that isn't there")
     if len(lists.plan) not in (0, lists.n) or not set(lists.plan) <= {0, 1}:
         raise CertificateFault(f"the plan isn't {lists.n} times 0 or 1")
-    for row, (first, last) in enumerate(zip(starts, starts[1:])):
-        terms = tuple(zip(lists.variables[first:last], lists.coefficients[first:last]))
-        rows.append(Limits(lists.least[row], terms, lists.most[row]))
-    if lists.plan and not bounds_costs(rows):
+    if lists.plan and not bounds_costs([lists.last] if lists.last else []):
         raise CertificateFault("with a plan the last row bounds its cost: it needs an upper bound, and no lower one")
-    return Certificate(lists.n, tuple(rows), tuple(lists.plan) if lists.plan else None, tuple(lists.tree))
 
 
 def certificate_text(certificate: Certificate) -> str:
@@ -72,30 +92,78 @@ def certificate_text(certificate: Certificate) -> str:
 
 def certificate_from(text: str) -> Certificate:
     """The certificate of a file's text. Raises `CertificateFault` for the first line that is wrong."""
-    lines = text.split("\n")
+    return certificate_of(lists_from(text))
+
+
+def lists_from(text: str) -> Lists:
+    """The lists of a file's text, as they stand there. Raises `CertificateFault` for the first line that is wrong."""
+    lines = text.split("\n", len(_LISTS) + 1)
     if lines[0].rstrip("\r") != _HEAD:
         raise CertificateFault(f"line 1: it isn't {_HEAD!r}")
-    if len(lines) < len(_LISTS) + 1 or any(line.strip() for line in lines[len(_LISTS) + 1:]):
+    if len(lines) < len(_LISTS) + 1 or "".join(lines[len(_LISTS) + 1:]).strip():
         raise CertificateFault(f"there must be {len(_LISTS) + 1} lines")
-    found: Dict[str, List[Optional[int]]] = {}
+    bounds: Dict[str, List[Optional[int]]] = {"least": [], "most": []}
+    whole: Dict[str, "array[int]"] = {name: array("q") for name in _LISTS if name not in bounds}
     for number, (name, line) in enumerate(zip(_LISTS, lines[1:]), 2):
-        words = line.split()
-        if words[:1] != [name]:
+        begin = len(line) - len(line.lstrip())
+        if line[begin:].split(None, 1)[:1] != [name]:
             raise CertificateFault(f"line {number}: it doesn't begin with {name!r}")
-        found[name] = [_number(word, number, name in ("least", "most")) for word in words[1:]]
-    if len(found["n"]) != 1:
+        for piece in _pieces(line, begin + len(name)):
+            if name in bounds:
+                bounds[name] += _bounds(piece, number)
+            else:
+                whole[name].extend(_numbers(piece, number))
+    if len(whole["n"]) != 1:
         raise CertificateFault("line 2: one number is needed")
-    whole = {name: [value for value in values if value is not None] for name, values in found.items()}
-    return certificate_of(Lists(whole["n"][0], whole["starts"], whole["variables"], whole["coefficients"],
-                                found["least"], found["most"], whole["plan"], whole["tree"]))
+    return Lists(whole["n"][0], whole["starts"], whole["variables"], whole["coefficients"], bounds["least"],
+                 bounds["most"], whole["plan"], whole["tree"])
 
 
-def _number(word: str, line: int, may_be_absent: bool) -> Optional[int]:
-    if may_be_absent and word == "-":
-        return None
-    if _NUMBER.fullmatch(word) is None or not _LEAST < int(word) < _MOST:
-        raise CertificateFault(f"line {line}: {word[:40]!r} is no whole number of 64 bits")
-    return int(word)
+def _pieces(line: str, begin: int) -> Iterator[str]:
+    """Many whole words of a line at a time, from a place on."""
+    while 0 <= begin < len(line):
+        found = _SPACE.search(line, begin + _PIECE)
+        yield line[begin:found.start()] if found else line[begin:]
+        begin = found.start() if found else -1
+
+
+class _Small(Dict[str, int]):
+    """The numbers of few digits by their words, which are looked up faster than read; others are read."""
+
+    def __missing__(self, word: str) -> int:
+        return int(word)
+
+
+_SMALL = _Small({str(number): number for number in range(-99, 1000)})
+# Words are looked up where they have so many letters on average, with the blank.
+_FEW = 4
+
+
+def _numbers(piece: str, line: int) -> "array[int]":
+    """Words as whole numbers; raises `CertificateFault` for the first that is none of 64 bits."""
+    words = piece.split()
+    is_plain = len(piece) <= 2 * _PIECE and not piece.encode().translate(None, _LETTERS)
+    try:
+        if is_plain and str(_MOST) not in piece and str(_LEAST) not in piece:
+            read: Callable[[str], int] = _SMALL.__getitem__ if len(words) * _FEW > len(piece) else int
+            return array("q", list(map(read, words)))
+    except (ValueError, OverflowError):
+        pass
+    fault = next((word for word in words if not _is_number(word)), None)
+    if fault is not None:
+        raise CertificateFault(f"line {line}: {fault[:40]!r} is no whole number of 64 bits")
+    return array("q", list(map(int, words)))
+
+
+def _is_number(word: str) -> bool:
+    return _NUMBER.fullmatch(word) is not None and _LEAST < int(word) < _MOST
+
+
+def _bounds(piece: str, line: int) -> List[Optional[int]]:
+    """Words as bounds, `-` where there is none."""
+    words = piece.split()
+    numbers = iter(_numbers(" ".join(word for word in words if word != "-"), line))
+    return [None if word == "-" else next(numbers) for word in words]
 
 
 def write_certificate(path: Union[str, "pathlib.Path"], certificate: Certificate) -> None:
@@ -106,7 +174,15 @@ def write_certificate(path: Union[str, "pathlib.Path"], certificate: Certificate
 
 def read_certificate(path: Union[str, "pathlib.Path"]) -> Certificate:
     """Reads a certificate. Raises `CertificateFault` where the file is none, OSError where it can't be read."""
+    return certificate_of(read_lists(path))
+
+
+def read_lists(path: Union[str, "pathlib.Path"]) -> Lists:
+    """Reads a certificate's lists, as they stand in its file. Raises `CertificateFault` where they are none, OSError
+    where it can't be read."""
+    if pathlib.Path(path).stat().st_size > _MOST_BYTES:
+        raise CertificateFault(f"longer than {_MOST_BYTES} bytes")
     try:
-        return certificate_from(pathlib.Path(path).read_bytes().decode("ascii"))
+        return lists_from(pathlib.Path(path).read_bytes().decode("ascii"))
     except UnicodeDecodeError:
         raise CertificateFault("it isn't a text of ASCII characters") from None

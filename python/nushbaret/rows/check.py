@@ -1,7 +1,8 @@
 """The check of certificates: by the library's proved check, or here in Python's whole numbers."""
 from typing import Dict, Iterator, List, NamedTuple, Optional, Sequence, Tuple
 
-from .library import shown_by_library
+from .certificates import Lists, certificate_of, refuse_unfit
+from .library import lists_shown_by_library, shown_by_library
 from .model import Certificate, Limits, Terms, bounds_costs
 
 MOST_DEPTH = 1000
@@ -24,6 +25,13 @@ def shows(certificate: Certificate) -> bool:
     The library says so; where it isn't there, or a number is beyond 64 bits, this module does."""
     is_shown = shown_by_library(certificate)
     return shows_here(certificate) if is_shown is None else is_shown
+
+
+def lists_show(lists: Lists) -> bool:
+    """The same of a certificate's lists; raises `CertificateFault` where they don't fit one another."""
+    refuse_unfit(lists)
+    is_shown = lists_shown_by_library(lists)
+    return shows_here(certificate_of(lists)) if is_shown is None else is_shown
 
 
 def shows_here(certificate: Certificate) -> bool:

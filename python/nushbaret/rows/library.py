@@ -5,6 +5,7 @@ from itertools import chain
 from typing import Any, Iterable, List, Optional, Tuple
 
 from ..lap.library import LibraryNotFound, address
+from .certificates import Lists
 from .model import Certificate
 
 SHOWN = 0
@@ -52,18 +53,36 @@ def _bounds(values: Iterable[Optional[int]], absent: int) -> "array[int]":
 def shown_by_library(certificate: Certificate) -> Optional[bool]:
     """Whether the library shows a certificate's claim; None where it can't decide: it isn't there, or a number is too
     great."""
-    call = _rows_call()
-    if call is None or _says_no_bound(certificate) or (certificate.plan is not None and certificate.variables == 0):
+    if _says_no_bound(certificate) or (certificate.plan is not None and certificate.variables == 0):
         return None
     try:
-        lists = _lists(certificate)
+        return _shown(certificate.variables, _lists(certificate))
     except (OverflowError, ValueError):
+        return None
+
+
+def lists_shown_by_library(lists: Lists) -> Optional[bool]:
+    """The same of a certificate's lists, which fit one another."""
+    if _NO_LEAST in lists.least or _NO_MOST in lists.most:
+        return None
+    try:
+        return _shown(lists.n, (array("Q", lists.starts), array("I", lists.variables), array("q", lists.coefficients),
+                                _bounds(lists.least, _NO_LEAST), _bounds(lists.most, _NO_MOST), array("B", lists.plan),
+                                array("q", lists.tree)))
+    except (OverflowError, ValueError):
+        return None
+
+
+def _shown(variables: int, lists: Tuple["array[Any]", ...]) -> Optional[bool]:
+    """What the library says of its lists."""
+    call = _rows_call()
+    if call is None:
         return None
     info, spare = _Info(), array("q", [0])
     arguments: List[Any] = []
     for values in lists:
         arguments += (values.buffer_info()[0] if values else spare.buffer_info()[0], len(values))
-    code = call(certificate.variables, *arguments, ctypes.byref(info))
+    code = call(variables, *arguments, ctypes.byref(info))
     return None if code in _UNDECIDED else bool(code == SHOWN)
 
 

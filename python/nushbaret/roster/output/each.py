@@ -7,15 +7,16 @@ from typing import Dict, Iterator, List, NamedTuple, Optional, Sequence, Set, Tu
 from ..answer import NamedPlan, listed
 from ..blocks import Block, blocks_of, group_of, labels_of
 from ..dates import Dates, dates_of
+from ..names import shown_path
 from ..roster import OldPlan, Roster
 from ..times import Times
 from .calendar import Event, calendar
 from .html import document, name, ours, scrolling, style_of
 
 PAGE, CALENDAR = ".html", ".ics"
-# Letters that some system forbids in the name of a file, and names that Windows keeps for itself.
+# Letters that some system forbids in the name of a file, and names that Windows keeps for itself; a raised 1 counts as 1.
 FORBIDDEN = frozenset('<>:"/\\|?*')
-RESERVED = frozenset(("con", "prn", "aux", "nul", *(f"{word}{number}" for word in ("com", "lpt")
+RESERVED = frozenset(("con", "prn", "aux", "nul", "conin$", "conout$", *(f"{word}{number}" for word in ("com", "lpt")
                                                     for number in range(1, 10))))
 MOST_OCTETS = 200
 
@@ -65,10 +66,10 @@ def lines_on_calendars(roster: Roster, plan: NamedPlan, folder: str) -> List[str
     """What is said of calendars that aren't written, or that leave something out."""
     dates, groups = dates_of_groups(roster), roster.groups
     if dates.all is None:
-        return [f"{folder}: no calendars are written: {dates.why}"]
+        return [f"{shown_path(folder)}: no calendars are written: {dates.why}"]
     rest = sorted({pair.object for pair in plan.pairs if group_of(roster, pair.object) is None})
     title = "" if groups is None else groups.title
-    return [f"{folder}: the calendars leave out what has no {title}: {listed(roster.objects, rest)}"] if rest else []
+    return [f"{shown_path(folder)}: the calendars leave out what has no {title}: {listed(roster.objects, rest)}"] if rest else []
 
 
 def times_at(roster: Roster, object_: int) -> Optional[Times]:
@@ -155,5 +156,5 @@ def _stem(text: str) -> str:
     """A name as a file may be called, without its end."""
     stem = "".join("_" if letter in FORBIDDEN or not letter.isprintable() else letter for letter in text).strip(" .")
     stem = stem.encode("utf-8", "replace")[:MOST_OCTETS].decode("utf-8", "ignore").rstrip(" .") or "_"
-    is_reserved = stem.partition(".")[0].strip().casefold() in RESERVED
+    is_reserved = _key(stem.partition(".")[0].strip()) in RESERVED
     return "_" + stem if is_reserved or stem[0] in "-~" else stem

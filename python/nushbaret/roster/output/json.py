@@ -6,7 +6,8 @@ from typing import Callable, Dict, List, Sequence
 from ..answer import NamedPlan, Pair, ShortGroup
 from ..changes import by_person, changes_of
 from ..groups import missing_of
-from ..roster import FORMAT, OldPlan, Roster, decimal_text
+from ..plan_json import FORMAT
+from ..roster import OldPlan, Roster, decimal_text
 from .texts import Hand, Report, only_there, worse_by
 
 Content = Dict[str, object]

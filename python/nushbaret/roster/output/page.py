@@ -6,7 +6,7 @@ from typing import Dict, Iterator, List, NamedTuple, Optional, Sequence, Set, Tu
 
 from ..answer import Answer, NamedPlan, Pair, ShortGroup, counted, left_out
 from ..groups import order_of
-from ..names import MOST_NAMES, joined
+from ..names import MOST_NAMES, joined, shown_path
 from ..roster import Roster
 from .days import by_days
 from .html import LIGHT_SHADES, classes, document, name, scrolling, style_of, words
@@ -127,7 +127,7 @@ def _compared(roster: Roster, hand: Hand) -> Iterator[str]:
               for person in own.persons for object_ in own.objects if person in roster.person_numbers
               and object_ in roster.object_numbers}
     plan = NamedPlan([Pair(*pair, cost, False) for pair, cost in sorted(pairs.items())], 0, [], [], {})
-    yield f"<p>{words(f'{hand.plan.path}: what breaks a rule is framed')}</p>\n"
+    yield f"<p>{words(f'{shown_path(hand.plan.path)}: what breaks a rule is framed')}</p>\n"
     yield from by_days(roster, plan, None, False, frozenset(broken.intersection(pairs)))
 
 

@@ -5,9 +5,10 @@ from collections import Counter
 from typing import TYPE_CHECKING, Dict, Iterator, List, NamedTuple, Optional, Sequence, Tuple
 
 from ..answer import MOST_NAMES_SHOWN, PLURALS, Answer, Fair, NamedPlan, Pair, counted, left_out, named, sentence
+from ..cells import guarded
 from ..changes import Lost, OfPerson, by_person, changes_of
 from ..groups import Broken, Counts, order_of
-from ..names import joined, marked, quoted, with_names_marked
+from ..names import joined, marked, quoted, shown_path, with_names_marked
 from ..roster import CHANGE, COMES, GOES, NOT_POSSIBLE, TITLES, OldPlan, PlanLine, Roster, alike, like
 from ..sheets import SEPARATORS
 from ..words import Options
@@ -65,10 +66,10 @@ def read_lines(path: str, roster: Roster, on_terminal: bool) -> List[str]:
                                                                                    roster.titles[1])
         lines.append(f"{persons}, {objects}, {counted(len(roster.costs), 'pair')}{_rule(roster)}")
     groups = alike(roster.persons) + alike(roster.objects)
-    lines += [f"{path}: {', '.join(map(quoted, group))} differ in case or spaces alone"
+    lines += [f"{shown_path(path)}: {', '.join(map(quoted, group))} differ in case or spaces alone"
               for group in groups[:MOST_NAMES_SHOWN]]
     if len(groups) > MOST_NAMES_SHOWN:
-        lines.append(f"{path}: and {len(groups) - MOST_NAMES_SHOWN} more of these names")
+        lines.append(f"{shown_path(path)}: and {len(groups) - MOST_NAMES_SHOWN} more of these names")
     return lines
 
 
@@ -124,7 +125,7 @@ def forgotten_line(roster: Roster, counts: Counts, side: int) -> Optional[str]:
         return None
     bound = "" if roster.least is None else "exactly " if side else "at most "
     takes = "takes" if len(numbers) == 1 else "each takes"
-    return f"{counts.path}: no line for {named(numbers, roster.titles[side], names)}: {takes} {bound}one"
+    return f"{shown_path(counts.path)}: no line for {named(numbers, roster.titles[side], names)}: {takes} {bound}one"
 
 
 def gone_line(plan: OldPlan, roster: Roster) -> str:
@@ -132,7 +133,7 @@ def gone_line(plan: OldPlan, roster: Roster) -> str:
     names = [name for name in roster.persons + roster.objects if name not in plan.gone]
     near = [like(name, names) if len(plan.gone) <= MOST_NAMES_SHOWN else [] for name in plan.gone]
     shown = [name + (f" (did you mean {' or '.join(those)}?)" if those else "") for name, those in zip(plan.gone, near)]
-    return f"{plan.path}: the roster has no {', '.join(shown)}"
+    return f"{shown_path(plan.path)}: the roster has no {', '.join(shown)}"
 
 
 def first_lines(report: Report) -> List[str]:
@@ -231,7 +232,7 @@ def notes_of(report: Report, plan: NamedPlan) -> List[Note]:
 def _of_rules(report: Report, proved: "Proved") -> List[Note]:
     """How even counts are, and whether fewer changes may be enough."""
     from .rule_texts import even_lines
-    fewer = [Note(f"{report.kept.path}: fewer changes may be enough")] if report.kept and proved.fewer_changes else []
+    fewer = [Note(f"{shown_path(report.kept.path)}: fewer changes may be enough")] if report.kept and proved.fewer_changes else []
     return [*map(Note, even_lines(report.roster, proved, report.options.max)), *fewer]
 
 
@@ -333,7 +334,7 @@ def changes(roster: Roster, plan: NamedPlan, kept: OldPlan) -> Note:
     counts += [(str(len(found.goes)) if counts else counted(len(found.goes), "pair"))
                + _goes(found.goes)] if found.goes else []
     details = [f"{own.person}: {'; '.join(_words_of(own))}" for own in by_person(roster, found)]
-    return Note(f"{kept.path}: {', '.join(counts) or 'no pair changes'}", details + _lost_lines(found.lost))
+    return Note(f"{shown_path(kept.path)}: {', '.join(counts) or 'no pair changes'}", details + _lost_lines(found.lost))
 
 
 def _comes(those: Sequence[object]) -> str:
@@ -363,7 +364,7 @@ def broken_rules(hand: Optional[Hand]) -> List[Note]:
     if hand is None or not hand.broken:
         return []
     count = len(hand.broken)
-    return [Note(f"{hand.plan.path}: breaks {count} rule{'' if count == 1 else 's'}",
+    return [Note(f"{shown_path(hand.plan.path)}: breaks {count} rule{'' if count == 1 else 's'}",
                  [broken.sentence for broken in hand.broken])]
 
 
@@ -392,7 +393,7 @@ def compared(report: Report, plan: NamedPlan, hand: Hand) -> Note:
     rest = ", which misses less" if hand.lack > hand.best_lack > 0 else rest
     is_best = report.options.change_cost is None if report.proved is None else report.proved.better == 0
     best = "the best" if is_best else "this plan"
-    return Note(f"{own.path}: {roster.shown(cost)}{of_pairs}, {size} {best}{rest}",
+    return Note(f"{shown_path(own.path)}: {roster.shown(cost)}{of_pairs}, {size} {best}{rest}",
                 [f"there {roster.persons[pair.person]}: {roster.objects[pair.object]}, {roster.shown(pair.cost)}"
                  for pair in only_there(plan, own)])
 
@@ -406,8 +407,10 @@ def as_csv(roster: Roster, plan: NamedPlan, kept: Optional[OldPlan] = None) -> s
     writer = csv.writer(text, delimiter=roster.separator, lineterminator="\n")
     titles = (*roster.titles, *([CHANGE] if kept else ()))
     # Readers take the separator from the title line, so no other may seem to be there.
-    csv.writer(text, delimiter=roster.separator, lineterminator="\n", quoting=_title_quoting(roster)).writerow(titles)
-    writer.writerows(_lines_of(roster, plan) if kept is None else _lines_with_changes(roster, plan, kept))
+    csv.writer(text, delimiter=roster.separator, lineterminator="\n",
+               quoting=_title_quoting(roster)).writerow(map(guarded, titles))
+    lines = _lines_of(roster, plan) if kept is None else _lines_with_changes(roster, plan, kept)
+    writer.writerows(map(guarded, line) for line in lines)
     return text.getvalue()
 
 

@@ -5,7 +5,9 @@ from decimal import Decimal
 from typing import Any, List
 
 from ..answer import NamedPlan, left_out
+from ..cells import kept_apart
 from ..files import OutputFault
+from ..names import shown_path
 from ..roster import PLAN_SHEET, Roster, decimal_text
 from .day_sheets import add_days
 from .page import MOST_CELLS, costs_by_person, frame_of
@@ -23,7 +25,7 @@ def need_openpyxl(path: str) -> Any:
     try:
         import openpyxl
     except ImportError:
-        raise OutputFault(f"{path}: a workbook is written where openpyxl is installed; elsewhere write .csv") from None
+        raise OutputFault(f"{shown_path(path)}: a workbook is written where openpyxl is installed; elsewhere write .csv") from None
     return openpyxl
 
 
@@ -118,8 +120,8 @@ def _put_row(sheet: Any, row: int, texts: List[str]) -> None:
 
 
 def _put(sheet: Any, row: int, column: int, text: str) -> None:
-    """Writes a text: also one that begins as a formula does."""
-    put_text(sheet.cell(row, column), text)
+    """Writes a text: also one that begins as a formula does. Readers find it as it is."""
+    put_text(sheet.cell(row, column), kept_apart(text))
 
 
 def _put_cost(sheet: Any, row: int, column: int, roster: Roster, units: int) -> Any:
