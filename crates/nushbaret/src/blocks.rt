@@ -29,17 +29,16 @@ pub extern "C" fn nushbaret_block(
     better_costs: &mut [Cost],
     info: &mut Info,
 ) -> i32
-    ensures {
-        let before = record {
-          least = least.old;
-          own = own.old;
-          better = record {
-            persons = better_persons.old;
-            objects = better_objects.old;
-            costs = better_costs.old;
-          };
-          info = info.old;
-        } in
+    ensures { let before = record {
+      least = least.old;
+      own = own.old;
+      better = record {
+        persons = better_persons.old;
+        objects = better_objects.old;
+        costs = better_costs.old;
+      };
+      info = info.old;
+    } in
         let after = record {
           least = least.new;
           own = own.new;
