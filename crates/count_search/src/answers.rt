@@ -83,7 +83,7 @@ impl Answers {
         })
     }
 
-    // Whether no pair that the row has is worse than another of its group, or has another beside it.
+    // Whether no pair that the row has is worse than another of its group, or has another next to it.
     fn keeps_groups(&mut self, state: &mut State, row: Row<'_>) -> Result<bool, AllocError> {
         self.offer_groups(state, row)?;
         let mut held = 0u32;

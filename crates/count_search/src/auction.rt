@@ -24,7 +24,7 @@ pub struct Terms {
     pub budget: u64,
 }
 
-/// The slots of columns, and of staying out behind them: those that rows hold, those that the dummy row
+/// The slots of columns, and of staying out after them: those that rows hold, those that the dummy row
 /// holds, and those that nobody holds.
 #[derive(Drop)]
 pub struct Auction {
@@ -40,7 +40,7 @@ pub struct Auction {
     pub dummy_held: Vec<u32>,
     pub dummy_most: Vec<u32>,
     pub dummy_levels: Vec<i64>,
-    /// How many slots the dummy row wants still, and in all.
+    /// How many slots the dummy row still needs, and in all.
     pub dummy_hands: u64,
     pub dummies: u64,
     /// Hands of rows that hold nothing, and that hold staying out.
@@ -53,7 +53,7 @@ pub struct Auction {
     pub places: Vec<u32>,
 }
 
-/// The sizes of an auction: rows, columns, how many slots the dummy row wants, and how many hands of
+/// The sizes of an auction: rows, columns, how many slots the dummy row needs, and how many hands of
 /// rows may stay out.
 #[derive(Clone, Copy)]
 pub struct Sizes {

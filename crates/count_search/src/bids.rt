@@ -246,7 +246,7 @@ impl Auction {
         Ok(())
     }
 
-    /// The dummy row bids until it holds as many slots as it wants.
+    /// The dummy row bids until it holds as many slots as it needs.
     pub fn bid_dummy(&mut self, state: &mut State) {
         for _turn in self.bids..=self.terms.budget {
             if self.dummy_hands == 0 || self.is_failed {

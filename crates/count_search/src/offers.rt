@@ -120,7 +120,7 @@ fn narrow(offers: &mut [Offer], part: Part, count: usize) -> Option<Part> {
     Some(Part { from: last, ..part })
 }
 
-/// Brings the least so many offers to the front, and the next one behind them (Hoare 1961).
+/// Brings the least so many offers to the front, and the next one after them (Hoare 1961).
 pub fn select(offers: &mut [Offer], count: usize) {
     let mut part = Part {
         from: 0,

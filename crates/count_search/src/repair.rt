@@ -1,6 +1,6 @@
 // Exact repair: every row answers the prices, and shortest paths (Dijkstra's) over columns bring what
 // columns have too much to where they lack. An edge from a column to another is a row that leaves the
-// one and takes the other. A node behind the columns stands for staying out and for slots that nobody
+// one and takes the other. A node after the columns stands for staying out and for slots that nobody
 // needs.
 use super::answers::Answers;
 use super::edges::{Edge, FREE_EDGE, NO_EDGE, Scan};

@@ -99,7 +99,7 @@ impl Auction {
         Ok(())
     }
 
-    // The best value of other groups; the others of a group that it holds are told to its offer.
+    // The best value of other groups; the others of a group that it holds go to its offer.
     fn best_left(&mut self, state: &State, row: Row<'_>, stamp: u64) -> i64 {
         let mut left = FAR;
         for (k, (column, cost)) in row.columns.iter().zip(row.costs).enumerate() {

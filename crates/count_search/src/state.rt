@@ -165,7 +165,7 @@ impl State {
         false
     }
 
-    /// Stamps the groups that a row takes, but for that of one pair.
+    /// Stamps the groups that a row takes, except that of one pair.
     pub fn mark_taken(&mut self, row: Row<'_>, but: u32, stamp: u64) {
         for (k, column) in row.columns.iter().enumerate() {
             let pair = place_at(row.first.wrapping_add(k));
@@ -274,7 +274,7 @@ impl State {
         base
     }
 
-    /// The greatest price but for those that are out of reach.
+    /// The greatest price, except those that are out of reach.
     pub fn top(&self) -> i64 {
         let mut top = FAR.wrapping_neg();
         for price in &self.prices {

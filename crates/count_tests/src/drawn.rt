@@ -1,4 +1,4 @@
-// Drawn problems of every shape, beside a plain search of all plans: fresh, in pieces, and from a plan.
+// Drawn problems of every shape, next to a plain search of all plans: fresh, in pieces, and from a plan.
 use super::held::{Held, Lists};
 use super::plain::{are_numbers, cost_of, least_cost};
 use count_search::{Found, Record};

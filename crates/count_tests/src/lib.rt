@@ -1,4 +1,4 @@
-//! Tests of the search for plans of counts: problems worked by hand, and drawn ones beside a plain
+//! Tests of the search for plans of counts: problems worked by hand, and drawn ones next to a plain
 //! search of all plans.
 #![tactic(auto)]
 
