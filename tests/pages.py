@@ -35,7 +35,7 @@ MOST_OF_PAGE = {"README.md": 1430, "SECURITY.md": 175, "bench/README.md": 1130,
                 "docs/ARCHITECTURE.md": 1345, "docs/CALLING.md": 585, "docs/CONTRIBUTING.md": 725,
                 "docs/DECISIONS.md": 1430, "docs/FORMATS.md": 1965, "docs/MODELLING.md": 1040, "docs/PROOFS.md": 1095,
                 "docs/PROVED.md": 3280, "docs/PYTHON.md": 1565, "docs/RATTLE.md": 335, "docs/ROSTERS.md": 1765,
-                "docs/RULES.md": 865, "docs/SCRIPTS.md": 720, "docs/TESTING.md": 650}
+                "docs/RULES.md": 1400, "docs/SCRIPTS.md": 720, "docs/TESTING.md": 650}
 UNCOUNTED = (GENERATED, "CHANGELOG.md")
 # The sources whose comments avoid the same words, the beginning of these comments, and code in them.
 COMMENTS = {"crates/*/src/**/*.rt": re.compile(r"(?:.*\s)?\s*//"), "crates/*/specs/**/*.antt": re.compile(r"\s*--"),

@@ -11,6 +11,8 @@ from nushbaret.roster.roster import PlanLine
 from nushbaret.roster.roster_rows import built
 from nushbaret.roster.rule_file import RuleLine, rules_of
 from nushbaret.roster.rules_kept import broken_by, plan_of
+from nushbaret.roster.shortages import shorts_of, sums_of
+from nushbaret.rows.check import shows
 from nushbaret.rows.finding import find
 from nushbaret.rows.model import Model, Row
 from drawn_rules import SHAPES, drawn_lines, roster_of, with_earlier, with_past
@@ -164,6 +166,36 @@ class Reasons(unittest.TestCase):
                 self.assertTrue(has_plan(model, [row for row in model.rows if row.text in finding.reasons
                                                  and row.text != left]), left)
         self.assertEqual(tried, 12)
+
+    def test_sums(self):
+        """No plan that keeps rules and the counts of persons has more of a sum that is short than is said, and each
+        certificate of it is refused with one more."""
+        tried = exact = 0
+        for seed in itertools.count(4000):
+            case = drawn(seed)
+            if searched(*case) is not None:
+                continue
+            roster, month, rules, past, options = case
+            found = built(roster, rules, month, Request(past))
+            sums = sums_of(found, month)
+            finding = find(found.rows.model(), SECONDS, sums=[own.rows for own in sums])
+            self.assertTrue(finding.conflicts or finding.shortages)
+            loose = roster._replace(least=(roster.least[0], {}))
+            plans = [plan for plan in ([*past, *filter(None, choice)] for choice in itertools.product(*options))
+                     if keeps_counts(loose, plan) and not broken_by(plan_of(loose, rules, month, plan))]
+            for short in shorts_of(found, sums, finding.shortages):
+                had = [sum(pair.object in short.objects for pair in plan) for plan in plans]
+                self.assertLessEqual(max(had, default=0), short.had)
+                self.assertEqual(short.wanted, sum(roster.least[1][object_] for object_ in short.objects))
+                self.assertLess(short.had, short.wanted)
+                tried, exact = tried + 1, exact + (max(had, default=0) == short.had)
+            for one in finding.shortages:
+                last = one.certificate.rows[-1]
+                less = (*one.certificate.rows[:-1], last._replace(least=one.had))
+                self.assertFalse(shows(one.certificate._replace(rows=less)))
+            if tried >= 30:
+                break
+        self.assertGreater(exact, 20)
 
     def test_least_counts_are_missed_and_no_rule(self):
         """With as many as can the plan misses the fewest, and then costs the least."""

@@ -2,16 +2,17 @@
 from typing import Dict, List, Optional
 
 from ..answer import NamedPlan
-from ..by_rules import BEST, Proved, Reason
+from ..by_rules import BEST, BY_COUNTS, Proved, Reason, Why
 from ..names import MOST_NAMES, joined
 from ..roster import Roster, decimal_text
+from ..shortages import MOST_LINES
 
 Content = Dict[str, object]
 
 
 def first_lines(roster: Roster, plan: Optional[NamedPlan], proved: Proved, maximize: bool) -> List[str]:
     """Why no plan keeps the rules, or what the plan costs and what is proved of it."""
-    lines = reason_lines(proved) if proved.is_impossible else []
+    lines = reason_lines(proved)
     if plan is not None:
         return [*lines, *_missing_lines(proved), _cost_line(roster, plan, proved, maximize)]
     if proved.is_fullest_open:
@@ -21,12 +22,33 @@ def first_lines(roster: Roster, plan: Optional[NamedPlan], proved: Proved, maxim
 
 
 def reason_lines(proved: Proved) -> List[str]:
-    """The sentences that can't hold together."""
+    """The sums that are short, and the sentences that can't hold together, as far as these are few lines; none where a
+    plan keeps all."""
+    if not proved.is_impossible:
+        return []
     around = "around the past, " if proved.is_around_past else ""
-    rest = ("together they can't hold:" if proved.is_minimal
-            else "together they can't hold, and maybe fewer of them can't:")
-    return [f"{around}no plan keeps these rules, proved: {rest}",
-            *("  " + sentence_of(reason) for reason in proved.reasons)]
+    first = proved.whys[0] if proved.whys else Why([])
+    if first.by != BY_COUNTS and len(first.reasons) > MOST_LINES:
+        return [f"{around}no plan keeps these rules, proved: {len(first.reasons)} sentences can't hold together"]
+    lines = [around + ("no plan meets these counts, whatever the rules, proved:" if first.by == BY_COUNTS
+                       else f"no plan keeps these rules, proved:{_together(first)}"), *_indented(first)]
+    for number, why in enumerate(proved.whys[1:], 1):
+        if len(lines) + len(why.reasons) > MOST_LINES + number:
+            more = len(proved.whys) - number
+            return [*lines, f"and {more} more conflict{'s' if more > 1 else ''}"]
+        lines += [f"and{_together(why)}", *_indented(why)]
+    return lines
+
+
+def _together(why: Why) -> str:
+    """What is said before the reasons."""
+    if why.by:
+        return ""
+    return " together they can't hold" + (":" if why.is_minimal else ", and maybe fewer of them can't:")
+
+
+def _indented(why: Why) -> List[str]:
+    return ["  " + sentence_of(reason) for reason in why.reasons]
 
 
 def sentence_of(reason: Reason) -> str:
@@ -110,6 +132,9 @@ def as_content(roster: Roster, proved: Proved) -> Content:
     if proved.reasons:
         content["reasons"] = [reason._asdict() for reason in proved.reasons]
         content["is_minimal"] = proved.is_minimal
+    if len(proved.whys) > 1 or any(why.by for why in proved.whys):
+        content["conflicts"] = [{"reasons": [reason.sentence for reason in why.reasons], "is_minimal": why.is_minimal,
+                                 **({"short_by": why.by} if why.by else {})} for why in proved.whys]
     if proved.missing:
         content["missing"], content["least_missing"] = proved.missing, proved.least_missing
     if proved.even:

@@ -45,8 +45,10 @@ class Report(NamedTuple):
     @property
     def alarms(self) -> int:
         """How many of the first lines say why there is no plan."""
-        of_rules = len(self.proved.reasons) + 1 if self.proved is not None and self.proved.is_impossible else 0
-        return len(self.answer.groups) + of_rules
+        if self.proved is None:
+            return len(self.answer.groups)
+        from .rule_texts import reason_lines
+        return len(reason_lines(self.proved))
 
 
 class Note(NamedTuple):
@@ -87,9 +89,9 @@ def with_marks(report: Report) -> Report:
     proved = report.proved
     if proved is not None:
         named = [*report.roster.persons, *report.roster.objects]
-        proved = proved._replace(reasons=[reason._replace(sentence=with_names_marked(reason.sentence, named),
-                                                          about=list(map(marked, reason.about)))
-                                          for reason in proved.reasons])
+        proved = proved._replace(whys=[why._replace(reasons=[
+            reason._replace(sentence=with_names_marked(reason.sentence, named), about=list(map(marked, reason.about)))
+            for reason in why.reasons]) for why in proved.whys])
     persons, objects = list(map(marked, report.roster.persons)), list(map(marked, report.roster.objects))
     person, object_, cost = map(_title, report.roster.titles)
     roster = report.roster._replace(persons=persons, objects=objects, groups=groups,
