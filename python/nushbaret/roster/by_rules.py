@@ -14,7 +14,7 @@ from .roster import Roster
 from .roster_rows import Built, OwnRow, built
 from .rule_even import even_counted, even_rules, start_of
 from .rule_file import Rules
-from .rules_kept import broken_by, plan_of as daily_plan_of
+from .rules_kept import Missed, broken_by, missed_by, plan_of as daily_plan_of
 from .shortages import MOST_LINES, PlacesSum, line_of, lines_of_lacks, shorts_of, sums_of
 
 BEST, WITHIN, IMPOSSIBLE, UNDECIDED = "best", "within", "impossible", "undecided"
@@ -76,7 +76,8 @@ class Proved(NamedTuple):
     misses less; `is_fullest_open` says that none that misses some was found. `even` says how even counts are,
     `is_most_even` that no plan is more even, and `otherwise` what a plan without the rules of evenness would cost.
     `fewer_changes` says that fewer changes may be enough. Costs are in units
-    of the roster, those with changes in halves.
+    of the roster, those with changes in halves. `has_prices` says that rules or counts have prices, and `missed` what
+    the plan misses of these.
     """
 
     kind: str
@@ -93,12 +94,19 @@ class Proved(NamedTuple):
     otherwise: Optional["Proved"] = None
     otherwise_cost: Optional[int] = None
     fewer_changes: bool = False
+    has_prices: bool = False
+    missed: Sequence[Missed] = ()
     certificate: Optional[Certificate] = None
 
     @property
     def is_impossible(self) -> bool:
         """Whether no plan keeps all rules and counts."""
         return self.kind == IMPOSSIBLE or bool(self.whys)
+
+    @property
+    def missed_cost(self) -> int:
+        """What the plan pays for what it misses."""
+        return sum(one.cost for one in self.missed)
 
     @property
     def reasons(self) -> List[Reason]:
@@ -147,9 +155,16 @@ def _by_counts(task: Task) -> Optional[Tuple[Answer, Proved]]:
     if pairs is None or exchanges is None or request.kept is not None or task.own or even_rules(task.rules.rules):
         return None
     plan = plan_of(roster, request.fixed, pairs)
-    if broken_by(daily_plan_of(roster, task.rules, task.month, plan.pairs)):
+    daily = daily_plan_of(roster, task.rules, task.month, plan.pairs)
+    if broken_by(daily) or missed_by(daily):
         return None
-    return Answer(plan, []), Proved(BEST, task.seconds, 0, certificate=certificate_of_best(problem, [], exchanges))
+    return Answer(plan, []), Proved(BEST, task.seconds, 0, has_prices=_has_prices(task),
+                                    certificate=certificate_of_best(problem, [], exchanges))
+
+
+def _has_prices(task: Task) -> bool:
+    """Whether any rule, or any place, has a price."""
+    return bool(task.roster.wanted) or any(rule.price is not None for rule in task.rules.rules)
 
 
 def _why(task: Task, stages: "_Stages", finding: Finding) -> Proved:
@@ -303,6 +318,8 @@ class _Stages:
         values = changed.plan if changed.plan is not None else finding.plan or ()
         plan = self._plan(values)
         cost = sum(own for own, value in zip(costs, values) if value)
+        missed = missed_by(daily_plan_of(self.task.roster, self.task.rules, self.task.month, plan.pairs))
+        cost -= self._paid_above(values, sum(one.cost for one in missed))
         better = None if finding.bound is None else cost - finding.bound
         kind = UNDECIDED if better is None else WITHIN if better else BEST
         missing = self._missing
@@ -312,8 +329,18 @@ class _Stages:
                         least_missing=None if missing is None else missing.bound,
                         is_most_even=all(reached.kind == BEST for reached in self._reached),
                         even=self._even(plan) if self.is_even else (),
-                        fewer_changes=changed is not finding and changed.kind != BEST, certificate=finding.certificate)
+                        fewer_changes=changed is not finding and changed.kind != BEST,
+                        has_prices=_has_prices(self.task), missed=missed, certificate=finding.certificate)
         return Answer(plan, []), self._with_otherwise(proved)
+
+    def _paid_above(self, values: Sequence[int], missed: int) -> int:
+        """What values pay for more than the plan misses, in units of their costs: a plan that isn't proved best may
+        have helpers that it needn't."""
+        count, times = len(self.built.pairs), 2 if self.task.request.change is not None else 1
+        paid = sum(own for own, value in zip(self.built.rows.costs[count:], values[count:]) if value)
+        if paid < missed:
+            raise RuntimeError("a plan misses more than its rows say: please report this problem")
+        return (paid - missed) * (times if self.task.request.kept is not None else 1)
 
     def _plan(self, values: Sequence[int]) -> NamedPlan:
         fixed = {(pair.person, pair.object) for pair in self.task.request.fixed}
@@ -365,4 +392,6 @@ class _Stages:
         if finding.plan is None:
             return proved._replace(otherwise=Proved(UNDECIDED, task.seconds))
         answer, others = other.answer(finding)
-        return proved._replace(otherwise=others, otherwise_cost=None if answer.plan is None else answer.plan.cost)
+        sign = -1 if task.request.maximize else 1
+        cost = None if answer.plan is None else answer.plan.cost + sign * others.missed_cost
+        return proved._replace(otherwise=others, otherwise_cost=cost)

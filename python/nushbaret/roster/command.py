@@ -175,10 +175,13 @@ def _read_hand(path: str, roster: Roster, fixed: List[PlanLine], ruling: Optiona
     from .rules import broken_rules, lack_of
     plan, repeated = read_hand_plan(path, roster)
     broken = broken_rules(roster, plan, repeated, fixed)
+    missed = 0
     if ruling is not None:
-        from .ruling import broken_rules_of
-        broken += broken_rules_of(ruling, roster, [*plan.known, *(PlanLine(*pair, 0) for pair in plan.forbidden)])
-    return Hand(plan, broken, lack_of(roster, plan.known, fixed))
+        from .ruling import broken_rules_of, missed_cost_of
+        pairs = [*plan.known, *(PlanLine(*pair, 0) for pair in plan.forbidden)]
+        broken += broken_rules_of(ruling, roster, pairs)
+        missed = missed_cost_of(ruling, roster, pairs)
+    return Hand(plan, broken, lack_of(roster, plan.known, fixed), missed=missed)
 
 
 def _read_past(options: Options, roster: Roster, kept: Optional[OldPlan]) -> Tuple[Roster, Optional[OldPlan],
@@ -215,6 +218,9 @@ def _read(options: Options) -> Roster:
     try:
         tasks = read_counts(options.tasks, roster, False) if options.tasks else None
         capacities = read_counts(options.places, roster, True) if options.places else None
+        if capacities is not None and capacities.wanted and options.rules is None:
+            raise RosterFault(capacities.path, "what is wanted has a price, which a plan by --rules weighs; a rules' "
+                              "file may have its title line alone")
         roster = with_rules(roster, tasks, capacities, read_groups(options.groups, roster, options.before is not None)
                             if options.groups else None)
         forgotten = [forgotten_line(roster, counts, side) for side, counts in ((1, capacities), (0, tasks))

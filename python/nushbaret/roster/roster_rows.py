@@ -98,11 +98,20 @@ def _counts(making: Making, request: Request, may_miss: bool, places: Dict[int, 
     for object_, bounds in enumerate(of_objects):
         if object_ not in roster.past:
             sums[1][object_].is_open = True
+            _wanted(making, sums[1][object_], object_)
             first = len(making.rows.rows)
             missing.update(_bounded(making, sums[1][object_], _with(bounds, used[object_]), 1, object_, may_miss))
             places.update({object_: number for number in range(first, len(making.rows.rows))
                            if making.rows.rows[number].least is not None})
     return missing
+
+
+def _wanted(making: Making, own: Sum, object_: int) -> None:
+    """Prices what an object has less than is wanted."""
+    wanted = making.roster.wanted.get(object_)
+    if wanted is not None:
+        said = Said(f"{wanted.number} wanted", making.roster.objects[object_])
+        making.rows.add_priced(own, wanted.number, None, said, wanted.price)
 
 
 def _with(bounds: Bounds, count: int) -> Bounds:

@@ -6,6 +6,7 @@ from fractions import Fraction
 from typing import Callable, Dict, FrozenSet, List, Match, NamedTuple, NoReturn, Optional, Sequence, Tuple
 
 from .dates import dates_of, spellings
+from .groups import price_of
 from .month import NO_KIND, Month
 from .names import quoted
 from .roster import Roster, like
@@ -45,6 +46,8 @@ class Rule(NamedTuple):
     # Of counts and hours: in each week, or in the month; and whether weekends alone count.
     per: str = MONTHLY
     of_weekends: bool = False
+    # What each unit costs by which it is missed, in units of the roster; None where it has to be kept.
+    price: Optional[int] = None
 
 
 class Rules(NamedTuple):
@@ -56,17 +59,22 @@ class Rules(NamedTuple):
     holidays: FrozenSet[int] = frozenset()
 
 
+# Rules that can't have a price: they say what others count, or go before costs.
+UNPRICED = ("hours_of", "holiday", "even")
+
+
 class RuleLine(NamedTuple):
-    """A line of the file, its three cells, and where it stands."""
+    """A line of the file, its cells, and where it stands."""
 
     rule: str
     value: str
     names: str
     line: int
+    price: str = ""
 
 
 def read_rules(path: str, roster: Roster, month: Month) -> Rules:
-    """Reads rules: a title line, and lines of a rule, its value, and names, none for everybody.
+    """Reads rules: a title line, and lines of a rule, its value, names, none for everybody, and maybe its price.
 
     Raises `RosterFault` for the first rule, kind, name or number that can't be read, with its place; `OSError` where
     the file can't be.
@@ -75,15 +83,17 @@ def read_rules(path: str, roster: Roster, month: Month) -> Rules:
     line, title = sheet.title()
     if _shape_of(title[0]) is not None:
         sheet.refuse(f"a title line must come first, and {quoted(title[0])} is a rule", line, 1)
+    width = 4 if len(title) > 3 and title[3] else 3
     records = sheet.records()
     next(records)
     lines = []
     for line, cells in records:
-        if any(cells[3:]):
-            sheet.refuse(f"{len(cells)} cells, where a rule, a value and names are needed"
-                         + (" (several names in one cell need quotes)" if sheet.separator == "," else ""), line)
-        rule, value, names = (unicodedata.normalize("NFC", cell) for cell in (cells + ["", ""])[:3])
-        lines.append(RuleLine(rule, value, names, line))
+        if any(cells[width:]):
+            rest = ", names and a price" if width > 3 else " and names"
+            sheet.refuse(f"{len(cells)} cells, where a rule, a value{rest} are needed" + (" (several names in one cell need quotes)" if sheet.separator == "," else ""),
+                         line)
+        rule, value, names, price = (unicodedata.normalize("NFC", cell) for cell in (cells + [""] * 3)[:4])
+        lines.append(RuleLine(rule, value, names, line, price if width > 3 else ""))
     return rules_of(sheet.path, lines, roster, month)
 
 
@@ -132,7 +142,21 @@ class _RuleReader:
             self._unknown(line)
         name, words = found
         take: Callable[[RuleLine, Match[str]], None] = getattr(self, "_" + name)
+        price = self._price(line, name)
+        count = len(self.rules)
         take(line, words)
+        self.rules[count:] = [rule._replace(price=price) for rule in self.rules[count:]]
+
+    def _price(self, line: RuleLine, name: str) -> Optional[int]:
+        """What a unit costs by which the rule is missed, in units of the roster; None where it has to be kept."""
+        if not line.price:
+            return None
+        if name in UNPRICED:
+            self._refuse(line, 4, f"{quoted(line.rule)} has no price")
+        try:
+            return price_of(line.price, self._roster)
+        except ValueError as fault:
+            self._refuse(line, 4, str(fault))
 
     def _refuse(self, line: RuleLine, column: int, text: str) -> NoReturn:
         raise RosterFault(self._path, text, line.line, column)
@@ -290,15 +314,19 @@ class _RuleReader:
     def _holiday(self, line: RuleLine, words: Match[str]) -> None:
         if line.names:
             self._refuse(line, 3, "a holiday is for everybody")
+        self.holidays.append(self._day(line, line.value))
+
+    def _day(self, line: RuleLine, text: str) -> int:
+        """A day of the roster by its name, or any date where days are dates."""
         days = {spelling: day for day, name in self._month.names.items() for spelling in spellings(name)}
-        day = days.get(line.value)
+        day = days.get(text)
         if day is None and self._month.are_dates:
-            dates = dates_of([*self._month.names.values(), line.value]).all
+            dates = dates_of([*self._month.names.values(), text]).all
             day = None if dates is None else dates[-1].toordinal()
         if day is None:
-            self._refuse(line, 2, f"{quoted(line.value)} is no day of the roster"
+            self._refuse(line, 2, f"{quoted(text)} is no day of the roster"
                          + (", and no date" if self._month.are_dates else ""))
-        self.holidays.append(day)
+        return day
 
     def need_hours(self, line: RuleLine) -> None:
         """Refuses a rule of hours where any shift has none."""

@@ -1,12 +1,12 @@
 """Rows of a model that say rules: for each rule a function that makes its rows."""
 from fractions import Fraction
-from typing import Callable, Dict, FrozenSet, Iterator, List, NamedTuple, Sequence, Set, Tuple
+from typing import Callable, Dict, FrozenSet, Iterator, List, NamedTuple, Optional, Sequence, Set, Tuple
 
 from ..counts.nodes import Bounds
 from .month import NO_KIND, Month, Shift
 from .roster import Roster
 from .rule_file import APART, COUNT, EVEN, FREE, HOURS, REST, RUN, STAFF, TOGETHER, WEEKLY, WHOLE, Rule, Rules
-from .sums import Rows, Said, Sum, Work
+from .sums import Number, Rows, Said, Sum, Work
 
 # The kinds of a day and of the next one, of which a person has at most one.
 Clique = Tuple[FrozenSet[str], FrozenSet[str]]
@@ -32,6 +32,14 @@ class Making(NamedTuple):
     def hours(self, shift: Shift) -> Fraction:
         return hours_of(self.rules, shift)
 
+    def bound(self, rule: Rule, own: Sum, least: Optional[Number], most: Optional[Number], said: Said,
+              person: Optional[int] = None) -> None:
+        """Bounds a sum as a rule says, or prices by how much it is missed."""
+        if rule.price is None:
+            self.rows.add(own, least, most, said, person)
+        else:
+            self.rows.add_priced(own, least, most, said, rule.price, person)
+
 
 def hours_of(rules: Rules, shift: Shift) -> Fraction:
     """How long a shift is: as the rules say, or by its times."""
@@ -44,9 +52,11 @@ def hours_of(rules: Rules, shift: Shift) -> Fraction:
 
 def add_rules(making: Making) -> None:
     """Adds the rows of all rules, except of those of evenness."""
-    _rest(making, [rule for rule in making.rules.rules if rule.what == REST])
+    _rest(making, [rule for rule in making.rules.rules if rule.what == REST and rule.price is None])
     for rule in making.rules.rules:
-        if rule.what not in (REST, EVEN):
+        if rule.what == REST and rule.price is not None:
+            _priced_rest(making, rule)
+        elif rule.what not in (REST, EVEN):
             MAKERS[rule.what](making, rule)
 
 
@@ -66,6 +76,15 @@ def _rest(making: Making, rules: Sequence[Rule]) -> None:
             for day in range(month.known, month.last):
                 both = making.work.sum(person, [day + 1], other, 1, making.work.sum(person, [day], one))
                 making.rows.add(both, None, 1, said, person)
+
+
+def _priced_rest(making: Making, rule: Rule) -> None:
+    """The same of a rule that has a price, on each day by itself."""
+    month = making.month
+    for person in rule.persons:
+        for day in range(month.known, month.last):
+            both = making.work.on_days(person, [day + 1], rule.after, 1, making.work.on_days(person, [day], rule.kinds))
+            making.bound(rule, both, None, 1, making.said(rule, person), person)
 
 
 def _named(kinds: FrozenSet[str]) -> str:
@@ -96,7 +115,7 @@ def _longest(making: Making, rule: Rule, person: int, most: int) -> None:
     month = making.month
     for day in range(month.known, month.last + 1 - most):
         own = making.work.on_days(person, range(day, day + most + 1), rule.kinds)
-        making.rows.add(own, None, most, making.said(rule, person), person)
+        making.bound(rule, own, None, most, making.said(rule, person), person)
 
 
 def _shortest(making: Making, rule: Rule, person: int, least: int) -> None:
@@ -109,7 +128,7 @@ def _shortest(making: Making, rule: Rule, person: int, least: int) -> None:
             continue
         for other in next_days:
             own = work.on_days(person, [day - 1, other], rule.kinds, -1, work.on_days(person, [day], rule.kinds))
-            making.rows.add(own, None, 0, making.said(rule, person), person)
+            making.bound(rule, own, None, 0, making.said(rule, person), person)
 
 
 class Span(NamedTuple):
@@ -141,7 +160,7 @@ def _count(making: Making, rule: Rule) -> None:
 
 def _bound(making: Making, rule: Rule, person: int, span: Span, own: Sum) -> None:
     own.is_open = span.is_open
-    making.rows.add(own, rule.least if span.is_whole else None, rule.most, making.said(rule, person), person)
+    making.bound(rule, own, rule.least if span.is_whole else None, rule.most, making.said(rule, person), person)
 
 
 def _hours(making: Making, rule: Rule) -> None:
@@ -166,7 +185,7 @@ def _free(making: Making, rule: Rule) -> None:
                 making.rows.add(making.work.sum(person, [day]).add(variable), None, 1, said, person)
             if rule.most is not None:
                 making.rows.add(making.work.sum(person, days).add(variable), 1, None, said, person)
-        making.rows.add(free, rule.least, rule.most, said, person)
+        making.bound(rule, free, rule.least, rule.most, said, person)
 
 
 def _whole(making: Making, rule: Rule) -> None:
@@ -176,7 +195,7 @@ def _whole(making: Making, rule: Rule) -> None:
         for days in weekends:
             for day, other in zip(days, days[1:]):
                 own = making.work.on_days(person, [other], None, -1, making.work.on_days(person, [day]))
-                making.rows.add(own, 0, 0, making.said(rule, person), person)
+                making.bound(rule, own, 0, 0, making.said(rule, person), person)
 
 
 def weekends_with_shifts(month: Month) -> List[List[int]]:
@@ -189,26 +208,39 @@ def _staff(making: Making, rule: Rule) -> None:
     """So many of some persons at each object, if it takes anybody."""
     for object_ in making.work.objects(rule.kinds):
         if making.roster.capacity_of(object_) > 0:
-            making.rows.add(_at(making, rule.persons, object_), rule.least, rule.most,
-                            Said(rule.sentence, making.roster.objects[object_]))
+            making.bound(rule, _at(making, rule.persons, object_), rule.least, rule.most,
+                         Said(rule.sentence, making.roster.objects[object_]))
 
 
 def _apart(making: Making, rule: Rule) -> None:
     """At most one of some persons at an object."""
     for object_ in making.work.objects(None):
-        making.rows.add(_at(making, rule.persons, object_), None, 1,
-                        Said(rule.sentence, making.roster.objects[object_]))
+        making.bound(rule, _at(making, rule.persons, object_), None, 1,
+                     Said(rule.sentence, making.roster.objects[object_]))
 
 
 def _together(making: Making, rule: Rule) -> None:
     """All of some persons at an object, or none."""
     for object_ in making.work.objects(None):
+        alone = None if rule.price is None else making.rows.helper(None, rule.price)
         for person, other in zip(rule.persons, rule.persons[1:]):
             own = _at(making, [person], object_)
             variable = making.work.variables.get((other, object_))
             if variable is not None:
                 own.add(variable, -1)
-            making.rows.add(own, 0, 0, Said(rule.sentence, making.roster.objects[object_]))
+            _both_or_none(making, own, alone, Said(rule.sentence, making.roster.objects[object_]))
+
+
+def _both_or_none(making: Making, own: Sum, alone: Optional[int], said: Said) -> None:
+    """A difference is 0, unless the variable `alone` says that it needn't."""
+    if alone is None:
+        making.rows.add(own, 0, 0, said)
+        return
+    for sign in (1, -1):
+        one = Sum()
+        for variable, factor in own.terms.items():
+            one.add(variable, sign * factor)
+        making.rows.add(one.add(alone, -1), None, 0, said)
 
 
 def _at(making: Making, persons: Sequence[int], object_: int) -> Sum:

@@ -1,10 +1,11 @@
 """What is said of an answer to a roster with rules: exactly what was proved."""
-from typing import Dict, List, Optional
+from typing import Callable, Dict, List, Optional
 
 from ..answer import NamedPlan
 from ..by_rules import BEST, BY_COUNTS, Proved, Reason, Why
 from ..names import MOST_NAMES, joined
 from ..roster import Roster, decimal_text
+from ..rules_kept import Missed
 from ..shortages import MOST_LINES
 
 Content = Dict[str, object]
@@ -73,8 +74,12 @@ def _missing_lines(proved: Proved) -> List[str]:
 
 def _cost_line(roster: Roster, plan: NamedPlan, proved: Proved, maximize: bool) -> str:
     title, own = roster.titles[2], roster.shown(plan.cost)
+    parts = f"({title} {own}, missed {roster.shown(proved.missed_cost)})" if proved.missed else f"({title} {own})"
     if proved.with_changes is not None:
-        title, own = f"{title} with changes", f"{roster.shown_halves(proved.with_changes)} ({title} {own})"
+        title, own = f"{title} with changes", f"{roster.shown_halves(proved.with_changes)} {parts}"
+    elif proved.has_prices:
+        paid = plan.cost + (-proved.missed_cost if maximize else proved.missed_cost)
+        title, own = f"{title} with prices", f"{roster.shown(paid)} {parts}"
     title += f" of {len(plan.pairs)} pairs" if proved.missing else ""
     if proved.kind == BEST:
         less = "has more" if maximize else "costs less"
@@ -115,6 +120,23 @@ def even_lines(roster: Roster, proved: Proved, maximize: bool) -> List[str]:
     return lines
 
 
+def missed_lines(roster: Roster, proved: Proved) -> List[str]:
+    """What is missed of rules and counts with a price, and what that costs: a line for all, and one for each."""
+    if not proved.has_prices:
+        return []
+    if not proved.missed:
+        return ["missed: nothing that has a price"]
+    return [f"missed: {roster.shown(proved.missed_cost)} in all", *map(missed_text(roster), proved.missed)]
+
+
+def missed_text(roster: Roster) -> Callable[[Missed], str]:
+    """What is said of one that is missed."""
+    def text(one: Missed) -> str:
+        times = f"{one.amount} times {roster.shown(one.cost // one.amount)}, " if one.amount > 1 else ""
+        return f"{one.broken.sentence}: {times}{roster.shown(one.cost)}"
+    return text
+
+
 def _otherwise(roster: Roster, cost: str, other: Proved, maximize: bool) -> str:
     if other.kind == BEST:
         return (f"{'greatest' if maximize else 'least'} {cost}, proved: {_no_plan(other, 'the other rules')} "
@@ -137,6 +159,10 @@ def as_content(roster: Roster, proved: Proved) -> Content:
                                  **({"short_by": why.by} if why.by else {})} for why in proved.whys]
     if proved.missing:
         content["missing"], content["least_missing"] = proved.missing, proved.least_missing
+    if proved.has_prices:
+        content["missed_cost"] = decimal_text(proved.missed_cost, roster.decimals, ".")
+        content["missed"] = [{**one.broken._asdict(), "amount": one.amount,
+                              "cost": decimal_text(one.cost, roster.decimals, ".")} for one in proved.missed]
     if proved.even:
         content["even"], content["is_most_even"] = [even._asdict() for even in proved.even], proved.is_most_even
     if proved.otherwise is not None and proved.otherwise_cost is not None:
