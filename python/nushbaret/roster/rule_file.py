@@ -90,8 +90,8 @@ def read_rules(path: str, roster: Roster, month: Month) -> Rules:
     for line, cells in records:
         if any(cells[width:]):
             rest = ", names and a price" if width > 3 else " and names"
-            sheet.refuse(f"{len(cells)} cells, where a rule, a value{rest} are needed" + (" (several names in one cell need quotes)" if sheet.separator == "," else ""),
-                         line)
+            hint = " (several names in one cell need quotes)" if sheet.separator == "," else ""
+            sheet.refuse(f"{len(cells)} cells, where a rule, a value{rest} are needed{hint}", line)
         rule, value, names, price = (unicodedata.normalize("NFC", cell) for cell in (cells + [""] * 3)[:4])
         lines.append(RuleLine(rule, value, names, line, price if width > 3 else ""))
     return rules_of(sheet.path, lines, roster, month)

@@ -458,8 +458,8 @@ class Plans(Files):
         self.rules("Night per month,0,", "shifts per month,1,Ada", "shifts per month,1,Ben", "hours of,Early 8,",
                    "hours of,Night 8,", "hours per month,40-,Cleo")
         self.expect(1, "no plan keeps these rules, proved:\n  4 objects (Night) from 2027-03-05 to 2027-03-08 are "
-                    "needed, nobody may take any: 4 too few (Night per month: 0)\nand together they can't hold:\n  2-4 "
-                    "objects (Ada, Ben)\n  shifts per month: 1 (Ada, Ben)\nand together they can't hold:\n  Night per month: 0 "
+                    "needed, nobody may take any: 4 too few (Night per month: 0)\nand together they can't hold:\n  "
+                    "2-4 objects (Ada, Ben)\n  shifts per month: 1 (Ada, Ben)\nand together they can't hold:\n  Night per month: 0 "
                     "(Cleo)\n  hours per month: 40- (Cleo)\n", "", *WORDS)
 
     def test_days_that_are_refused(self):
