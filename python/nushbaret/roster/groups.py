@@ -13,13 +13,14 @@ from .times import Times, columns_of, times_of
 
 
 class Counts(NamedTuple):
-    """How many names take, by their numbers; whether any line has two numbers; the file; and how many objects should
-    take."""
+    """How many names take, by their numbers; whether any line has two numbers; the file; how many objects should take,
+    and the persons of groups, by the groups' titles and names."""
 
     bounds: Dict[int, Bounds]
     are_ranges: bool
     path: str
     wanted: Dict[int, Wanted] = {}
+    teams: Dict[Tuple[str, str], List[int]] = {}
 
 
 def read_counts(path: str, roster: Roster, of_objects: bool) -> Counts:
@@ -42,13 +43,30 @@ def read_counts(path: str, roster: Roster, of_objects: bool) -> Counts:
     bounds: Dict[int, Bounds] = {}
     are_ranges = False
     limit = len(roster.persons if of_objects else roster.objects)
-    for line, cells in _lines(sheet, len(title)):
+    teams: Dict[Tuple[str, str], List[int]] = {}
+    first = len(title) if of_objects else _first_team(sheet, title)
+    for line, cells in _lines(sheet, len(title), first):
+        others, cells = (cells[first:], cells[:first]) if first < len(title) else ([], cells)
         number = known(sheet, roster, cells[0], line, 2 if of_objects else 1, 1)
         if number in bounds:
             sheet.refuse(f"the name {quoted(cells[0])} a second time", line, 1)
         bounds[number] = _bounds(sheet, cells[1:], limit, line)
         are_ranges = are_ranges or len(cells) == 3
-    return Counts(bounds, are_ranges, path)
+        for column, name in zip(title[first:], others):
+            if column and name:
+                teams.setdefault((column, name), []).append(number)
+    return Counts(bounds, are_ranges, path, teams=teams)
+
+
+def _first_team(sheet: Sheet, title: Sequence[str]) -> int:
+    """The first column, from 0, that has groups of persons: the fourth, or the third where it has no number but
+    words."""
+    if len(title) < 3:
+        return len(title)
+    records = sheet.records()
+    next(records)
+    thirds = [cells[2] for _, cells in records if len(cells) > 2 and cells[2]]
+    return 2 if thirds and not any(map(looks_like_number, thirds)) else 3
 
 
 # The titles of columns of places that have a price.
@@ -132,12 +150,17 @@ def price_of(text: str, roster: Roster) -> int:
     return int(found[1] + part.ljust(roster.decimals, "0"))
 
 
-def _lines(sheet: Sheet, width: int) -> Iterator[Tuple[int, List[str]]]:
-    """The lines after the title, each with a name and one number or two. An empty cell below a third title is an empty
-    number."""
+def _lines(sheet: Sheet, width: int, first: int) -> Iterator[Tuple[int, List[str]]]:
+    """The lines after the title, each with a name and one number or two, and from the cell `first` on with groups. An
+    empty cell below a third title is an empty number."""
     records = sheet.records()
     next(records)
     for line, cells in records:
+        if first < width:
+            if any(cells[width:]):
+                sheet.refuse(f"{len(cells)} cells, where the title has {width}", line)
+            yield line, (cells + [""] * width)[:width]
+            continue
         if any(cells[max(width, 3):]):
             sheet.refuse(f"{len(cells)} cells, where a name and one or two numbers are needed", line)
         has_two = len(cells) > 2 and (width > 2 or cells[2] != "")
@@ -255,7 +278,7 @@ def with_rules(roster: Roster, tasks: Optional[Counts], capacities: Optional[Cou
                                   for counts in (tasks, capacities))
         least = of_persons, {**dict.fromkeys(range(len(roster.objects)), 1), **of_objects}
     return roster._replace(tasks=most[0], capacities=most[1], least=least, groups=groups,
-                           wanted=capacities.wanted if capacities else {})
+                           wanted=capacities.wanted if capacities else {}, teams=tasks.teams if tasks else {})
 
 
 class Broken(NamedTuple):

@@ -132,7 +132,8 @@ class Roster(NamedTuple):
     whether any cost was changed by rounding, `has_bom` whether the file began with a BOM, `is_matrix` whether it is a
     matrix, and `by_persons` whether the pairs stand person by person. `encoding` is that of the file, and `reading` how
     other files are read. Of the objects in `past` nothing is planned, and of the persons in `gone` the past alone is
-    known. `wanted` says of some objects how many persons they should take."""
+    known. `wanted` says of some objects how many persons they should take, and `teams` who is in a group, by its title
+    and its name."""
 
     persons: List[str]
     objects: List[str]
@@ -158,6 +159,15 @@ class Roster(NamedTuple):
     past: FrozenSet[int] = frozenset()
     gone: FrozenSet[int] = frozenset()
     wanted: Mapping[int, Wanted] = {}
+    teams: Mapping[Tuple[str, str], Sequence[int]] = {}
+
+    def persons_of(self, text: str) -> Sequence[int]:
+        """The persons of a group, which is named by its title and its name (`skill: senior`), or by its name where no
+        other title has it; none where there is none."""
+        title, colon, name = (part.strip() for part in text.partition(":"))
+        named = [own for (one, other), own in self.teams.items()
+                 if (other == text if not colon else (one, other) == (title, name))]
+        return named[0] if len(named) == 1 else ()
 
     @property
     def ruled(self) -> bool:

@@ -5,11 +5,14 @@ from typing import Callable, Dict, FrozenSet, Iterator, List, NamedTuple, Option
 from ..counts.nodes import Bounds
 from .month import NO_KIND, Month, Shift
 from .roster import Roster
-from .rule_file import APART, COUNT, EVEN, FREE, HOURS, REST, RUN, STAFF, TOGETHER, WEEKLY, WHOLE, Rule, Rules
+from .rule_file import (AFTER, APART, COUNT, EVEN, FREE, HOURS, OFF, PAUSE, REST, RUN, STAFF, TOGETHER, WEEKEND_RUN,
+    WEEKLY, WHOLE, WINDOW, Rule, Rules)
 from .sums import Number, Rows, Said, Sum, Work
 
 # The kinds of a day and of the next one, of which a person has at most one.
 Clique = Tuple[FrozenSet[str], FrozenSet[str]]
+# The minutes of a day.
+MINUTES = 24 * 60
 
 
 class Making(NamedTuple):
@@ -167,7 +170,109 @@ def _hours(making: Making, rule: Rule) -> None:
     """So many hours in a week or in the month."""
     for person in rule.persons:
         for span in spans_of(making.month, rule):
-            _bound(making, rule, person, span, making.work.sum(person, span.days, weight=making.hours))
+            own = making.work.sum(person, span.days, weight=making.hours)
+            own.past += sum(making.rules.credits.get((person, day), 0) for day in span.days)
+            _bound(making, rule, person, span, own)
+
+
+def _window(making: Making, rule: Rule) -> None:
+    """So many shifts in any days side by side, so many as the rule says."""
+    month = making.month
+    for person in rule.persons:
+        for day in range(month.known, month.last + 2 - rule.length):
+            own = making.work.sum(person, range(day, day + rule.length), rule.kinds)
+            making.bound(rule, own, rule.least, rule.most, making.said(rule, person), person)
+
+
+def _off(making: Making, rule: Rule) -> None:
+    """So many days without a shift one after the other at least, between days with one, and at most."""
+    month, work = making.month, making.work
+    for person in rule.persons:
+        said = making.said(rule, person)
+        if rule.most is not None:
+            for day in range(month.known, month.last + 1 - int(rule.most)):
+                making.bound(rule, work.on_days(person, range(day, day + int(rule.most) + 1)), 1, None, said, person)
+        for day in range(month.known + 1, month.last + 1) if rule.least is not None else ():
+            for other in range(day + 1, min(day + int(rule.least or 0), month.last + 1)):
+                own = work.on_days(person, [day], None, -1, work.on_days(person, [day - 1, other]))
+                making.bound(rule, own, None, 1, said, person)
+
+
+def _after(making: Making, rule: Rule) -> None:
+    """After a run of so many days of a kind, that doesn't go on, so many days without a shift."""
+    month, work = making.month, making.work
+    for person in rule.persons:
+        for day in range(month.known, month.last + 1 - rule.length):
+            after = day + rule.length
+            for free in range(after, min(after + int(rule.least or 0), month.last + 1)):
+                own = work.on_days(person, range(day, after), rule.kinds)
+                own = work.on_days(person, [free], None, 1, work.on_days(person, [after], rule.kinds, -1, own))
+                making.bound(rule, own, None, rule.length, making.said(rule, person), person)
+
+
+def _pause(making: Making, rule: Rule) -> None:
+    """So many minutes between shifts of two days. Those that end late exclude those that begin early; a row for each
+    time at which a shift ends says so."""
+    month, work = making.month, making.work
+    for person in rule.persons:
+        for day in range(month.known, month.last):
+            for other in range(day + 1, min(day + 2 + rule.length // MINUTES, month.last + 1)):
+                gap = rule.length - (other - day) * MINUTES
+                short: Optional[int] = None
+                for end in sorted({ends(shift) for shift in work.shifts(person, day)}):
+                    own = work.sum_where(person, day, _ends_from(end), Sum())
+                    own = work.sum_where(person, other, _begins_before(end + gap), own)
+                    short = _not_both(making, rule, own, short, person)
+
+
+def _not_both(making: Making, rule: Rule, own: Sum, short: Optional[int], person: int) -> Optional[int]:
+    """At most one of a sum, unless a variable that has the rule's price says that it needn't; that variable, which
+    several rows may share."""
+    said = making.said(rule, person)
+    if rule.price is None or len(own.terms) + own.past < 2:
+        making.rows.add(own, None, 1, said, person)
+        return short
+    if own.is_open and own.past < 2:
+        short = making.rows.helper(person, rule.price) if short is None else short
+        making.rows.add(own.add(short, -1), None, 1, said, person)
+    return short
+
+
+def _ends_from(minute: int) -> Callable[[Shift], bool]:
+    return lambda shift: ends(shift) >= minute
+
+
+def _begins_before(minute: int) -> Callable[[Shift], bool]:
+    return lambda shift: begins(shift) < minute
+
+
+def ends(shift: Shift) -> int:
+    """When a shift ends, in minutes of its day."""
+    return 0 if shift.times is None else shift.times.end
+
+
+def begins(shift: Shift) -> int:
+    """When a shift begins, in minutes of its day."""
+    return 0 if shift.times is None else shift.times.begin
+
+
+def _weekend_run(making: Making, rule: Rule) -> None:
+    """At most so many weekends with shifts one after the other: of one more any is free."""
+    weekends, most = making.month.weekends, int(rule.most or 0)
+    if making.month.are_past(weekends):
+        return
+    for person in rule.persons:
+        said, free = making.said(rule, person), []
+        for days in weekends:
+            free.append(making.rows.helper(person))
+            for day in days:
+                making.rows.add(making.work.sum(person, [day]).add(free[-1]), None, 1, said, person)
+        for first in range(len(weekends) - most):
+            if not all(any(making.work.had(person, day) for day in days) for days in weekends[first:first + most + 1]):
+                own = Sum()
+                for variable in free[first:first + most + 1]:
+                    own.add(variable)
+                making.bound(rule, own, 1, None, said, person)
 
 
 def _free(making: Making, rule: Rule) -> None:
@@ -255,4 +360,6 @@ def _at(making: Making, persons: Sequence[int], object_: int) -> Sum:
 
 
 MAKERS: Dict[str, Callable[[Making, Rule], None]] = {RUN: _run, COUNT: _count, HOURS: _hours, FREE: _free,
-                                                     WHOLE: _whole, STAFF: _staff, APART: _apart, TOGETHER: _together}
+                                                     WHOLE: _whole, STAFF: _staff, APART: _apart, TOGETHER: _together,
+                                                     WINDOW: _window, OFF: _off, AFTER: _after, PAUSE: _pause,
+                                                     WEEKEND_RUN: _weekend_run}

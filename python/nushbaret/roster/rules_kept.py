@@ -8,8 +8,9 @@ from .groups import Broken, Paired
 from .month import WEEK, Month, Shift
 from .names import joined
 from .roster import Roster
-from .rule_file import APART, COUNT, EVEN, FREE, HOURS, REST, RUN, STAFF, TOGETHER, WEEKLY, WHOLE, Rule, Rules
-from .rule_rows import hours_of, weekends_with_shifts
+from .rule_file import (AFTER, APART, COUNT, EVEN, FREE, HOURS, OFF, PAUSE, REST, RUN, STAFF, TOGETHER, WEEKEND_RUN,
+    WEEKLY, WHOLE, WINDOW, Rule, Rules)
+from .rule_rows import MINUTES, begins, ends, hours_of, weekends_with_shifts
 from .sums import Kinds, is_of
 
 # A shift that a person has, and its object, where the roster has it.
@@ -188,7 +189,9 @@ def _bounded(plan: DailyPlan, rule: Rule, of: Callable[[Sequence[Had]], Fraction
             days = [day for day in span if not rule.of_weekends or month.is_weekend(day)]
             own = plan.all_on(person, days, rule.kinds)
             still = [day for day in days or span if not month.is_past(day)]
-            total, planned = of(own), of(plan.all_on(person, still, rule.kinds))
+            credits = plan.rules.credits if rule.what == HOURS else {}
+            credit = sum((credits.get((person, day), Fraction(0)) for day in span), Fraction(0))
+            total, planned = of(own) + credit, of(plan.all_on(person, still, rule.kinds))
             too_many = rule.most is not None and total > rule.most and planned > 0
             too_few = is_whole and rule.least is not None and total < rule.least and bool(still)
             if too_many or too_few:
@@ -217,6 +220,79 @@ def _count(plan: DailyPlan, rule: Rule) -> Iterator[Breach]:
 def _hours(plan: DailyPlan, rule: Rule) -> Iterator[Breach]:
     return _bounded(plan, rule, lambda own: sum((hours_of(plan.rules, shift) for shift, _ in own), Fraction(0)),
                     "hours")
+
+
+def _window(plan: DailyPlan, rule: Rule) -> Iterator[Breach]:
+    month = plan.month
+    for person in rule.persons:
+        for first in range(month.known, month.last + 2 - rule.length):
+            days = range(first, first + rule.length)
+            own = plan.all_on(person, days, rule.kinds)
+            planned = len(plan.all_on(person, [day for day in days if not month.is_past(day)], rule.kinds))
+            too_many = rule.most is not None and len(own) > rule.most and planned > 0
+            too_few = rule.least is not None and len(own) < rule.least and not month.is_past(days[-1])
+            if too_many or too_few:
+                amount = min(len(own) - (rule.most or 0), planned) if too_many else (rule.least or 0) - len(own)
+                yield plan.broken(rule, [person], [object_ for _, object_ in own], f"{plan.roster.persons[person]}: "
+                                  f"{len(own)} in {_from_to(month, days)}", int(amount))
+
+
+def _off(plan: DailyPlan, rule: Rule) -> Iterator[Breach]:
+    """Days without a shift: each stretch by itself."""
+    month = plan.month
+    for person in rule.persons:
+        worked = [day for day in range(month.known, month.last + 1) if plan.on(person, day)]
+        for before, after in zip([month.known - 1, *worked], [*worked, month.last + 1]):
+            off, name = range(before + 1, after), plan.roster.persons[person]
+            over = [day for day in off[int(rule.most):] if not month.is_past(day)] if rule.most is not None else []
+            if over:
+                yield plan.broken(rule, [person], [], f"{name}: {len(off)} days off, {_from_to(month, off)}", len(over))
+            early = [day for day in range(after, min(before + 1 + int(rule.least or 0), month.last + 1))
+                     if plan.on(person, day) and not month.is_past(day)]
+            if early and off and before >= month.known:
+                yield plan.broken(rule, [person], [object_ for _, object_ in plan.all_on(person, early)],
+                                  f"{name}: {len(off)} day{'s' if len(off) > 1 else ''} off, {_from_to(month, off)}",
+                                  len(early))
+
+
+def _after(plan: DailyPlan, rule: Rule) -> Iterator[Breach]:
+    month = plan.month
+    for person in rule.persons:
+        for run in _runs(plan, person, rule.kinds):
+            free = range(run[-1] + 1, min(run[-1] + 1 + int(rule.least or 0), month.last + 1))
+            worked = [day for day in free if plan.on(person, day) and not month.is_past(day)]
+            if len(run) >= rule.length and worked:
+                objects = [object_ for _, object_ in plan.all_on(person, worked)]
+                text = f"{plan.called(plan.on(person, worked[0])[0])} after {_from_to(month, run)}"
+                yield plan.broken(rule, [person], objects, f"{plan.roster.persons[person]}: {text}", len(worked))
+
+
+def _pause(plan: DailyPlan, rule: Rule) -> Iterator[Breach]:
+    month = plan.month
+    for person in rule.persons:
+        for day in range(month.known, month.last):
+            for other in range(day + 1, min(day + 2 + rule.length // MINUTES, month.last + 1)):
+                short = [(one, two) for one in plan.on(person, day) for two in plan.on(person, other)
+                         if (other - day) * MINUTES + begins(two[0]) - ends(one[0]) < rule.length]
+                if short and not month.is_past(other):
+                    one, two = short[0]
+                    yield plan.broken(rule, [person], [one[1], two[1]], f"{plan.roster.persons[person]}: "
+                                      f"{plan.called(two)} after {plan.called(one)}")
+
+
+def _weekend_run(plan: DailyPlan, rule: Rule) -> Iterator[Breach]:
+    month, count = plan.month, int(rule.most or 0) + 1
+    weekends = month.weekends
+    if month.are_past(weekends):
+        return
+    for person in rule.persons:
+        for first in range(len(weekends) + 1 - count):
+            own = weekends[first:first + count]
+            past = [[day for day in days if month.is_past(day)] for days in own]
+            if all(plan.all_on(person, days) for days in own) and not all(plan.all_on(person, days) for days in past):
+                objects = [object_ for days in own for _, object_ in plan.all_on(person, days)]
+                yield plan.broken(rule, [person], objects, f"{plan.roster.persons[person]}: {count} weekends in a row, "
+                                  f"{_from_to(month, [own[0][0], own[-1][-1]])}")
 
 
 def _free(plan: DailyPlan, rule: Rule) -> Iterator[Breach]:
@@ -282,4 +358,6 @@ def _together(plan: DailyPlan, rule: Rule) -> Iterator[Breach]:
 
 READERS: Dict[str, Callable[[DailyPlan, Rule], Iterator[Breach]]] = {REST: _rest, RUN: _run, COUNT: _count,
                                                                      HOURS: _hours, FREE: _free, WHOLE: _whole,
-                                                                     STAFF: _staff, APART: _apart, TOGETHER: _together}
+                                                                     STAFF: _staff, APART: _apart, TOGETHER: _together,
+                                                                     WINDOW: _window, OFF: _off, AFTER: _after,
+                                                                     PAUSE: _pause, WEEKEND_RUN: _weekend_run}

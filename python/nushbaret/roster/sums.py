@@ -155,6 +155,19 @@ class Work:
                 found.past += factor * weight(shift) if is_of(shift, kinds) else 0
         return found
 
+    def sum_where(self, person: int, day: int, test: Callable[[Shift], bool], to: Sum) -> Sum:
+        """Adds what a person has on a day of the shifts that a test accepts."""
+        to.is_open = to.is_open or not self.month.is_past(day)
+        for shift, variable in self._open.get((person, day), ()):
+            if test(shift):
+                to.add(variable)
+        to.past += any(test(shift) for shift in self._past.get((person, day), ()))
+        return to
+
+    def shifts(self, person: int, day: int) -> List[Shift]:
+        """What a person may have, or had, on a day."""
+        return [*(shift for shift, _ in self._open.get((person, day), ())), *self._past.get((person, day), ())]
+
     def on_days(self, person: int, days: Iterable[int], kinds: Kinds = None, factor: Number = 1,
                 to: Optional[Sum] = None) -> Sum:
         """Adds on how many days a person has a shift of some kinds. On a past day it may have had several."""

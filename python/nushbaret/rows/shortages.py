@@ -18,7 +18,8 @@ _DEAR = 1000
 
 class Reached(NamedTuple):
     """How much of a sum can be had at most, and a leaf that shows it: multipliers of the model's rows, without the
-    least sums of counts and of others that the relaxation misses, and of the row `sum >= had + 1`, which comes after them."""
+    least sums of counts and of others that the relaxation misses, and of the row `sum >= had + 1`, which comes
+    after them."""
 
     place: int
     had: int
