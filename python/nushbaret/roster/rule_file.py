@@ -313,8 +313,9 @@ class _RuleReader:
         if len(found) > 1:
             self._refuse(line, column, f"{quoted(kinds.strip())}: one kind as often as it is in a row, as Night "
                          "Night")
-        self._add(line, Rule(AFTER, f"free after {' '.join(run)}: {int(number)}", self._persons(line), found.pop(), None,
-                             Fraction(int(number)), length=len(run)))
+        sentence = f"free after {' '.join(run)}: {int(number)}"
+        self._add(line, Rule(AFTER, sentence, self._persons(line), found.pop(), None, Fraction(int(number)),
+                             length=len(run)))
 
     def _credit(self, line: RuleLine, words: Match[str]) -> None:
         found = re.fullmatch(rf"(.+?)(?:\s*\.\.\s*(.+?))?\s*:\s*({NUMBER})(?:\s*h)?", line.value)

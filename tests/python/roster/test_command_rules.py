@@ -459,8 +459,8 @@ class Plans(Files):
                    "hours of,Night 8,", "hours per month,40-,Cleo")
         self.expect(1, "no plan keeps these rules, proved:\n  4 objects (Night) from 2027-03-05 to 2027-03-08 are "
                     "needed, nobody may take any: 4 too few (Night per month: 0)\nand together they can't hold:\n  "
-                    "2-4 objects (Ada, Ben)\n  shifts per month: 1 (Ada, Ben)\nand together they can't hold:\n  Night per "
-                    "month: 0 (Cleo)\n  hours per month: 40- (Cleo)\n", "", *WORDS)
+                    "2-4 objects (Ada, Ben)\n  shifts per month: 1 (Ada, Ben)\nand together they can't hold:\n  Night "
+                    "per month: 0 (Cleo)\n  hours per month: 40- (Cleo)\n", "", *WORDS)
 
     def test_days_that_are_refused(self):
         """The first line of the day is named, among the planned days and the earlier ones."""

@@ -86,7 +86,8 @@ REFUSED = (
     (("weekends in a row", "2-", ""), 2, "'2-', where the most weekends are needed"),
     (("shifts in 0 days", "2", ""), 1, "a day at least is needed"),
     (("free after", "Night Late: 2", ""), 2, "'Night Late': one kind as often as it is in a row, as Night Night"),
-    (("free after", "Night", ""), 2, "'Night', where a run and the free days after it are needed, such as Night Night: 2"),
+    (("free after", "Night", ""), 2, "'Night', where a run and the free days after it are needed, such as Night "
+     "Night: 2"),
     (("credit", "7.7", "Ada"), 2, "'7.7', where days and hours are needed, such as 2027-03-12 .. 2027-03-19: 7.7"),
     (("credit", "2027-03-06 .. 2027-03-05: 7.7", "Ada"), 2, "'2027-03-06 .. 2027-03-05: 7.7': the second day can't be "
      "before the first"),
