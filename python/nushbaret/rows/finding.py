@@ -74,8 +74,10 @@ class _PlanSearch:
                                   tuple(told["tree"]))
         if not shows(certificate):
             return False
-        self.conflicts[told.get("conflict", 0)] = Conflict(tuple(told["reasons"]), told["is_minimal"], certificate)
-        self.impossible = self.impossible or certificate
+        number = told.get("conflict", 0)
+        self.conflicts[number] = Conflict(tuple(told["reasons"]), told["is_minimal"], certificate)
+        # Later reasons of a conflict are fewer.
+        self.impossible = certificate if number == 0 else self.impossible or certificate
         return True
 
     def take_shortage(self, told: Dict[str, Any]) -> bool:
