@@ -223,6 +223,8 @@ def _read(options: Options) -> Roster:
                               "file may have its title line alone")
         roster = with_rules(roster, tasks, capacities, read_groups(options.groups, roster, options.before is not None)
                             if options.groups else None)
+        if capacities is not None and tasks is None and not any(bounds.least for bounds in capacities.bounds.values()):
+            _say_nobody(roster, capacities.path)
         forgotten = [forgotten_line(roster, counts, side) for side, counts in ((1, capacities), (0, tasks))
                      if counts is not None]
     finally:
@@ -230,6 +232,12 @@ def _read(options: Options) -> Roster:
                      *filter(None, forgotten)]:
             _say(line)
     return roster
+
+
+def _say_nobody(roster: Roster, path: str) -> None:
+    """Says that no plan has to have anybody, where all that places take is nobody at least."""
+    if roster.least is not None and not any(roster.least[1].values()) and not roster.wanted:
+        _say(f"{path}: each place may stay empty, and without --tasks nobody has to be placed")
 
 
 def _say(line: str) -> None:

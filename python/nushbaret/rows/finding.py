@@ -2,7 +2,9 @@
 certificates decides."""
 import importlib.util
 import math
+import os
 import queue
+import sys
 import time
 from typing import Any, Callable, Dict, List, Optional, Sequence, Tuple
 
@@ -11,7 +13,15 @@ from .model import Certificate, Conflict, Finding, Leaf, Limits, Model, Shortage
 from .process import Worker
 from .times import Times
 
-NEEDS_SCIPY = "rosters with rules need SciPy: pip install nushbaret[rules], or apt install python3-scipy"
+
+def _needs_scipy() -> str:
+    """How SciPy is installed for this Python: in an environment of its own by pip, for Debian's by apt."""
+    is_debians = sys.prefix == sys.base_prefix == "/usr" and os.path.exists("/usr/bin/apt")
+    return "rosters with rules need SciPy: " + ("apt install python3-scipy" if is_debians
+                                                else "pip install nushbaret[rules]")
+
+
+NEEDS_SCIPY = _needs_scipy()
 # What is reported of the search: the stage, the cost of the best plan so far, and what no plan costs less than.
 Progress = Callable[[str, Optional[int], Optional[int]], None]
 # Seconds.
