@@ -143,6 +143,9 @@ def _by_counts(task: Task) -> Optional[Tuple[Answer, Proved]]:
     """The answer, where counts and groups alone decide: they are short, or the best plan by them keeps all rules."""
     roster, request = task.roster, task.request
     problem = counted_of(roster, request._replace(kept=None, change=None))
+    if any(bounds.most < 0 for bounds in (*problem.row_bounds, *problem.column_bounds)):
+        # Fixed pairs are more than a name may have: rows say so.
+        return None
     try:
         lacks, pairs, exchanges = planned(problem, False)
     except TooManyNodes:
