@@ -30,8 +30,17 @@ SHAPES = (
     ("at most 1 on", lambda r: r.choice(("each", "each Late")), 2),
     ("apart", lambda r: r.choice(("", "yes")), 2),
     ("together", lambda r: "", 2),
+    ("days off in a row", lambda r: r.choice(("2-", "3-", "1-2", "2-4", "3")), 0),
+    ("same kind in a row", lambda r: r.choice(("2-", "2", "1-2", "2-3")), 0),
+    ("weekends in a row", lambda r: r.choice(("1", "2")), 0),
+    ("shifts in 7 days", lambda r: r.choice(("2", "4", "1-4", "2-")), 0),
+    ("Night in 3 days", lambda r: r.choice(("1", "0-2", "1-")), 0),
+    ("free after Night", lambda r: r.choice(("1", "2")), 0),
+    ("free after", lambda r: r.choice(("Night Night: 1", "Late Late: 2", "shift shift: 1")), 0),
+    ("rest", lambda r: r.choice(("11 hours", "17 h", "35.5 hours")), 0),
 )
 HOURS = (RuleLine("hours of", "Early 7.7", "", 2), RuleLine("hours of", "Night 9,5", "", 3))
+TIMES = (Times(6 * 60, 14 * 60), Times(14 * 60, 22 * 60), Times(21 * 60 + 30, 30 * 60 + 30))
 
 
 def roster_of(r, n_persons, n_days, are_dates, share=0.85):
@@ -43,7 +52,7 @@ def roster_of(r, n_persons, n_days, are_dates, share=0.85):
     objects = [f"{kind} {name}" for name in names for kind in KINDS]
     of_objects = {object_: object_ // len(KINDS) for object_ in range(len(objects))}
     kinds = {object_: KINDS[object_ % len(KINDS)] for object_ in range(len(objects))}
-    times = {object_: Times(14 * 60, 22 * 60) for object_ in range(len(objects))}
+    times = {object_: TIMES[object_ % len(KINDS)] for object_ in range(len(objects))}
     pairs = [(person, object_) for person in range(n_persons) for object_ in range(len(objects)) if r.random() < share]
     persons = list(NAMES[:n_persons])
     numbers = [{name: number for number, name in enumerate(names)} for names in (persons, objects)]
@@ -57,7 +66,7 @@ def with_earlier(r, roster, first, are_dates):
     """The roster with up to five days before its first one, and what was worked on them."""
     names = [(first - timedelta(back)).isoformat() if are_dates else f"earlier {-back}"
              for back in range(r.randint(1, 5), 0, -1)]
-    earlier = [Earlier(f"{kind} {name}", name, kind, Times(14 * 60, 22 * 60), 2) for name in names for kind in KINDS]
+    earlier = [Earlier(f"{kind} {name}", name, kind, times, 2) for name in names for kind, times in zip(KINDS, TIMES)]
     pairs = [(person, f"{r.choice(KINDS)} {name}", 2) for person in roster.persons for name in names
              if r.random() < 0.6]
     return roster._replace(groups=roster.groups._replace(earlier=tuple(earlier))), Before("before.csv", pairs)
@@ -97,6 +106,9 @@ def drawn_case(r, n_persons, n_days, n_rules, shapes=SHAPES):
         roster, past = with_past(r, roster)
     month = month_of(roster, roster.groups, "g.csv", before)
     lines = drawn_lines(r, roster.persons, n_rules, shapes)
+    if r.random() < 0.3:
+        lines.insert(2, RuleLine("credit", f"{r.choice(roster.groups.names)}: {r.choice(('7.7', '4', '8,25'))}",
+                                 r.choice(roster.persons), 3))
     if r.random() < 0.3:
         lines.insert(2, RuleLine("holiday", r.choice(roster.groups.names), "", 3))
     rules = rules_of("rules.csv", lines, roster, month)

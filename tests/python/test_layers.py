@@ -28,7 +28,7 @@ OF_OTHER_FOLDERS = {
     # They make what the tested folder takes, or check what it makes.
     "counts.test_count_rows": "rows.check",
     "lap.test_levels": "costs.kinds costs.problem costs.reading",
-    "roster.test_by_rules": "rows.finding rows.model",
+    "roster.test_by_rules": "rows.check rows.finding rows.model",
 }
 
 

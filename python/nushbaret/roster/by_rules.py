@@ -2,16 +2,24 @@
 import time
 from typing import Callable, Dict, List, NamedTuple, Optional, Sequence, Tuple
 
-from ..rows.model import Certificate, Finding, Row
+from ..counts.count_rows import certificate_of_best, certificate_of_lack, terms_of
+from ..counts.nodes import TooManyNodes
+from ..counts.planned import planned
+from ..rows.model import Certificate, Conflict, Finding, Row
 from .answer import Answer, NamedPlan, Request, plan_of
+from .by_counts import counted_of
 from .changes import full_pairs
 from .month import Month
 from .roster import Roster
 from .roster_rows import Built, OwnRow, built
 from .rule_even import even_counted, even_rules, start_of
 from .rule_file import Rules
+from .rules_kept import Missed, broken_by, missed_by, plan_of as daily_plan_of
+from .shortages import MOST_LINES, PlacesSum, line_of, lines_of_lacks, shorts_of, sums_of
 
 BEST, WITHIN, IMPOSSIBLE, UNDECIDED = "best", "within", "impossible", "undecided"
+# How sums are short: by counts alone, or with rules.
+BY_COUNTS, BY_RULES = "counts", "rules"
 # What is said while something is found: the goal, what is being done, the cost of the best plan, and what no plan costs
 # less than.
 Progress = Callable[[str, str, Optional[int], Optional[int]], None]
@@ -42,6 +50,15 @@ class Reason(NamedTuple):
     about: List[str]
 
 
+class Why(NamedTuple):
+    """Why no plan keeps all: sentences that can't hold together, of which none can be left out if `is_minimal`; or
+    sums that are short, each by itself, `by` counts alone or rules."""
+
+    reasons: Sequence[Reason]
+    is_minimal: bool = True
+    by: str = ""
+
+
 class Evenness(NamedTuple):
     """A rule of evenness: its sentence, and the least and the greatest count of those that it compares."""
 
@@ -54,20 +71,20 @@ class Proved(NamedTuple):
     """What was proved of an answer.
 
     `kind` is that of the costs; `better` is by how much another plan may be better at most, None where nothing is
-    known; `with_changes` is the cost with what changes cost, where they do. `reasons` can't hold together; `is_minimal`
-    says that none can be left out. `missing` is by how many least counts are missed, and `least_missing` that no plan
+    known; `with_changes` is the cost with what changes cost, where they do. `whys` say why there is
+    no plan. `missing` is by how many least counts are missed, and `least_missing` that no plan
     misses less; `is_fullest_open` says that none that misses some was found. `even` says how even counts are,
     `is_most_even` that no plan is more even, and `otherwise` what a plan without the rules of evenness would cost.
     `fewer_changes` says that fewer changes may be enough. Costs are in units
-    of the roster, those with changes in halves.
+    of the roster, those with changes in halves. `has_prices` says that rules or counts have prices, and `missed` what
+    the plan misses of these.
     """
 
     kind: str
     seconds: float
     better: Optional[int] = None
     with_changes: Optional[int] = None
-    reasons: Sequence[Reason] = ()
-    is_minimal: bool = False
+    whys: Sequence[Why] = ()
     is_around_past: bool = False
     missing: int = 0
     least_missing: Optional[int] = None
@@ -77,30 +94,108 @@ class Proved(NamedTuple):
     otherwise: Optional["Proved"] = None
     otherwise_cost: Optional[int] = None
     fewer_changes: bool = False
+    has_prices: bool = False
+    missed: Sequence[Missed] = ()
     certificate: Optional[Certificate] = None
 
     @property
     def is_impossible(self) -> bool:
         """Whether no plan keeps all rules and counts."""
-        return self.kind == IMPOSSIBLE or bool(self.reasons)
+        return self.kind == IMPOSSIBLE or bool(self.whys)
+
+    @property
+    def missed_cost(self) -> int:
+        """What the plan pays for what it misses."""
+        return sum(one.cost for one in self.missed)
+
+    @property
+    def reasons(self) -> List[Reason]:
+        """All reasons."""
+        return [reason for why in self.whys for reason in why.reasons]
+
+    @property
+    def is_minimal(self) -> bool:
+        """Whether no reason can be left out."""
+        return bool(self.whys) and all(why.is_minimal for why in self.whys)
 
 
 def answer_by_rules(task: Task) -> Tuple[Answer, Proved]:
-    """The answer to a roster with rules, and what was proved of it.
+    """The answer to a roster with rules, and what was proved of it. Counts are looked at first, and then rules.
 
     Raises ImportError where SciPy isn't there, and RuntimeError where a process that finds plans fails.
     """
     begin, is_fullest = time.monotonic(), task.request.fullest
     end = begin + task.seconds
+    by_counts = _by_counts(task)
+    if by_counts is not None:
+        answer, proved = by_counts
+        return _fullest(task, proved, end) if answer.plan is None and is_fullest else by_counts
     stages = _Stages(task, end, found_by=begin + UNMISSED * task.seconds if is_fullest else None)
     finding = stages.costs()
     if finding.plan is not None:
         return stages.answer(finding)
-    proved = Proved(UNDECIDED, task.seconds, certificate=finding.certificate)
-    if finding.kind == IMPOSSIBLE:
-        proved = proved._replace(kind=IMPOSSIBLE, reasons=_reasons(stages.built, finding.reasons),
-                                 is_minimal=finding.is_minimal, is_around_past=_is_around_past(task))
-    return _fullest(task, proved, end) if is_fullest else (Answer(None, []), proved)
+    proved = _why(task, stages, finding)
+    is_long = bool(proved.whys) and len(proved.whys[0].reasons) > MOST_LINES
+    return _fullest(task, proved, end) if is_fullest or is_long else (Answer(None, []), proved)
+
+
+def _by_counts(task: Task) -> Optional[Tuple[Answer, Proved]]:
+    """The answer, where counts and groups alone decide: they are short, or the best plan by them keeps all rules."""
+    roster, request = task.roster, task.request
+    problem = counted_of(roster, request._replace(kept=None, change=None))
+    if any(bounds.most < 0 for bounds in (*problem.row_bounds, *problem.column_bounds)):
+        # Fixed pairs are more than a name may have: rows say so.
+        return None
+    try:
+        lacks, pairs, exchanges = planned(problem, False)
+    except TooManyNodes:
+        return None
+    if lacks:
+        reasons = [Reason(line, []) for line in lines_of_lacks(roster, task.month, lacks)]
+        certificate = certificate_of_lack(problem, terms_of(problem), lacks[0])
+        return Answer(None, []), Proved(IMPOSSIBLE, task.seconds, whys=[Why(reasons, by=BY_COUNTS)],
+                                        is_around_past=_is_around_past(task), certificate=certificate)
+    if pairs is None or exchanges is None or request.kept is not None or task.own or even_rules(task.rules.rules):
+        return None
+    plan = plan_of(roster, request.fixed, pairs)
+    daily = daily_plan_of(roster, task.rules, task.month, plan.pairs)
+    if broken_by(daily) or missed_by(daily):
+        return None
+    return Answer(plan, []), Proved(BEST, task.seconds, 0, has_prices=_has_prices(task),
+                                    certificate=certificate_of_best(problem, [], exchanges))
+
+
+def _has_prices(task: Task) -> bool:
+    """Whether any rule, or any place, has a price."""
+    return bool(task.roster.wanted) or any(rule.price is not None for rule in task.rules.rules)
+
+
+def _why(task: Task, stages: "_Stages", finding: Finding) -> Proved:
+    """What is known where no plan was found."""
+    if finding.kind != IMPOSSIBLE:
+        return Proved(UNDECIDED, task.seconds, certificate=finding.certificate)
+    found = stages.built
+    whys: List[Why] = []
+    shorts = shorts_of(found, stages.sums, finding.shortages)
+    if shorts:
+        whys.append(Why([Reason(line_of(task.roster, task.month, short), []) for short in shorts], by=BY_RULES))
+    return Proved(IMPOSSIBLE, task.seconds, whys=[*whys, *_conflicts(found, finding.conflicts)],
+                  is_around_past=_is_around_past(task), certificate=finding.certificate)
+
+
+def _conflicts(found: Built, conflicts: Sequence[Conflict]) -> List[Why]:
+    """Conflicts of the same sentences together, the first of all that are small."""
+    alike: Dict[Tuple[Tuple[str, ...], bool], List[Reason]] = {}
+    for one in conflicts:
+        reasons = _reasons(found, one.reasons)
+        key = tuple(sorted(reason.sentence for reason in reasons)), one.is_minimal
+        before = {reason.sentence: reason for reason in alike.setdefault(key, [])}
+        for reason in reasons:
+            if reason.sentence in before:
+                before[reason.sentence].about.extend(reason.about)
+            else:
+                alike[key].append(reason)
+    return [Why(reasons, is_minimal) for (_, is_minimal), reasons in alike.items()]
 
 
 def _is_around_past(task: Task) -> bool:
@@ -113,14 +208,11 @@ def _fullest(task: Task, why: Proved, end: float) -> Tuple[Answer, Proved]:
     stages = _Stages(task, end, True)
     finding = stages.costs()
     if finding.plan is None:
-        if finding.kind != IMPOSSIBLE:
-            return Answer(None, []), why._replace(is_fullest_open=True)
         # Rules are never missed, so there may be no plan.
-        return Answer(None, []), why._replace(kind=IMPOSSIBLE, reasons=_reasons(stages.built, finding.reasons),
-                                              is_minimal=finding.is_minimal, is_around_past=_is_around_past(task),
-                                              certificate=finding.certificate)
+        return Answer(None, []), (_why(task, stages, finding) if finding.kind == IMPOSSIBLE
+                                  else why._replace(is_fullest_open=True))
     answer, proved = stages.answer(finding)
-    return answer, proved._replace(reasons=why.reasons, is_minimal=why.is_minimal, is_around_past=why.is_around_past)
+    return answer, proved._replace(whys=why.whys, is_around_past=why.is_around_past)
 
 
 def _reasons(found: Built, texts: Sequence[str]) -> List[Reason]:
@@ -146,6 +238,7 @@ class _Stages:
         self.built = self._build(False)
         self._rows: List[Row] = []
         self._start: Optional[Sequence[int]] = None
+        self.sums: List[PlacesSum] = []
         self._reached: List[Finding] = []
         self._missing: Optional[Finding] = None
 
@@ -167,7 +260,9 @@ class _Stages:
                 show(goal, done, cost, bound)
 
         without = max(0.1, self._found_by - time.monotonic())
-        finding = find(self.built.rows.model(costs, self._rows), seconds, named, self._start, without)
+        self.sums = sums_of(self.built, self.task.month)
+        finding = find(self.built.rows.model(costs, self._rows), seconds, named, self._start, without,
+                       [own.rows for own in self.sums])
         self._start = finding.plan if finding.plan is not None else self._start
         return finding
 
@@ -226,6 +321,8 @@ class _Stages:
         values = changed.plan if changed.plan is not None else finding.plan or ()
         plan = self._plan(values)
         cost = sum(own for own, value in zip(costs, values) if value)
+        missed = missed_by(daily_plan_of(self.task.roster, self.task.rules, self.task.month, plan.pairs))
+        cost -= self._paid_above(values, sum(one.cost for one in missed))
         better = None if finding.bound is None else cost - finding.bound
         kind = UNDECIDED if better is None else WITHIN if better else BEST
         missing = self._missing
@@ -235,8 +332,18 @@ class _Stages:
                         least_missing=None if missing is None else missing.bound,
                         is_most_even=all(reached.kind == BEST for reached in self._reached),
                         even=self._even(plan) if self.is_even else (),
-                        fewer_changes=changed is not finding and changed.kind != BEST, certificate=finding.certificate)
+                        fewer_changes=changed is not finding and changed.kind != BEST,
+                        has_prices=_has_prices(self.task), missed=missed, certificate=finding.certificate)
         return Answer(plan, []), self._with_otherwise(proved)
+
+    def _paid_above(self, values: Sequence[int], missed: int) -> int:
+        """What values pay for more than the plan misses, in units of their costs: a plan that isn't proved best may
+        have helpers that it needn't."""
+        count, times = len(self.built.pairs), 2 if self.task.request.change is not None else 1
+        paid = sum(own for own, value in zip(self.built.rows.costs[count:], values[count:]) if value)
+        if paid < missed:
+            raise RuntimeError("a plan misses more than its rows say: please report this problem")
+        return (paid - missed) * (times if self.task.request.kept is not None else 1)
 
     def _plan(self, values: Sequence[int]) -> NamedPlan:
         fixed = {(pair.person, pair.object) for pair in self.task.request.fixed}
@@ -288,4 +395,6 @@ class _Stages:
         if finding.plan is None:
             return proved._replace(otherwise=Proved(UNDECIDED, task.seconds))
         answer, others = other.answer(finding)
-        return proved._replace(otherwise=others, otherwise_cost=None if answer.plan is None else answer.plan.cost)
+        sign = -1 if task.request.maximize else 1
+        cost = None if answer.plan is None else answer.plan.cost + sign * others.missed_cost
+        return proved._replace(otherwise=others, otherwise_cost=cost)

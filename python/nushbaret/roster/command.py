@@ -175,10 +175,13 @@ def _read_hand(path: str, roster: Roster, fixed: List[PlanLine], ruling: Optiona
     from .rules import broken_rules, lack_of
     plan, repeated = read_hand_plan(path, roster)
     broken = broken_rules(roster, plan, repeated, fixed)
+    missed = 0
     if ruling is not None:
-        from .ruling import broken_rules_of
-        broken += broken_rules_of(ruling, roster, [*plan.known, *(PlanLine(*pair, 0) for pair in plan.forbidden)])
-    return Hand(plan, broken, lack_of(roster, plan.known, fixed))
+        from .ruling import broken_rules_of, missed_cost_of
+        pairs = [*plan.known, *(PlanLine(*pair, 0) for pair in plan.forbidden)]
+        broken += broken_rules_of(ruling, roster, pairs)
+        missed = missed_cost_of(ruling, roster, pairs)
+    return Hand(plan, broken, lack_of(roster, plan.known, fixed), missed=missed)
 
 
 def _read_past(options: Options, roster: Roster, kept: Optional[OldPlan]) -> Tuple[Roster, Optional[OldPlan],
@@ -215,8 +218,13 @@ def _read(options: Options) -> Roster:
     try:
         tasks = read_counts(options.tasks, roster, False) if options.tasks else None
         capacities = read_counts(options.places, roster, True) if options.places else None
+        if capacities is not None and capacities.wanted and options.rules is None:
+            raise RosterFault(capacities.path, "what is wanted has a price, which a plan by --rules weighs; a rules' "
+                              "file may have its title line alone")
         roster = with_rules(roster, tasks, capacities, read_groups(options.groups, roster, options.before is not None)
                             if options.groups else None)
+        if capacities is not None and tasks is None and not any(bounds.least for bounds in capacities.bounds.values()):
+            _say_nobody(roster, capacities.path)
         forgotten = [forgotten_line(roster, counts, side) for side, counts in ((1, capacities), (0, tasks))
                      if counts is not None]
     finally:
@@ -224,6 +232,12 @@ def _read(options: Options) -> Roster:
                      *filter(None, forgotten)]:
             _say(line)
     return roster
+
+
+def _say_nobody(roster: Roster, path: str) -> None:
+    """Says that no plan has to have anybody, where all that places take is nobody at least."""
+    if roster.least is not None and not any(roster.least[1].values()) and not roster.wanted:
+        _say(f"{path}: each place may stay empty, and without --tasks nobody has to be placed")
 
 
 def _say(line: str) -> None:

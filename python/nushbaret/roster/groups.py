@@ -7,17 +7,20 @@ from ..costs.limits import MOST_PERSONS
 from ..counts.nodes import Bounds
 from .dates import spellings
 from .names import quoted
-from .roster import Earlier, Groups, PlanLine, Roster, known, looks_like_number
+from .roster import Earlier, Groups, PlanLine, Roster, Wanted, known, looks_like_number
 from .sheets import RosterFault, Sheet, item_of
 from .times import Times, columns_of, times_of
 
 
 class Counts(NamedTuple):
-    """How many names take, by their numbers; whether any line has two numbers; and the file."""
+    """How many names take, by their numbers; whether any line has two numbers; the file; how many objects should take,
+    and the persons of groups, by the groups' titles and names."""
 
     bounds: Dict[int, Bounds]
     are_ranges: bool
     path: str
+    wanted: Dict[int, Wanted] = {}
+    teams: Dict[Tuple[str, str], List[int]] = {}
 
 
 def read_counts(path: str, roster: Roster, of_objects: bool) -> Counts:
@@ -26,7 +29,8 @@ def read_counts(path: str, roster: Roster, of_objects: bool) -> Counts:
     greatest number.
 
     Raises `RosterFault` for the first name that the roster doesn't have or that stands twice, number that is none from
-    0 to 4194304, or least number that is greater than the most.
+    0 to 4194304, or least number that is greater than the most. Objects whose titles say so also have how many they
+    should take, and a price for each that is missing.
     """
     sheet = Sheet(path, reading=roster.reading)
     line, title = sheet.title()
@@ -34,24 +38,129 @@ def read_counts(path: str, roster: Roster, of_objects: bool) -> Counts:
         sheet.refuse("each line must have a name and how many it takes", line)
     if looks_like_number(title[1]):
         sheet.refuse(f"a title line must come first, and {quoted(title[1])} is a number", line, 2)
+    if of_objects and any(cell.casefold() in (WANTED, PRICE) for cell in title[1:]):
+        return _Wanting(sheet, roster, title, line).counts()
     bounds: Dict[int, Bounds] = {}
     are_ranges = False
     limit = len(roster.persons if of_objects else roster.objects)
-    for line, cells in _lines(sheet, len(title)):
+    teams: Dict[Tuple[str, str], List[int]] = {}
+    first = len(title) if of_objects else _first_team(sheet, title)
+    for line, cells in _lines(sheet, len(title), first):
+        others, cells = (cells[first:], cells[:first]) if first < len(title) else ([], cells)
         number = known(sheet, roster, cells[0], line, 2 if of_objects else 1, 1)
         if number in bounds:
             sheet.refuse(f"the name {quoted(cells[0])} a second time", line, 1)
         bounds[number] = _bounds(sheet, cells[1:], limit, line)
         are_ranges = are_ranges or len(cells) == 3
-    return Counts(bounds, are_ranges, path)
+        for column, name in zip(title[first:], others):
+            if column and name:
+                teams.setdefault((column, name), []).append(number)
+    return Counts(bounds, are_ranges, path, teams=teams)
 
 
-def _lines(sheet: Sheet, width: int) -> Iterator[Tuple[int, List[str]]]:
-    """The lines after the title, each with a name and one number or two. An empty cell below a third title is an empty
-    number."""
+def _first_team(sheet: Sheet, title: Sequence[str]) -> int:
+    """The first column, from 0, that has groups of persons: the fourth, or the third where it has no number but
+    words."""
+    if len(title) < 3:
+        return len(title)
+    records = sheet.records()
+    next(records)
+    thirds = [cells[2] for _, cells in records if len(cells) > 2 and cells[2]]
+    return 2 if thirds and not any(map(looks_like_number, thirds)) else 3
+
+
+# The titles of columns of places that have a price.
+LEAST, WANTED, MOST, PRICE = "at least", "wanted", "at most", "price"
+_COLUMNS = {"least": LEAST, LEAST: LEAST, WANTED: WANTED, "most": MOST, MOST: MOST, PRICE: PRICE}
+
+
+class _Wanting:
+    """Places by titles: how many objects take at least, should take and take at most, and what each that is missing
+    costs."""
+
+    def __init__(self, sheet: Sheet, roster: Roster, title: Sequence[str], line: int):
+        self._sheet, self._roster = sheet, roster
+        self._columns: Dict[str, int] = {}
+        for place, cell in enumerate(title[1:], 1):
+            name = _COLUMNS.get(cell.casefold(), "")
+            if not name and cell:
+                sheet.refuse(f"no column is titled {quoted(cell)}: {', '.join(sorted(set(_COLUMNS.values())))} are",
+                             line, place + 1)
+            if name in self._columns:
+                sheet.refuse(f"a second column titled {quoted(cell)}", line, place + 1)
+            self._columns.update({name: place} if name else {})
+        for name in (WANTED, PRICE):
+            if name not in self._columns:
+                sheet.refuse(f"a column {quoted(name)} is needed too", line)
+
+    def counts(self) -> Counts:
+        bounds: Dict[int, Bounds] = {}
+        wanted: Dict[int, Wanted] = {}
+        records = self._sheet.records()
+        next(records)
+        for line, cells in records:
+            number = known(self._sheet, self._roster, cells[0], line, 2, 1)
+            if number in bounds:
+                self._sheet.refuse(f"the name {quoted(cells[0])} a second time", line, 1)
+            bounds[number] = self._bounds(cells, line)
+            own = self._wanted(cells, bounds[number], line)
+            wanted.update({number: own} if own else {})
+        return Counts(bounds, True, self._sheet.path, wanted)
+
+    def _cell(self, cells: Sequence[str], name: str) -> str:
+        place = self._columns.get(name, len(cells))
+        return cells[place] if place < len(cells) else ""
+
+    def _number(self, cells: Sequence[str], name: str, line: int) -> Optional[int]:
+        cell = self._cell(cells, name)
+        return _count(self._sheet, cell, line, self._columns[name] + 1) if cell else None
+
+    def _bounds(self, cells: Sequence[str], line: int) -> Bounds:
+        least, most = (self._number(cells, name, line) for name in (LEAST, MOST))
+        limit = max(len(self._roster.persons), least or 0)
+        if least is not None and most is not None and least > most:
+            self._sheet.refuse(f"at least {least} and at most {most}: the second number can't be less", line,
+                               self._columns[MOST] + 1)
+        return Bounds(least or 0, limit if most is None else most)
+
+    def _wanted(self, cells: Sequence[str], bounds: Bounds, line: int) -> Optional[Wanted]:
+        count, cell = self._number(cells, WANTED, line), self._cell(cells, PRICE)
+        if count is None:
+            if cell:
+                self._sheet.refuse("a price, and no number that is wanted", line, self._columns[PRICE] + 1)
+            return None
+        if not bounds.least <= count <= bounds.most:
+            self._sheet.refuse(f"{count} wanted, where {bounds.least} to {bounds.most} may be", line,
+                               self._columns[WANTED] + 1)
+        try:
+            return Wanted(count, price_of(cell, self._roster))
+        except ValueError as fault:
+            self._sheet.refuse(str(fault), line, self._columns[PRICE] + 1)
+
+
+def price_of(text: str, roster: Roster) -> int:
+    """A price above 0, in units of the roster. Raises ValueError where it is none."""
+    found = re.fullmatch(r"([0-9]{1,12})(?:[.,]([0-9]*))?", text)
+    part = "" if found is None else (found[2] or "").rstrip("0")
+    if found is None or not (int(found[1]) or part):
+        raise ValueError(f"{quoted(text)} is no price above 0")
+    if len(part) > roster.decimals:
+        raise ValueError(f"{quoted(text)} has more decimal places than the roster's {roster.decimals}: --decimals "
+                         f"{len(part)} allows it")
+    return int(found[1] + part.ljust(roster.decimals, "0"))
+
+
+def _lines(sheet: Sheet, width: int, first: int) -> Iterator[Tuple[int, List[str]]]:
+    """The lines after the title, each with a name and one number or two, and from the cell `first` on with groups. An
+    empty cell below a third title is an empty number."""
     records = sheet.records()
     next(records)
     for line, cells in records:
+        if first < width:
+            if any(cells[width:]):
+                sheet.refuse(f"{len(cells)} cells, where the title has {width}", line)
+            yield line, (cells + [""] * width)[:width]
+            continue
         if any(cells[max(width, 3):]):
             sheet.refuse(f"{len(cells)} cells, where a name and one or two numbers are needed", line)
         has_two = len(cells) > 2 and (width > 2 or cells[2] != "")
@@ -169,7 +278,8 @@ def with_rules(roster: Roster, tasks: Optional[Counts], capacities: Optional[Cou
         of_persons, of_objects = ({number: bound.least for number, bound in counts.bounds.items()} if counts else {}
                                   for counts in (tasks, capacities))
         least = of_persons, {**dict.fromkeys(range(len(roster.objects)), 1), **of_objects}
-    return roster._replace(tasks=most[0], capacities=most[1], least=least, groups=groups)
+    return roster._replace(tasks=most[0], capacities=most[1], least=least, groups=groups,
+                           wanted=capacities.wanted if capacities else {}, teams=tasks.teams if tasks else {})
 
 
 class Broken(NamedTuple):

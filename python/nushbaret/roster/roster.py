@@ -8,7 +8,7 @@ from array import array
 from bisect import bisect_left, bisect_right
 from itertools import compress, islice, repeat
 from operator import add, le, mul
-from typing import Dict, FrozenSet, List, NamedTuple, Optional, Sequence, Set, Tuple, cast
+from typing import Any, Dict, FrozenSet, List, Mapping, NamedTuple, Optional, Sequence, Set, Tuple, cast
 
 from ..costs.limits import MOST_PERSONS, Numbers
 from .cells import is_plain
@@ -110,6 +110,13 @@ class Groups(NamedTuple):
     lines: Sequence[int] = ()
 
 
+class Wanted(NamedTuple):
+    """How many persons an object should take, and what each that is missing costs, in units of the roster."""
+
+    number: int
+    price: int
+
+
 class Roster(NamedTuple):
     """A problem by names. Pair k is of `persons[of_persons[k]]` and `objects[of_objects[k]]`, no pair twice; `costs[k]`
     is in units of 10^-decimals. `titles` are the words for a person, an object and a cost. `tasks` and `capacities` say
@@ -118,7 +125,8 @@ class Roster(NamedTuple):
     whether any cost was changed by rounding, `has_bom` whether the file began with a BOM, `is_matrix` whether it is a
     matrix, and `by_persons` whether the pairs stand person by person. `encoding` is that of the file, and `reading` how
     other files are read. Of the objects in `past` nothing is planned, and of the persons in `gone` the past alone is
-    known."""
+    known. `wanted` says of some objects how many persons they should take, and `teams` who is in a group, by its title
+    and its name."""
 
     persons: List[str]
     objects: List[str]
@@ -143,6 +151,16 @@ class Roster(NamedTuple):
     reading: Reading = Reading()
     past: FrozenSet[int] = frozenset()
     gone: FrozenSet[int] = frozenset()
+    wanted: Mapping[int, Wanted] = {}
+    teams: Mapping[Tuple[str, str], Sequence[int]] = {}
+
+    def persons_of(self, text: str) -> Sequence[int]:
+        """The persons of a group, which is named by its title and its name (`skill: senior`), or by its name where no
+        other title has it; none where there is none."""
+        title, colon, name = (part.strip() for part in text.partition(":"))
+        named = [own for (one, other), own in self.teams.items()
+                 if (other == text if not colon else (one, other) == (title, name))]
+        return named[0] if len(named) == 1 else ()
 
     @property
     def ruled(self) -> bool:

@@ -25,11 +25,13 @@ class OwnRow(NamedTuple):
 
 
 class Built(NamedTuple):
-    """A model's variables and rows: the pair of each of the first variables; those that say how many are missing, with
+    """A model's variables and rows: the pair of each of the first variables; the row of each object's least count;
+    those that say how many are missing, with
     their factors; how many variables come before those of evenness; and what says how even counts are."""
 
     making: Making
     pairs: List[Pair]
+    places: Dict[int, int]
     missing: Dict[int, int]
     before_even: int
     evenness: EvennessRows
@@ -63,11 +65,12 @@ def built(roster: Roster, rules: Rules, month: Month, request: Request, own: Seq
         # A solver needs one.
         making.rows.helper(None)
     _fixed(making, request)
-    missing = _counts(making, request, may_miss)
+    places: Dict[int, int] = {}
+    missing = _counts(making, request, may_miss, places)
     _one_of_each(making)
     add_rules(making)
     _own(making, own, set(past))
-    return Built(making, pairs, missing, len(making.rows.costs), add_evenness(making, spreads, is_measured))
+    return Built(making, pairs, places, missing, len(making.rows.costs), add_evenness(making, spreads, is_measured))
 
 
 def _fixed(making: Making, request: Request) -> None:
@@ -78,8 +81,8 @@ def _fixed(making: Making, request: Request) -> None:
             making.rows.add(Sum().add(variable), 1, None, Said("fixed", ": ".join(names)), pair.person)
 
 
-def _counts(making: Making, request: Request, may_miss: bool) -> Dict[int, int]:
-    """How many each person and each object takes."""
+def _counts(making: Making, request: Request, may_miss: bool, places: Dict[int, int]) -> Dict[int, int]:
+    """How many each person and each object takes; `places` gets the rows of the objects' least counts."""
     roster, work = making.roster, making.work
     of_persons, of_objects = bounds_around(roster, request.fixed)
     had, used = Counter(pair.person for pair in request.fixed), Counter(pair.object for pair in request.fixed)
@@ -95,8 +98,20 @@ def _counts(making: Making, request: Request, may_miss: bool) -> Dict[int, int]:
     for object_, bounds in enumerate(of_objects):
         if object_ not in roster.past:
             sums[1][object_].is_open = True
+            _wanted(making, sums[1][object_], object_)
+            first = len(making.rows.rows)
             missing.update(_bounded(making, sums[1][object_], _with(bounds, used[object_]), 1, object_, may_miss))
+            places.update({object_: number for number in range(first, len(making.rows.rows))
+                           if making.rows.rows[number].least is not None})
     return missing
+
+
+def _wanted(making: Making, own: Sum, object_: int) -> None:
+    """Prices what an object has less than is wanted."""
+    wanted = making.roster.wanted.get(object_)
+    if wanted is not None:
+        said = Said(f"{wanted.number} wanted", making.roster.objects[object_])
+        making.rows.add_priced(own, wanted.number, None, said, wanted.price)
 
 
 def _with(bounds: Bounds, count: int) -> Bounds:

@@ -3,9 +3,11 @@ import re
 import unicodedata
 from difflib import get_close_matches
 from fractions import Fraction
-from typing import Callable, Dict, FrozenSet, List, Match, NamedTuple, NoReturn, Optional, Sequence, Tuple
+from math import ceil
+from typing import Callable, Dict, FrozenSet, List, Mapping, Match, NamedTuple, NoReturn, Optional, Sequence, Tuple
 
 from .dates import dates_of, spellings
+from .groups import price_of
 from .month import NO_KIND, Month
 from .names import quoted
 from .roster import Roster, like
@@ -14,6 +16,7 @@ from .sheets import RosterFault, Sheet
 # Which rule a line is.
 REST, RUN, COUNT, HOURS, FREE, WHOLE, STAFF, APART, TOGETHER, EVEN = (
     "rest", "run", "count", "hours", "free weekends", "whole weekends", "staff", "apart", "together", "even")
+PAUSE, OFF, WINDOW, AFTER, WEEKEND_RUN = "pause", "days off", "window", "free after", "weekends in a row"
 WEEKLY, MONTHLY = "week", "month"
 # Words for shifts of any kind, instead of a kind; the last one only where no kind is called so.
 ANY = ("shift", "shifts", "days")
@@ -23,7 +26,8 @@ WEEKENDS = "weekend shifts"
 SHAPES = ("rest", "days in a row", "KIND in a row", "shifts per week", "shifts per month", "KIND per week",
           "KIND per month", "weekend shifts per month", "hours per week", "hours per month", "free weekends",
           "whole weekends", "no single", "hours of", "at least 1 on", "at most 1 on", "apart", "together", "holiday",
-          "even")
+          "even", "days off in a row", "same kind in a row", "weekends in a row", "shifts in 7 days", "KIND in 7 days",
+          "free after", "credit")
 NUMBER = r"[0-9]{1,6}(?:[.,][0-9]{1,3})?"
 RANGE = re.compile(rf"(?P<least>{NUMBER})?\s*(?P<dash>[-\u2013])?\s*(?P<most>{NUMBER})?")
 
@@ -45,28 +49,39 @@ class Rule(NamedTuple):
     # Of counts and hours: in each week, or in the month; and whether weekends alone count.
     per: str = MONTHLY
     of_weekends: bool = False
+    # What each unit costs by which it is missed, in units of the roster; None where it has to be kept.
+    price: Optional[int] = None
+    # Of windows: how many days each has; of free days after a run: how many days that has; of rest: how many minutes.
+    length: int = 0
 
 
 class Rules(NamedTuple):
-    """The rules of a file, the hours of kinds, and the days that count as weekends."""
+    """The rules of a file, the hours of kinds, the days that count as weekends, and hours of days without shifts."""
 
     path: str
     rules: Sequence[Rule] = ()
     hours: Dict[str, Fraction] = {}
     holidays: FrozenSet[int] = frozenset()
+    # The hours that a person's day counts as, whatever it has: leave or sickness.
+    credits: Mapping[Tuple[int, int], Fraction] = {}
+
+
+# Rules that can't have a price: they say what others count, or go before costs.
+UNPRICED = ("hours_of", "holiday", "even", "credit")
 
 
 class RuleLine(NamedTuple):
-    """A line of the file, its three cells, and where it stands."""
+    """A line of the file, its cells, and where it stands."""
 
     rule: str
     value: str
     names: str
     line: int
+    price: str = ""
 
 
 def read_rules(path: str, roster: Roster, month: Month) -> Rules:
-    """Reads rules: a title line, and lines of a rule, its value, and names, none for everybody.
+    """Reads rules: a title line, and lines of a rule, its value, names, none for everybody, and maybe its price.
 
     Raises `RosterFault` for the first rule, kind, name or number that can't be read, with its place; `OSError` where
     the file can't be.
@@ -75,15 +90,17 @@ def read_rules(path: str, roster: Roster, month: Month) -> Rules:
     line, title = sheet.title()
     if _shape_of(title[0]) is not None:
         sheet.refuse(f"a title line must come first, and {quoted(title[0])} is a rule", line, 1)
+    width = 4 if len(title) > 3 and title[3] else 3
     records = sheet.records()
     next(records)
     lines = []
     for line, cells in records:
-        if any(cells[3:]):
-            sheet.refuse(f"{len(cells)} cells, where a rule, a value and names are needed"
-                         + (" (several names in one cell need quotes)" if sheet.separator == "," else ""), line)
-        rule, value, names = (unicodedata.normalize("NFC", cell) for cell in (cells + ["", ""])[:3])
-        lines.append(RuleLine(rule, value, names, line))
+        if any(cells[width:]):
+            rest = ", names and a price" if width > 3 else " and names"
+            hint = " (several names in one cell need quotes)" if sheet.separator == "," else ""
+            sheet.refuse(f"{len(cells)} cells, where a rule, a value{rest} are needed{hint}", line)
+        rule, value, names, price = (unicodedata.normalize("NFC", cell) for cell in (cells + [""] * 3)[:4])
+        lines.append(RuleLine(rule, value, names, line, price if width > 3 else ""))
     return rules_of(sheet.path, lines, roster, month)
 
 
@@ -95,13 +112,17 @@ def rules_of(path: str, lines: Sequence[RuleLine], roster: Roster, month: Month)
     for rule, line in zip(reader.rules, reader.lines):
         if rule.what == HOURS:
             reader.need_hours(line)
-    return Rules(path, tuple(reader.rules), reader.hours, frozenset(reader.holidays))
+        if rule.what == PAUSE:
+            reader.need_times(line)
+    return Rules(path, tuple(reader.rules), reader.hours, frozenset(reader.holidays), reader.credits)
 
 
 PATTERNS: Sequence[Tuple[str, str]] = (
     ("rest", "rest"), ("hours of", "hours_of"), ("holiday", "holiday"), ("no single", "no_single"), ("apart", "apart"),
     ("together", "together"), ("whole weekends?", "whole"), ("free weekends?", "free"), ("even", "even"),
-    (r"at (least|most) ([0-9]{1,4}) on", "staff"), ("(.+) in a row", "run"), ("hours per (week|month)", "per_hours"),
+    (r"at (least|most) ([0-9]{1,4}) on", "staff"), ("days off in a row", "off"), ("weekends in a row", "weekend_run"),
+    ("same kind in a row", "same"), ("(.+) in a row", "run"), (r"(.+) in ([0-9]{1,3}) days", "window"),
+    ("free after(?: (.+))?", "after"), ("credit", "credit"), ("hours per (week|month)", "per_hours"),
     ("(.+) per (week|month)", "per"))
 
 
@@ -124,6 +145,7 @@ class _RuleReader:
         self.lines: List[RuleLine] = []
         self.hours: Dict[str, Fraction] = {}
         self.holidays: List[int] = []
+        self.credits: Dict[Tuple[int, int], Fraction] = {}
 
     def take(self, line: RuleLine) -> None:
         """Takes a line."""
@@ -132,7 +154,21 @@ class _RuleReader:
             self._unknown(line)
         name, words = found
         take: Callable[[RuleLine, Match[str]], None] = getattr(self, "_" + name)
+        price = self._price(line, name)
+        count = len(self.rules)
         take(line, words)
+        self.rules[count:] = [rule._replace(price=price) for rule in self.rules[count:]]
+
+    def _price(self, line: RuleLine, name: str) -> Optional[int]:
+        """What a unit costs by which the rule is missed, in units of the roster; None where it has to be kept."""
+        if not line.price:
+            return None
+        if name in UNPRICED:
+            self._refuse(line, 4, f"{quoted(line.rule)} has no price")
+        try:
+            return price_of(line.price, self._roster)
+        except ValueError as fault:
+            self._refuse(line, 4, str(fault))
 
     def _refuse(self, line: RuleLine, column: int, text: str) -> NoReturn:
         raise RosterFault(self._path, text, line.line, column)
@@ -167,18 +203,22 @@ class _RuleReader:
         return frozenset(found)
 
     def _persons(self, line: RuleLine) -> Tuple[int, ...]:
-        """The persons that a line names; everybody where it names none, except those who are gone."""
+        """The persons that a line names, by themselves or as a group; everybody where it names none, except those who
+        are gone."""
         numbers = self._roster.person_numbers
         if not line.names:
             return tuple(person for person in range(len(self._roster.persons)) if person not in self._roster.gone)
         between = r"\s*[;|]\s*" if re.search("[;|]", line.names) else r"\s*,\s*"
         names = [line.names] if line.names in numbers else re.split(between, line.names)
+        found: List[int] = []
         for name in names:
-            if name not in numbers:
+            group = self._roster.persons_of(name) if name not in numbers else None
+            found += [numbers[name]] if name in numbers else group or ()
+            if name not in numbers and not group:
                 near = like(name, self._roster.persons)
                 hint = f": did you mean {' or '.join(map(quoted, near))}?" if near else ""
                 self._refuse(line, 3, f"the roster has no person {quoted(name)}{hint}" if name else "an empty name")
-        return tuple(dict.fromkeys(numbers[name] for name in names))
+        return tuple(dict.fromkeys(found))
 
     def _bounds(self, line: RuleLine, is_whole: bool = True, is_least: bool = False) -> Tuple[Optional[Fraction],
                                                                                               Optional[Fraction]]:
@@ -215,6 +255,11 @@ class _RuleReader:
         return persons
 
     def _rest(self, line: RuleLine, words: Match[str]) -> None:
+        hours = re.fullmatch(rf"({NUMBER})\s*(?:hours|h)", line.value, re.IGNORECASE)
+        if hours is not None:
+            minutes = Fraction(hours[1].replace(",", ".")) * 60
+            self._add(line, Rule(PAUSE, _sentence(line), self._persons(line), length=ceil(minutes)))
+            return
         first, arrow, second = line.value.partition(">")
         if not (arrow and first.strip() and second.strip()):
             self._refuse(line, 2, f"{quoted(line.value)}, where two kinds are needed, such as Late > Early")
@@ -226,6 +271,63 @@ class _RuleReader:
         least, most = self._bounds(line)
         self._add(line, Rule(RUN, _sentence(line), self._persons(line), self._kinds(line, 1, words[1]), None, least,
                              most))
+
+    def _same(self, line: RuleLine, words: Match[str]) -> None:
+        least, most = self._bounds(line)
+        for kind in self._month.kinds:
+            self._add(line, Rule(RUN, f"{_sentence(line)}, {kind}", self._persons(line), frozenset([kind]), None, least,
+                                 most))
+
+    def _off(self, line: RuleLine, words: Match[str]) -> None:
+        least, most = self._bounds(line)
+        self._add(line, Rule(OFF, _sentence(line), self._persons(line), None, None, least, most))
+
+    def _weekend_run(self, line: RuleLine, words: Match[str]) -> None:
+        least, most = self._bounds(line)
+        if least is not None or most is None:
+            self._refuse(line, 2, f"{quoted(line.value)}, where the most weekends are needed")
+        self._add(line, Rule(WEEKEND_RUN, _sentence(line), self._persons(line), None, None, None, most))
+
+    def _window(self, line: RuleLine, words: Match[str]) -> None:
+        least, most = self._bounds(line)
+        if not int(words[2]):
+            self._refuse(line, 1, "a day at least is needed")
+        self._add(line, Rule(WINDOW, _sentence(line), self._persons(line), self._kinds(line, 1, words[1]), None, least,
+                             most, length=int(words[2])))
+
+    def _after(self, line: RuleLine, words: Match[str]) -> None:
+        """The run and the number: `free after Night Night` and `2`, or `free after` and `Night Night: 2`; also with
+        the number in the place of names."""
+        if words[1]:
+            kinds, number, column = words[1], line.value, 1
+        elif ":" in line.value:
+            kinds, number, column = (*line.value.rsplit(":", 1), 2)
+        else:
+            kinds, number, column = line.value, line.names, 2
+            line = line._replace(names="")
+        run = kinds.split()
+        if not re.fullmatch("[0-9]{1,3}", number.strip()) or not int(number) or not run:
+            self._refuse(line, 2, f"{quoted(line.value)}, where a run and the free days after it are needed, such as "
+                         "Night Night: 2")
+        found = {self._kinds(line, column, word) for word in run}
+        if len(found) > 1:
+            self._refuse(line, column, f"{quoted(kinds.strip())}: one kind as often as it is in a row, as Night "
+                         "Night")
+        sentence = f"free after {' '.join(run)}: {int(number)}"
+        self._add(line, Rule(AFTER, sentence, self._persons(line), found.pop(), None, Fraction(int(number)),
+                             length=len(run)))
+
+    def _credit(self, line: RuleLine, words: Match[str]) -> None:
+        found = re.fullmatch(rf"(.+?)(?:\s*\.\.\s*(.+?))?\s*:\s*({NUMBER})(?:\s*h)?", line.value)
+        if found is None:
+            self._refuse(line, 2, f"{quoted(line.value)}, where days and hours are needed, such as 2027-03-12 .. "
+                         "2027-03-19: 7.7")
+        first, last = (self._day(line, text) for text in (found[1], found[2] or found[1]))
+        if last < first:
+            self._refuse(line, 2, f"{quoted(line.value)}: the second day can't be before the first")
+        for person in self._several(line, 1):
+            for day in range(first, last + 1):
+                self.credits[person, day] = Fraction(found[3].replace(",", "."))
 
     def _no_single(self, line: RuleLine, words: Match[str]) -> None:
         self._add(line, Rule(RUN, _sentence(line), self._persons(line), self._kinds(line, 2, line.value), None,
@@ -290,15 +392,25 @@ class _RuleReader:
     def _holiday(self, line: RuleLine, words: Match[str]) -> None:
         if line.names:
             self._refuse(line, 3, "a holiday is for everybody")
+        self.holidays.append(self._day(line, line.value))
+
+    def _day(self, line: RuleLine, text: str) -> int:
+        """A day of the roster by its name, or any date where days are dates."""
         days = {spelling: day for day, name in self._month.names.items() for spelling in spellings(name)}
-        day = days.get(line.value)
+        day = days.get(text)
         if day is None and self._month.are_dates:
-            dates = dates_of([*self._month.names.values(), line.value]).all
+            dates = dates_of([*self._month.names.values(), text]).all
             day = None if dates is None else dates[-1].toordinal()
         if day is None:
-            self._refuse(line, 2, f"{quoted(line.value)} is no day of the roster"
+            self._refuse(line, 2, f"{quoted(text)} is no day of the roster"
                          + (", and no date" if self._month.are_dates else ""))
-        self.holidays.append(day)
+        return day
+
+    def need_times(self, line: RuleLine) -> None:
+        """Refuses rest in hours where any shift has no times."""
+        shifts = [*self._month.shifts.values(), *(shift for own in self._month.worked.values() for shift in own)]
+        if any(shift.times is None for shift in shifts):
+            self._refuse(line, 2, "hours of rest need columns from and to in the groups' file, for each shift")
 
     def need_hours(self, line: RuleLine) -> None:
         """Refuses a rule of hours where any shift has none."""

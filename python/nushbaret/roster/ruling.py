@@ -10,7 +10,7 @@ from .interrupts import interrupts_raise
 from .month import Before, Month, month_of
 from .roster import Roster, named_pairs
 from .rule_file import Rules, read_rules
-from .rules_kept import broken_by, plan_of
+from .rules_kept import broken_by, missed_by, plan_of
 from .unruled import days_in_order, kinds_alike, left_out, other_holidays, without_day, without_kind
 from .words import Options, WordsFault
 
@@ -47,6 +47,11 @@ def read_ruling(options: Options, roster: Roster, say: Callable[[str], object]) 
 def broken_rules_of(ruling: Ruling, roster: Roster, pairs: Sequence[Paired]) -> List[Broken]:
     """The rules of the file that a plan breaks."""
     return broken_by(plan_of(roster, ruling.rules, ruling.month, pairs))
+
+
+def missed_cost_of(ruling: Ruling, roster: Roster, pairs: Sequence[Paired]) -> int:
+    """What a plan misses costs of rules and counts with a price."""
+    return sum(one.cost for one in missed_by(plan_of(roster, ruling.rules, ruling.month, pairs)))
 
 
 def answered_by(ruling: Ruling, roster: Roster, request: Request, options: Options) -> Tuple[Answer, Proved]:

@@ -74,19 +74,51 @@ class Rows:
         else:
             self.rows.append(Row(low, terms, high, said.text, person))
 
+    def add_priced(self, own: Sum, least: Optional[Number], most: Optional[Number], said: Said, price: int,
+                   person: Optional[int] = None) -> None:
+        """Bounds a sum that may miss its bounds: each unit by which it does, also a part of one, costs `price`. What
+        the past alone exceeds costs nothing."""
+        if not own.is_open:
+            return
+        scale = _scale_of(own)
+        terms = tuple((variable, int(factor * scale)) for variable, factor in sorted(own.terms.items()) if factor)
+        low, high = (None if bound is None else Fraction(bound - own.past) * scale for bound in (least, most))
+        lowest, highest = sum(min(0, factor) for _, factor in terms), sum(max(0, factor) for _, factor in terms)
+        if high is not None and high < lowest and own.past:
+            high = Fraction(lowest)
+        self.said[said.text] = said
+        if low is not None and low > lowest:
+            missed = self._missed(ceil((low - lowest) / scale), price, person)
+            self.rows.append(Row(ceil(low), (*terms, *((variable, factor * scale) for variable, factor in missed)),
+                                 None, said.text, person))
+        if high is not None and high < highest:
+            missed = self._missed(ceil((highest - high) / scale), price, person)
+            self.rows.append(Row(None, (*terms, *((variable, -factor * scale) for variable, factor in missed)),
+                                 floor(high), said.text, person))
+
+    def _missed(self, most: int, price: int, person: Optional[int]) -> List[Tuple[int, int]]:
+        """New variables, with factors of which the sum can be each number up to `most`; each unit costs `price`."""
+        return [(self.helper(person, price * 2**place), 2**place) for place in range(most.bit_length())]
+
     def model(self, costs: Optional[Sequence[int]] = None, more: Sequence[Row] = ()) -> Model:
         """The model, with its own costs or others, and maybe more rows."""
         return Model(len(self.costs), tuple(self.costs if costs is None else costs), (*self.rows, *more),
                      tuple(self.persons))
 
 
-def _whole(own: Sum, least: Optional[Number], most: Optional[Number]) -> Tuple[Tuple[Tuple[int, int], ...],
-                                                                               Optional[int], Optional[int]]:
-    """The terms in whole numbers without a common factor, and what bounds them."""
+def _scale_of(own: Sum) -> int:
+    """The least number by which all terms are whole."""
     scale = 1
     for factor in own.terms.values():
         own_scale = Fraction(factor).denominator
         scale = scale * own_scale // gcd(scale, own_scale)
+    return scale
+
+
+def _whole(own: Sum, least: Optional[Number], most: Optional[Number]) -> Tuple[Tuple[Tuple[int, int], ...],
+                                                                               Optional[int], Optional[int]]:
+    """The terms in whole numbers without a common factor, and what bounds them."""
+    scale = _scale_of(own)
     scaled = {variable: int(factor * scale) for variable, factor in own.terms.items() if factor}
     common = gcd(*scaled.values()) or 1
     terms = tuple((variable, factor // common) for variable, factor in sorted(scaled.items()))
@@ -122,6 +154,19 @@ class Work:
             for shift in self._past.get((person, day), ()):
                 found.past += factor * weight(shift) if is_of(shift, kinds) else 0
         return found
+
+    def sum_where(self, person: int, day: int, test: Callable[[Shift], bool], to: Sum) -> Sum:
+        """Adds what a person has on a day of the shifts that a test accepts."""
+        to.is_open = to.is_open or not self.month.is_past(day)
+        for shift, variable in self._open.get((person, day), ()):
+            if test(shift):
+                to.add(variable)
+        to.past += any(test(shift) for shift in self._past.get((person, day), ()))
+        return to
+
+    def shifts(self, person: int, day: int) -> List[Shift]:
+        """What a person may have, or had, on a day."""
+        return [*(shift for shift, _ in self._open.get((person, day), ())), *self._past.get((person, day), ())]
 
     def on_days(self, person: int, days: Iterable[int], kinds: Kinds = None, factor: Number = 1,
                 to: Optional[Sum] = None) -> Sum:

@@ -2,9 +2,9 @@
 person. Needs NumPy and SciPy."""
 import importlib
 import time
-from typing import Any, List, Optional
+from typing import Any, Iterator, List, Optional, Sequence
 
-from .blocks import PersonBlock, cost_of, cost_row, limits_of
+from .blocks import PersonBlock, blocks_of, cost_of, cost_row, limits_of
 from .chains import Closing, chain
 from .channel import Channel
 from .check import meets
@@ -12,7 +12,8 @@ from .model import Model, Proof, flat
 from .parts import Part, renamed
 from .plans import tried
 from .prices import SCALE, Bound, Pricing, TooWide
-from .reasons import reasons
+from .reasons import conflicts
+from .shortages import shortages
 from .trees import Open, Solved, Trees
 
 np: Any = importlib.import_module("numpy")
@@ -23,6 +24,8 @@ _MOST_LEAVES = 5000
 _FEW_LEAVES = 40
 # The part of the time in which a proof that the plan is best is looked for, before a lesser one.
 _FIRST_PART = 0.6
+# The part of the time in which sums are looked at.
+_SUMS_PART = 0.3
 # By so many in a hundred a plan may be above the bound, where one is looked for near it and none is known.
 _NEAR = (1, 4, 16)
 
@@ -30,9 +33,10 @@ _NEAR = (1, 4, 16)
 class Prover:
     """Looks for bounds of a model and reports them with their proofs."""
 
-    def __init__(self, model: Model, channel: Channel, seconds: float):
-        self.model, self.channel = model, channel
-        self.deadline = time.monotonic() + seconds
+    def __init__(self, model: Model, channel: Channel, seconds: float, sums: Sequence[Sequence[int]] = ()):
+        self.model, self.channel, self.sums = model, channel, sums
+        self.begin = time.monotonic()
+        self.deadline = self.begin + seconds
         self.rows = [limits_of(row) for row in model.rows]
         self.whole = Trees(Part(self.rows, list(range(len(self.rows))), list(range(model.variables))), self.deadline)
         self.is_small = model.variables <= _SMALL
@@ -63,9 +67,43 @@ class Prover:
             self.by_one_tree()
 
     def explain(self, first: Optional[Proof]) -> None:
-        """Reports sentences that can't hold together."""
-        for found in reasons(self.model, self.deadline, _MOST_LEAVES if self.is_small else _FEW_LEAVES, first):
-            self.channel.say(reasons=found.texts, is_minimal=found.is_minimal, rows=found.rows, tree=found.tree)
+        """Reports which persons have no month, and which sums are short; where there are neither, sentences that can't
+        hold together."""
+        count = 0
+        for block in self.without_month():
+            count += self.say_conflicts(block.numbers, count, None)
+        if not self.say_shortages() and not count:
+            self.say_conflicts(range(len(self.rows)), 0, first)
+        self.channel.say(explained=True)
+
+    def without_month(self) -> Iterator[PersonBlock]:
+        """The persons whose own rows can't hold together, as the relaxation shows."""
+        until = min(self.deadline, time.monotonic() + _SUMS_PART * (self.deadline - self.begin))
+        for block in blocks_of(self.model)[0]:
+            if time.monotonic() > until:
+                return
+            part = Part(block.rows, block.numbers, block.variables)
+            if Trees(part, self.deadline).relaxed(np.zeros(len(block.variables))).value == np.inf:
+                yield block
+
+    def say_conflicts(self, rows: Sequence[int], first: int, proof: Optional[Proof]) -> int:
+        """Reports sentences of some rows that can't hold together, numbered from `first` on; how many conflicts."""
+        leaves, numbers = _MOST_LEAVES if self.is_small else _FEW_LEAVES, set()
+        for number, found in conflicts(self.model, rows, self.deadline, leaves, proof):
+            self.channel.say(reasons=found.texts, is_minimal=found.is_minimal, rows=found.rows, tree=found.tree,
+                             conflict=first + number)
+            numbers.add(number)
+        return len(numbers)
+
+    def say_shortages(self) -> bool:
+        """Reports the sums that are short; whether any is."""
+        found = False
+        if self.sums:
+            until = min(self.deadline, time.monotonic() + _SUMS_PART * (self.deadline - self.begin))
+            for reached in shortages(self.model, self.sums, until):
+                self.channel.say(short=reached.place, had=reached.had, multipliers=reached.multipliers)
+                found = True
+        return found
 
     def by_relaxation(self, solved: Solved) -> None:
         """The bound of the relaxation of all rows."""
@@ -201,6 +239,7 @@ class Prover:
             self.channel.say_plan(plan, cost)
 
 
-def look_for_bounds(model: Model, channel: Channel, seconds: float) -> None:
-    """Reports better and better bounds with their proofs, or sentences that can't hold together."""
-    Prover(model, channel, seconds).run()
+def look_for_bounds(model: Model, channel: Channel, seconds: float, sums: Sequence[Sequence[int]] = ()) -> None:
+    """Reports better and better bounds with their proofs, or sums that are short, or sentences that can't hold
+    together."""
+    Prover(model, channel, seconds, sums).run()

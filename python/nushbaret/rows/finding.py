@@ -2,16 +2,26 @@
 certificates decides."""
 import importlib.util
 import math
+import os
 import queue
+import sys
 import time
 from typing import Any, Callable, Dict, List, Optional, Sequence, Tuple
 
 from .check import meets, shows
-from .model import Certificate, Finding, Limits, Model
+from .model import Certificate, Conflict, Finding, Leaf, Limits, Model, Shortage, flat
 from .process import Worker
 from .times import Times
 
-NEEDS_SCIPY = "rosters with rules need SciPy: pip install nushbaret[rules], or apt install python3-scipy"
+
+def _needs_scipy() -> str:
+    """How SciPy is installed for this Python: in an environment of its own by pip, for Debian's by apt."""
+    is_debians = sys.prefix == sys.base_prefix == "/usr" and os.path.exists("/usr/bin/apt")
+    return "rosters with rules need SciPy: " + ("apt install python3-scipy" if is_debians
+                                                else "pip install nushbaret[rules]")
+
+
+NEEDS_SCIPY = _needs_scipy()
 # What is reported of the search: the stage, the cost of the best plan so far, and what no plan costs less than.
 Progress = Callable[[str, Optional[int], Optional[int]], None]
 # Seconds.
@@ -22,7 +32,7 @@ _STAGES = {"plans": "looks for plans", "prices": "prices of shared rows", "proof
 class _PlanSearch:
     """What is known of a model so far, each part checked when it came."""
 
-    def __init__(self, model: Model):
+    def __init__(self, model: Model, sums: Sequence[Sequence[int]] = ()):
         self.model = model
         self.unit = math.gcd(*model.costs) or 1
         self.scaled = model._replace(costs=tuple(cost // self.unit for cost in model.costs))
@@ -31,8 +41,11 @@ class _PlanSearch:
         self.cost: Optional[int] = None
         self.bound: Optional[int] = None
         self.proof: Optional[Certificate] = None
-        self.reasons: Optional[Finding] = None
-        self.is_impossible = False
+        self.sums = sums
+        self.conflicts: Dict[int, Conflict] = {}
+        self.shortages: Dict[int, Shortage] = {}
+        self.impossible: Optional[Certificate] = None
+        self.is_explained = False
 
     def take_plan(self, plan: Sequence[int]) -> bool:
         """Keeps a plan if it meets the rows and none as cheap is known."""
@@ -71,17 +84,49 @@ class _PlanSearch:
                                   tuple(told["tree"]))
         if not shows(certificate):
             return False
-        self.reasons = Finding("impossible", reasons=tuple(told["reasons"]), is_minimal=told["is_minimal"],
-                               certificate=certificate)
+        number = told.get("conflict", 0)
+        self.conflicts[number] = Conflict(tuple(told["reasons"]), told["is_minimal"], certificate)
+        # Later reasons of a conflict are fewer.
+        self.impossible = certificate if number == 0 else self.impossible or certificate
         return True
+
+    def take_shortage(self, told: Dict[str, Any]) -> bool:
+        """Keeps a shortage, if its proof shows that a sum has no more than that, and that is less than is wanted."""
+        place, had, factors = told["short"], told["had"], dict(told["multipliers"])
+        own, count = self.sums[place], len(self.rows)
+        counts = {row for those in self.sums for row in those}
+        used = [row for row in sorted(factors) if row < count]
+        rows = [self.rows[row]._replace(least=None) if row in counts and factors[row] < 0 else self.rows[row]
+                for row in used]
+        rows.append(Limits(had + 1, tuple(term for row in own for term in self.rows[row].terms), None))
+        leaf = Leaf(tuple(enumerate([*(factors[row] for row in used), factors.get(count, 0)])))
+        certificate = Certificate(self.model.variables, tuple(rows), None, flat(leaf))
+        if had >= sum(self.rows[row].least or 0 for row in own) or not shows(certificate):
+            return False
+        limits = dict.fromkeys(self.model.rows[row].text for row in used if row not in counts)
+        self.shortages[place] = Shortage(place, had, tuple(limits), certificate)
+        self._take_impossible(own, factors)
+        return True
+
+    def _take_impossible(self, own: Sequence[int], factors: Dict[int, int]) -> None:
+        """The certificate that no plan meets the rows of a sum and those that limit it."""
+        count = len(self.rows)
+        times = {row: factors.get(row, 0) + (factors.get(count, 0) if row in own else 0)
+                 for row in sorted({*own, *(row for row in factors if row < count)})}
+        used = [row for row, factor in times.items() if factor]
+        leaf = Leaf(tuple(enumerate(times[row] for row in used)))
+        certificate = Certificate(self.model.variables, tuple(self.rows[row] for row in used), None, flat(leaf))
+        if self.impossible is None and shows(certificate):
+            self.impossible = certificate
 
     def is_best(self) -> bool:
         return self.bound is not None and self.cost is not None and self.bound >= self.cost
 
     def finding(self) -> Finding:
         """What is shown so far."""
-        if self.reasons is not None:
-            return self.reasons
+        if self.impossible is not None:
+            return Finding("impossible", conflicts=tuple(self.conflicts.values()),
+                           shortages=tuple(self.shortages.values()), certificate=self.impossible)
         cost = None if self.cost is None else self.cost * self.unit
         if self.plan is None or self.bound is None or self.proof is None:
             return Finding("undecided", self.plan, cost)
@@ -102,17 +147,18 @@ def _deeper(tree: Sequence[int], first: int) -> List[int]:
 
 
 def find(model: Model, seconds: float, progress: Optional[Progress] = None, start: Optional[Sequence[int]] = None,
-         without: Optional[float] = None) -> Finding:
+         without: Optional[float] = None, sums: Sequence[Sequence[int]] = ()) -> Finding:
     """Looks for the cheapest plan of a model and for a proof, for so many seconds by the clock.
 
     `progress` is called with the stage, the cost of the best plan so far and its bound. `start` is a plan known before.
-    While no plan is known, it looks for `without` seconds instead. What is returned has been shown by its certificate.
+    While no plan is known, it looks for `without` seconds instead. `sums` are numbers of rows whose least counts are
+    summed up, to say which are short where there is no plan. What is returned has been shown by its certificate.
     Raises ImportError where SciPy isn't there, and RuntimeError where a process fails.
     """
     begin = time.monotonic()
     if any(importlib.util.find_spec(name) is None for name in ("numpy", "scipy")):
         raise ImportError(NEEDS_SCIPY)
-    search = _PlanSearch(model)
+    search = _PlanSearch(model, sums)
     if model.variables == 0:
         _without_variables(search)
         return search.finding()
@@ -120,7 +166,7 @@ def find(model: Model, seconds: float, progress: Optional[Progress] = None, star
         search.take_plan(start)
     told: "queue.Queue[Dict[str, Any]]" = queue.Queue()
     times = Times(begin, seconds, seconds if without is None else without)
-    first = {"model": search.scaled._asdict(), "seconds": seconds, "without": times.without}
+    first = {"model": search.scaled._asdict(), "seconds": seconds, "without": times.without, "sums": sums}
     workers: List[Worker] = []
     try:
         for role in ("plans", "bounds"):
@@ -170,7 +216,7 @@ def _follow(search: _PlanSearch, workers: List[Worker], told: "queue.Queue[Dict[
         stage = _taken(search, workers, message)
         if progress is not None and stage is not None:
             progress(stage, *(None if value is None else value * search.unit for value in (search.cost, search.bound)))
-        if search.reasons is not None and search.reasons.is_minimal:
+        if search.is_explained and search.impossible is not None:
             return
 
 
@@ -188,6 +234,10 @@ def _taken(search: _PlanSearch, workers: List[Worker], message: Dict[str, Any]) 
     if "reasons" in message:
         search.take_reasons(message)
         return _STAGES["reasons"]
+    if "short" in message:
+        search.take_shortage(message)
+        return _STAGES["reasons"]
+    search.is_explained = search.is_explained or "explained" in message
     if "hopeless" in message:
         _tell(workers, message)
     return _STAGES.get(message.get("stage", ""))

@@ -92,6 +92,25 @@ def bounds_costs(rows: Sequence[Limits]) -> bool:
     return bool(rows) and rows[-1].least is None and rows[-1].most is not None
 
 
+class Conflict(NamedTuple):
+    """Sentences that can't hold together; whether none of them can be left out, since without any some plan is known;
+    and the certificate that no plan meets their rows."""
+
+    reasons: Tuple[str, ...]
+    is_minimal: bool
+    certificate: Certificate
+
+
+class Shortage(NamedTuple):
+    """A sum of least counts, by its place, that no plan reaches: `had` is all that can be had. The sentences are those
+    of the other rows that limit it, and the certificate shows that no plan has `had + 1`."""
+
+    place: int
+    had: int
+    limits: Tuple[str, ...]
+    certificate: Certificate
+
+
 class Finding(NamedTuple):
     """What was found of a model, no more than its certificate has shown.
 
@@ -104,19 +123,28 @@ class Finding(NamedTuple):
         What the plan costs, or None.
     bound
         No plan costs less than that, or None.
-    reasons
-        Where the kind is "impossible": sentences that can't hold together.
-    is_minimal
-        Whether none of the reasons can be left out: without any of them some plan is known. False where the time ended
-        before.
+    conflicts
+        Where the kind is "impossible": what can't hold together, no sentence in two of them.
+    shortages
+        Where it is that instead of conflicts: sums of least counts that are short.
     certificate
-        What shows the bound, or the reasons; None where nothing is shown.
+        What shows the bound, or that no plan meets the rows; None where nothing is shown.
     """
 
     kind: str
     plan: Optional[Tuple[int, ...]] = None
     cost: Optional[int] = None
     bound: Optional[int] = None
-    reasons: Tuple[str, ...] = ()
-    is_minimal: bool = False
+    conflicts: Tuple[Conflict, ...] = ()
+    shortages: Tuple[Shortage, ...] = ()
     certificate: Optional[Certificate] = None
+
+    @property
+    def reasons(self) -> Tuple[str, ...]:
+        """The sentences of the first conflict."""
+        return self.conflicts[0].reasons if self.conflicts else ()
+
+    @property
+    def is_minimal(self) -> bool:
+        """Whether none of these can be left out. False where the time ended before."""
+        return bool(self.conflicts) and self.conflicts[0].is_minimal

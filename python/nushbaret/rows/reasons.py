@@ -2,7 +2,7 @@
 and SciPy."""
 import importlib
 import time
-from typing import Any, Dict, Iterator, List, NamedTuple, Optional, Set, Tuple
+from typing import Any, Dict, Iterator, List, NamedTuple, Optional, Sequence, Set, Tuple
 
 from .blocks import limits_of
 from .check import MOST_DEPTH, meets
@@ -12,6 +12,12 @@ from .plans import tried
 from .trees import Open, Trees
 
 np: Any = importlib.import_module("numpy")
+
+
+# The part of the time that is left in which it is looked for a plan without one of the sentences.
+_PART = 0.1
+# Further conflicts are looked for after one of so many sentences at most.
+MOST_TOLD = 6
 
 
 class Reasons(NamedTuple):
@@ -56,7 +62,8 @@ class _Filter:
             return None
         shown = self.refuted(texts, 0)
         if shown is None:
-            plan = tried((0,) * self.model.variables, self.limits_of(texts), self.deadline - time.monotonic()).plan
+            left = self.deadline - time.monotonic()
+            plan = tried((0,) * self.model.variables, self.limits_of(texts), min(left, max(1.0, left * _PART))).plan
             self.plans += [] if plan is None else [plan]
             shown = None if self.knows_plan(texts) else self.refuted(texts, leaves)
         return shown
@@ -68,6 +75,22 @@ class _Filter:
 
     def limits_of(self, texts: Set[str]) -> List[Limits]:
         return [limits_of(self.model.rows[number]) for number in self.rows_of(texts)]
+
+
+def conflicts(model: Model, rows: Sequence[int], deadline: float, leaves: int, first: Optional[Proof] = None
+              ) -> Iterator[Tuple[int, Reasons]]:
+    """Reasons of conflicts of some rows that share no sentence, with the conflicts' numbers, as `reasons` has them.
+    After one of many sentences none is looked for."""
+    left, number = list(rows), 0
+    while time.monotonic() < deadline:
+        found: Optional[Reasons] = None
+        rest = model._replace(rows=tuple(model.rows[row] for row in left))
+        for found in reasons(rest, deadline, leaves, first):
+            yield number, found._replace(rows=tuple(left[row] for row in found.rows))
+        if found is None or not found.is_minimal or len(found.texts) > MOST_TOLD:
+            return
+        left = [row for row in left if model.rows[row].text not in found.texts]
+        first, number = None, number + 1
 
 
 def reasons(model: Model, deadline: float, leaves: int, first: Optional[Proof] = None) -> Iterator[Reasons]:

@@ -19,5 +19,5 @@ def main() -> None:
         look_for_plans(model, channel, Times(time.monotonic(), told["seconds"], told["without"]))
     else:
         from .bounds import look_for_bounds
-        look_for_bounds(model, channel, told["seconds"])
+        look_for_bounds(model, channel, told["seconds"], told["sums"])
     channel.say(done=told["role"])

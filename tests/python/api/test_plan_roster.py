@@ -125,6 +125,13 @@ class Plans(InFolder):
                             rules=[("shifts per week", "2")], before=[("Cleo", kind(2027, 2, 28), "Night")])
             self.assertEqual((found.proved, len(found.pairs or ())), ("best", 8))
 
+    def test_fixed_pairs_beyond_a_count(self):
+        costs = {(person, shift): 1 for person in ("Ada", "Ben") for shift in ("E1", "E2")}
+        found = nushbaret.plan_roster(costs, {"E1": "Mon", "E2": "Tue"}, [("days in a row", "2")],
+                                      tasks={"Ada": (0, 1), "Ben": (0, 2)}, fixed=[("Ada", "E1"), ("Ada", "E2")])
+        self.assertEqual((found.proved, found.reasons), ("impossible", ["fixed (Ada: E1, Ada: E2)",
+                                                                        "at most 1 object (Ada)"]))
+
     def test_own_rows(self):
         """Without her two nights Ada takes others; a row that can't be kept is named."""
         nights = {("Ada", shift): 1 for shift in SHIFTS if shift.startswith("Night")}

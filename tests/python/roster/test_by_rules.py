@@ -7,10 +7,12 @@ import unittest
 from nushbaret.roster.answer import Request
 from nushbaret.roster.by_rules import Task, answer_by_rules
 from nushbaret.roster.month import month_of
-from nushbaret.roster.roster import PlanLine
+from nushbaret.roster.roster import PlanLine, Wanted
 from nushbaret.roster.roster_rows import built
 from nushbaret.roster.rule_file import RuleLine, rules_of
-from nushbaret.roster.rules_kept import broken_by, plan_of
+from nushbaret.roster.rules_kept import broken_by, missed_by, plan_of
+from nushbaret.roster.shortages import shorts_of, sums_of
+from nushbaret.rows.check import shows
 from nushbaret.rows.finding import find
 from nushbaret.rows.model import Model, Row
 from drawn_rules import SHAPES, drawn_lines, roster_of, with_earlier, with_past
@@ -165,6 +167,36 @@ class Reasons(unittest.TestCase):
                                                  and row.text != left]), left)
         self.assertEqual(tried, 12)
 
+    def test_sums(self):
+        """No plan that keeps rules and the counts of persons has more of a sum that is short than is said, and each
+        certificate of it is refused with one more."""
+        tried = exact = 0
+        for seed in itertools.count(4000):
+            case = drawn(seed)
+            if searched(*case) is not None:
+                continue
+            roster, month, rules, past, options = case
+            found = built(roster, rules, month, Request(past))
+            sums = sums_of(found, month)
+            finding = find(found.rows.model(), SECONDS, sums=[own.rows for own in sums])
+            self.assertTrue(finding.conflicts or finding.shortages)
+            loose = roster._replace(least=(roster.least[0], {}))
+            plans = [plan for plan in ([*past, *filter(None, choice)] for choice in itertools.product(*options))
+                     if keeps_counts(loose, plan) and not broken_by(plan_of(loose, rules, month, plan))]
+            for short in shorts_of(found, sums, finding.shortages):
+                had = [sum(pair.object in short.objects for pair in plan) for plan in plans]
+                self.assertLessEqual(max(had, default=0), short.had)
+                self.assertEqual(short.wanted, sum(roster.least[1][object_] for object_ in short.objects))
+                self.assertLess(short.had, short.wanted)
+                tried, exact = tried + 1, exact + (max(had, default=0) == short.had)
+            for one in finding.shortages:
+                last = one.certificate.rows[-1]
+                less = (*one.certificate.rows[:-1], last._replace(least=one.had))
+                self.assertFalse(shows(one.certificate._replace(rows=less)))
+            if tried >= 30:
+                break
+        self.assertGreater(exact, 20)
+
     def test_least_counts_are_missed_and_no_rule(self):
         """With as many as can the plan misses the fewest, and then costs the least."""
         tried = 0
@@ -198,6 +230,46 @@ class Reasons(unittest.TestCase):
                                                                                                 plan)):
                 best = judged
         return best
+
+
+@unittest.skipIf(optimize is None or np is None, "needs SciPy")
+class Prices(unittest.TestCase):
+    """Rules and places with a price, next to a search of all plans: the least sum of costs and prices."""
+
+    COUNT = 60
+
+    def drawn(self, seed):
+        roster, month, rules, past, options = drawn(seed)
+        r = random.Random(seed)
+        rules = rules._replace(rules=[rule._replace(price=r.choice((None, 1, 3, 7))) for rule in rules.rules])
+        wanted = {object_: Wanted(r.randint(least, roster.capacities[object_]), r.randint(1, 5))
+                  for object_, least in roster.least[1].items() if r.random() < 0.5}
+        return roster._replace(wanted=wanted), month, rules, past, options
+
+    def test_best(self):
+        missed = 0
+        for seed in itertools.count(7000):
+            roster, month, rules, past, options = self.drawn(seed)
+            costs = [sum(pair.cost for pair in plan) + sum(one.cost for one in missed_by(plan_of(roster, rules, month,
+                                                                                                  plan)))
+                     for plan in ([*past, *filter(None, choice)] for choice in itertools.product(*options))
+                     if keeps_counts(roster, plan) and not broken_by(plan_of(roster, rules, month, plan))]
+            if not costs:
+                continue
+            answer, proved = answer_by_rules(Task(roster, month, rules, Request(past), SECONDS))
+            self.assertEqual((proved.kind, answer.plan.cost + proved.missed_cost), ("best", min(costs)), seed)
+            self.check(proved.certificate)
+            missed += bool(proved.missed)
+            if seed >= 7000 + self.COUNT:
+                break
+        self.assertGreater(missed, self.COUNT // 4)
+
+    def check(self, certificate):
+        """It holds, and not of a plan that costs one less."""
+        self.assertTrue(shows(certificate))
+        last = certificate.rows[-1]
+        less = (*certificate.rows[:-1], last._replace(most=last.most + 1))
+        self.assertFalse(shows(certificate._replace(rows=less)))
 
 
 def most_even(roster, month, rules, past, options):

@@ -31,6 +31,14 @@ class Week(Files):
         pairs = json.loads(self.read("m.json"))["pairs"]
         self.assertEqual([pair.get("group") for pair in pairs], ["Tue", "Mon", "Tue", "Mon", "Mon", None])
 
+    def test_nobody_has_to_be_placed(self):
+        self.file("p.csv", "shift,least,most\nearly Mon,0,2\nlate Mon,,2\nearly Tue,0,2\noffice,,1\n")
+        said = "p.csv: each place may stay empty, and without --tasks nobody has to be placed\n"
+        self.assertEqual(self.run_words("r.csv", "--places", "p.csv")[2], said)
+        self.assertEqual(self.run_words("r.csv", "--places", "p.csv", "--tasks", "t.csv")[2], "")
+        self.file("p.csv", "shift,least,most\nearly Mon,0,2\n")
+        self.assertNotIn(said, self.run_words("r.csv", "--places", "p.csv")[2])
+
     def test_one_number_is_exact_beside_two(self):
         self.file("p.csv", "shift,at least,at most\nearly Mon,2\nlate Mon,0,1\nearly Tue,,1\noffice,0,1\n")
         self.expect(0, "least hours: 3\nAda: early Mon, 1\nBen: early Mon, 2\nat early Mon (2): Ada, Ben\nwithout: "

@@ -10,7 +10,7 @@ from nushbaret.roster.by_rules import Proved
 from nushbaret.roster.output import rule_texts
 from nushbaret.roster.roster import read_roster
 from nushbaret.rows import finding
-from nushbaret.rows.model import Finding
+from nushbaret.rows.model import Conflict, Finding
 from commands import Runs
 from optional import np, optimize
 
@@ -26,8 +26,8 @@ WORDS = ("s.csv", "--groups", "d.csv", "--tasks", "t.csv", "--rules", "r.csv")
 # The one plan of least cost. These numbers come from a search of all 1296 plans.
 PLAN = ("Ada (2): Night 2027-03-07, 0; Night 2027-03-08, 1\nBen (3): Night 2027-03-05, 1; Night 2027-03-06, 1; Early "
         "2027-03-08, 0\nCleo (3): Early 2027-03-05, 1; Early 2027-03-06, 1; Early 2027-03-07, 1\n")
-WHY = ("no plan keeps these rules, proved: together they can't hold:\n  1 person (Night 2027-03-05, Night 2027-03-06, "
-       "Night 2027-03-07, Night 2027-03-08)\n  Night per month: 1 (Ada, Ben, Cleo)\n")
+WHY = ("no plan keeps these rules, proved:\n  4 objects (Night) from 2027-03-05 to 2027-03-08 are needed, the 3 people "
+       "may take at most 3: 1 too few (Night per month: 1)\n")
 # Words that are refused, and what is said.
 REFUSED = (
     (("s.csv", "--rules", "r.csv"), "--rules needs --groups, which says the day of each object"),
@@ -336,7 +336,7 @@ class Words(Files):
 
     def test_not_proved_best(self):
         """What was found is said to be no better than was shown."""
-        def found(model, seconds, progress=None, start=None, without=None):
+        def found(model, seconds, progress=None, start=None, without=None, sums=()):
             plan = [0] * model.variables
             pairs = [(person, object_) for person in range(3) for object_ in range(8)]
             for pair in ((0, 5), (0, 7), (1, 1), (1, 3), (1, 6), (2, 0), (2, 2), (2, 4)):
@@ -354,11 +354,11 @@ class Words(Files):
 
     def test_the_fullest_plan_has_its_own_time(self):
         """Half of the time is left for it, however long reasons are looked for; that none was found is no proof."""
-        def found(model, seconds, progress=None, start=None, without=None):
+        def found(model, seconds, progress=None, start=None, without=None, sums=()):
             times.append(without)
             time.sleep(without if len(times) == 1 else 0)
             return answers.pop(0)
-        reasons = Finding("impossible", reasons=("one",), certificate=None)
+        reasons = Finding("impossible", conflicts=(Conflict(("one",), False, None),))
         none = ("no plan that misses some was found in 2 s: it wasn't looked for long enough, and --time gives more\n"
                 "o.csv isn't written: no plan was found\n")
         why = "no plan keeps these rules, proved: together they can't hold, and maybe fewer of them can't:\n  one\n"
@@ -373,7 +373,7 @@ class Words(Files):
         """Where no more is proved than that it misses some, it isn't decided whether a plan misses none."""
         plan = (1,) * 24
         for bound, status in ((1, 1), (0, 6), (None, 6)):
-            def found(model, seconds, progress=None, start=None, without=None):
+            def found(model, seconds, progress=None, start=None, without=None, sums=()):
                 if without < 1.5:
                     return Finding("undecided")
                 return Finding("within", plan + (0,) * (model.variables - 24), 3, bound)
@@ -385,7 +385,7 @@ class Words(Files):
             self.expect(2, "", finding.NEEDS_SCIPY + "\n", *WORDS)
 
     def test_progress_on_a_terminal(self):
-        def found(model, seconds, progress=None, start=None, without=None):
+        def found(model, seconds, progress=None, start=None, without=None, sums=()):
             progress("looks for plans", None, 4)
             progress("proofs", 7, 5)
             return Finding("undecided")
@@ -437,15 +437,34 @@ class Plans(Files):
         self.rules("rest,Night > Early,", "Night per month,1,")
         self.expect(1, WHY + "o.csv isn't written: there is no plan\n", "", *WORDS, "--output", "o.csv")
         status, out, _ = self.run_words(*WORDS, "--as-many-as-can", "--output", "o.json", "--html", "o.html")
-        self.assertEqual((status, out.splitlines()[:5]), (1, [
+        self.assertEqual((status, out.splitlines()[:4]), (1, [
             *WHY.splitlines(), "1 missing in all, proved: no plan that keeps the rules misses less",
             "least cost of 7 pairs: 13, proved: no plan that keeps the rules and misses no more costs less"]))
         content = json.loads(self.read("o.json"))
         self.assertEqual((content["format"], content["cost"], content["rules"]), (4, "13", {
             "proved": "best", "better": "0", "is_minimal": True, "missing": 1, "least_missing": 1, "reasons": [
-                {"sentence": "1 person", "about": [f"Night 2027-03-0{day}" for day in (5, 6, 7, 8)]},
-                {"sentence": "Night per month: 1", "about": ["Ada", "Ben", "Cleo"]}]}))
-        self.assertEqual(self.read("o.html").count('<p class="short">'), 3)
+                {"sentence": WHY.splitlines()[1].strip(), "about": []}],
+            "conflicts": [{"reasons": [WHY.splitlines()[1].strip()], "is_minimal": True, "short_by": "rules"}]}))
+        self.assertEqual(self.read("o.html").count('<p class="short">'), 2)
+
+    def test_counts_first(self):
+        """What counts alone can't meet is said before rules are looked at."""
+        self.file("p.csv", "shift,least,most\n" + "".join(f"{kind} 2027-03-0{day},2,2\n" for day in (5, 6, 7, 8)
+                                                          for kind in ("Early", "Night")))
+        with mock.patch.object(finding, "find") as find:
+            self.expect(1, "no plan meets these counts, whatever the rules, proved:\n" + "".join(
+                f"  4 objects on 2027-03-0{day} are needed, the 3 people may take at most 3: 1 too few\n"
+                for day in (5, 6, 7, 8)), "", *WORDS, "--places", "p.csv")
+            find.assert_not_called()
+
+    def test_conflicts(self):
+        """Each small conflict is said, those alike together."""
+        self.rules("Night per month,0,", "shifts per month,1,Ada", "shifts per month,1,Ben", "hours of,Early 8,",
+                   "hours of,Night 8,", "hours per month,40-,Cleo")
+        self.expect(1, "no plan keeps these rules, proved:\n  4 objects (Night) from 2027-03-05 to 2027-03-08 are "
+                    "needed, nobody may take any: 4 too few (Night per month: 0)\nand together they can't hold:\n  "
+                    "2-4 objects (Ada, Ben)\n  shifts per month: 1 (Ada, Ben)\nand together they can't hold:\n  Night "
+                    "per month: 0 (Cleo)\n  hours per month: 40- (Cleo)\n", "", *WORDS)
 
     def test_days_that_are_refused(self):
         """The first line of the day is named, among the planned days and the earlier ones."""

@@ -43,7 +43,20 @@ READ = ((("rest", "Late > Early", ""), Rule("rest", "rest: Late > Early", ALL, f
         (("apart", "", "Ada, Cleo"), Rule("apart", "apart: Ada, Cleo", (0, 2))),
         (("together", "", "Ada, Cleo"), Rule("together", "together: Ada, Cleo", (0, 2))),
         (("even", "Night", ""), Rule("even", "even: Night", ALL, frozenset(["Night"]))),
-        (("even", "weekend shifts", ""), Rule("even", "even: weekend shifts", ALL, of_weekends=True)),)
+        (("even", "weekend shifts", ""), Rule("even", "even: weekend shifts", ALL, of_weekends=True)),
+        (("rest", "11 hours", ""), Rule("pause", "rest: 11 hours", ALL, length=660)),
+        (("rest", "10,5 h", "Ada"), Rule("pause", "rest: 10,5 h", (0,), length=630)),
+        (("days off in a row", "2-", ""), Rule("days off", "days off in a row: 2-", ALL, least=Fraction(2))),
+        (("weekends in a row", "2", ""), Rule("weekends in a row", "weekends in a row: 2", ALL, most=Fraction(2))),
+        (("shifts in 7 days", "5", ""), Rule("window", "shifts in 7 days: 5", ALL, most=Fraction(5), length=7)),
+        (("Night in 14 days", "1-3", ""), Rule("window", "Night in 14 days: 1-3", ALL, frozenset(["Night"]), None,
+                                               Fraction(1), Fraction(3), length=14)),
+        (("free after Night Night", "2", "Ben"), Rule("free after", "free after Night Night: 2", (1,),
+                                                      frozenset(["Night"]), None, Fraction(2), length=2)),
+        (("free after", "Night: 1", ""), Rule("free after", "free after Night: 1", ALL, frozenset(["Night"]), None,
+                                              Fraction(1), length=1)),
+        (("free after", "Night Night", "2"), Rule("free after", "free after Night Night: 2", ALL,
+                                                  frozenset(["Night"]), None, Fraction(2), length=2)),)
 # A line, the column of the fault, and what is said.
 REFUSED = (
     (("resst", "Late > Early", ""), 1, "'resst' is no rule: did you mean 'rest'?"),
@@ -70,6 +83,15 @@ REFUSED = (
     (("hours of", "Early 7.7", "Ada"), 3, "hours of a kind are for everybody"),
     (("holiday", "2027-13-01", ""), 2, "'2027-13-01' is no day of the roster, and no date"),
     (("holiday", "2027-03-01", "Ada"), 3, "a holiday is for everybody"),
+    (("weekends in a row", "2-", ""), 2, "'2-', where the most weekends are needed"),
+    (("shifts in 0 days", "2", ""), 1, "a day at least is needed"),
+    (("free after", "Night Late: 2", ""), 2, "'Night Late': one kind as often as it is in a row, as Night Night"),
+    (("free after", "Night", ""), 2, "'Night', where a run and the free days after it are needed, such as Night "
+     "Night: 2"),
+    (("credit", "7.7", "Ada"), 2, "'7.7', where days and hours are needed, such as 2027-03-12 .. 2027-03-19: 7.7"),
+    (("credit", "2027-03-06 .. 2027-03-05: 7.7", "Ada"), 2, "'2027-03-06 .. 2027-03-05: 7.7': the second day can't be "
+     "before the first"),
+    (("credit", "2027-03-05: 7.7", ""), 3, "a name is needed"),
 )
 
 
@@ -100,6 +122,37 @@ class Files(unittest.TestCase):
                     read(("days in a row", "5", ""), cells)
                 self.assertEqual((caught.exception.line, caught.exception.column, caught.exception.text),
                                  (3, column, text))
+
+    def test_same_kind(self):
+        """A rule for each kind by itself."""
+        self.assertEqual([rule.kinds for rule in read(("same kind in a row", "2-", "")).rules],
+                         [frozenset([kind]) for kind in ("Early", "Late", "Night")])
+
+    def test_credits(self):
+        rules = read(("credit", "2027-03-05 .. 07.03.2027: 7,7", "Ada; Ben"), ("credit", "2027-03-09: 4 h", "Ada"))
+        first = datetime.date(2027, 3, 5).toordinal()
+        self.assertEqual(rules.credits, {**{(person, first + day): Fraction("7.7") for person in (0, 1)
+                                            for day in range(3)}, (0, first + 4): Fraction(4)})
+
+    def test_groups_of_persons(self):
+        teams = {("skill", "senior"): [0, 2], ("team", "red"): [1], ("team", "senior"): [1]}
+        roster = small()._replace(teams=teams)
+        for names, persons in (("skill: senior", (0, 2)), ("red", (1,)), ("team:senior; Cleo", (1, 2)),
+                               ("skill: senior, Ada", (0, 2))):
+            self.assertEqual(read(("days in a row", "5", names), roster=roster).rules[0].persons, persons)
+        with self.assertRaisesRegex(RosterFault, "the roster has no person 'senior'"):
+            read(("days in a row", "5", "senior"), roster=roster)
+
+    def test_rest_in_hours_needs_times(self):
+        roster = small()
+        roster = roster._replace(groups=roster.groups._replace(times={}))
+        with self.assertRaisesRegex(RosterFault, "line 2, column 2: hours of rest need columns from and to"):
+            read(("rest", "11 hours", ""), roster=roster)
+
+    def test_prices(self):
+        rule, = rules_of("r.csv", [RuleLine("rest", "Late > Early", "", 2, "2.50")], small()._replace(decimals=2),
+                         month_of(small(), small().groups, "g.csv")).rules
+        self.assertEqual(rule.price, 250)
 
     def test_hours_and_holidays(self):
         rules = read(("hours of", "Early 7.7", ""), ("hours of", "nights 9,5 h", ""), ("holiday", "05.03.2027", ""),

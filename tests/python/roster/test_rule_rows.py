@@ -6,7 +6,7 @@ from collections import Counter
 
 from nushbaret.roster.roster import PlanLine
 from nushbaret.roster.rule_rows import Making, add_rules
-from nushbaret.roster.rules_kept import broken_by, plan_of
+from nushbaret.roster.rules_kept import broken_by, missed_by, plan_of
 from nushbaret.roster.sums import Rows, Work
 from drawn_rules import SHAPES, drawn_case
 
@@ -79,6 +79,65 @@ class BothReaders(unittest.TestCase):
         for seed in range(500):
             found += self.compare(random.Random(1000 + seed), SHAPES, 4)
         self.assertEqual(sum(found.values()), 2000)
+        self.assertGreater(min(found.values()), 300)
+
+
+def cost_of_missed(rows, variables, plan):
+    """What the helpers with a price cost at least for a plan: each row by itself, and a helper of several rows once."""
+    taken = {variables[pair.person, pair.object] for pair in plan if (pair.person, pair.object) in variables}
+    values = [int(number in taken) for number in range(len(rows.costs))]
+    for helper in range(len(variables), len(values)):
+        if not rows.costs[helper]:
+            own = [row for row in rows.rows if (helper, 1) in row.terms and row.most is not None
+                   and all(other == helper or other < len(variables) for other, _ in row.terms)]
+            values[helper] = 1
+            values[helper] = int(all(sum(values[one] * factor for one, factor in row.terms) <= row.most for row in own))
+    cost, shared = 0, set()
+    for row in rows.rows:
+        priced = [(rows.costs[one], abs(factor), one) for one, factor in row.terms if rows.costs[one]]
+        total = sum(values[one] * factor for one, factor in row.terms)
+        lack = max(0 if row.least is None else row.least - total, 0 if row.most is None else total - row.most)
+        if not priced:
+            assert lack <= 0, row
+        elif lack > 0:
+            price, unit, one = min(priced)
+            assert lack <= sum(factor for _, factor, _ in priced), row
+            if rows.costs.count(price) and sum((one, -1) in other.terms for other in rows.rows) > 1:
+                shared.add(one)
+            else:
+                cost += -(-lack // unit) * price
+    return cost + sum(rows.costs[one] for one in shared)
+
+
+class Prices(unittest.TestCase):
+    """Rules with a price: what the rows cost at least, and what the second reader says, are the same for each plan."""
+
+    def compare(self, r, shapes, plans, most_rules=3):
+        roster, month, rules, past = drawn_case(r, r.randint(2, 4), r.randint(3, 16), r.randint(1, most_rules), shapes)
+        rules = rules._replace(rules=[rule._replace(price=r.randint(1, 9)) for rule in rules.rules])
+        rows, variables = rows_of(roster, month, rules, past)
+        found = Counter()
+        for _ in range(plans):
+            plan = drawn_plan(r, roster, past)
+            missed = missed_by(plan_of(roster, rules, month, plan))
+            self.assertEqual(cost_of_missed(rows, variables, plan), sum(one.cost for one in missed),
+                             (rules.rules, month, plan, missed))
+            self.assertEqual(broken_by(plan_of(roster, rules, month, plan)), [])
+            found[bool(missed)] += 1
+        return found
+
+    def test_each_rule(self):
+        for number, shape in enumerate(SHAPES):
+            r, found = random.Random(number), Counter()
+            with self.subTest(shape[0]):
+                for _ in range(30):
+                    found += self.compare(r, (shape,), 5, 1)
+                self.assertGreater(min(found[False], found[True]), 2)
+
+    def test_drawn_plans(self):
+        found = Counter()
+        for seed in range(500):
+            found += self.compare(random.Random(2000 + seed), SHAPES, 4)
         self.assertGreater(min(found.values()), 300)
 
 

@@ -186,8 +186,16 @@ class Untrusted(unittest.TestCase):
 
     def test_without_scipy(self):
         with mock.patch.object(finding.importlib.util, "find_spec", return_value=None):
-            with self.assertRaisesRegex(ImportError, "need SciPy: pip install nushbaret"):
+            with self.assertRaisesRegex(ImportError, "need SciPy: (pip install nushbaret|apt install python3-scipy)"):
                 finding.find(self.MODEL, 1)
+
+    def test_how_scipy_is_installed(self):
+        for prefix, base, text in (("/home/ada/venv", "/usr", "pip install nushbaret[rules]"),
+                                   ("/usr", "/usr", "apt install python3-scipy"),
+                                   ("/usr/local", "/usr/local", "pip install nushbaret[rules]")):
+            with mock.patch.object(finding.os.path, "exists", return_value=True), mock.patch.multiple(
+                    finding.sys, prefix=prefix, base_prefix=base):
+                self.assertEqual(finding._needs_scipy(), "rosters with rules need SciPy: " + text)
 
 
 if __name__ == "__main__":

@@ -111,7 +111,7 @@ def _comparison(report: Report, plan: NamedPlan, hand: Hand, text: Callable[[int
     roster = report.roster
     content: Content = {**_broken(hand), "cost": text(sum(pair.cost for pair in hand.plan.known))}
     if hand.is_comparable:
-        content["worse"] = text(worse_by(report, plan, hand.plan))
+        content["worse"] = text(worse_by(report, plan, hand))
     content["only_there"] = [{"person": roster.persons[pair.person], "object": roster.objects[pair.object],
                               "cost": text(pair.cost)} for pair in only_there(plan, hand.plan)]
     return content

@@ -1,17 +1,19 @@
 """What is said of an answer to a roster with rules: exactly what was proved."""
-from typing import Dict, List, Optional
+from typing import Callable, Dict, List, Optional
 
 from ..answer import NamedPlan
-from ..by_rules import BEST, Proved, Reason
+from ..by_rules import BEST, BY_COUNTS, Proved, Reason, Why
 from ..names import MOST_NAMES, joined
 from ..roster import Roster, decimal_text
+from ..rules_kept import Missed
+from ..shortages import MOST_LINES
 
 Content = Dict[str, object]
 
 
 def first_lines(roster: Roster, plan: Optional[NamedPlan], proved: Proved, maximize: bool) -> List[str]:
     """Why no plan keeps the rules, or what the plan costs and what is proved of it."""
-    lines = reason_lines(proved) if proved.is_impossible else []
+    lines = reason_lines(proved)
     if plan is not None:
         return [*lines, *_missing_lines(proved), _cost_line(roster, plan, proved, maximize)]
     if proved.is_fullest_open:
@@ -21,12 +23,33 @@ def first_lines(roster: Roster, plan: Optional[NamedPlan], proved: Proved, maxim
 
 
 def reason_lines(proved: Proved) -> List[str]:
-    """The sentences that can't hold together."""
+    """The sums that are short, and the sentences that can't hold together, as far as these are few lines; none where a
+    plan keeps all."""
+    if not proved.is_impossible:
+        return []
     around = "around the past, " if proved.is_around_past else ""
-    rest = ("together they can't hold:" if proved.is_minimal
-            else "together they can't hold, and maybe fewer of them can't:")
-    return [f"{around}no plan keeps these rules, proved: {rest}",
-            *("  " + sentence_of(reason) for reason in proved.reasons)]
+    first = proved.whys[0] if proved.whys else Why([])
+    if first.by != BY_COUNTS and len(first.reasons) > MOST_LINES:
+        return [f"{around}no plan keeps these rules, proved: {len(first.reasons)} sentences can't hold together"]
+    lines = [around + ("no plan meets these counts, whatever the rules, proved:" if first.by == BY_COUNTS
+                       else f"no plan keeps these rules, proved:{_together(first)}"), *_indented(first)]
+    for number, why in enumerate(proved.whys[1:], 1):
+        if len(lines) + len(why.reasons) > MOST_LINES + number:
+            more = len(proved.whys) - number
+            return [*lines, f"and {more} more conflict{'s' if more > 1 else ''}"]
+        lines += [f"and{_together(why)}", *_indented(why)]
+    return lines
+
+
+def _together(why: Why) -> str:
+    """What is said before the reasons."""
+    if why.by:
+        return ""
+    return " together they can't hold" + (":" if why.is_minimal else ", and maybe fewer of them can't:")
+
+
+def _indented(why: Why) -> List[str]:
+    return ["  " + sentence_of(reason) for reason in why.reasons]
 
 
 def sentence_of(reason: Reason) -> str:
@@ -51,8 +74,12 @@ def _missing_lines(proved: Proved) -> List[str]:
 
 def _cost_line(roster: Roster, plan: NamedPlan, proved: Proved, maximize: bool) -> str:
     title, own = roster.titles[2], roster.shown(plan.cost)
+    parts = f"({title} {own}, missed {roster.shown(proved.missed_cost)})" if proved.missed else f"({title} {own})"
     if proved.with_changes is not None:
-        title, own = f"{title} with changes", f"{roster.shown_halves(proved.with_changes)} ({title} {own})"
+        title, own = f"{title} with changes", f"{roster.shown_halves(proved.with_changes)} {parts}"
+    elif proved.has_prices:
+        paid = plan.cost + (-proved.missed_cost if maximize else proved.missed_cost)
+        title, own = f"{title} with prices", f"{roster.shown(paid)} {parts}"
     title += f" of {len(plan.pairs)} pairs" if proved.missing else ""
     if proved.kind == BEST:
         less = "has more" if maximize else "costs less"
@@ -93,6 +120,23 @@ def even_lines(roster: Roster, proved: Proved, maximize: bool) -> List[str]:
     return lines
 
 
+def missed_lines(roster: Roster, proved: Proved) -> List[str]:
+    """What is missed of rules and counts with a price, and what that costs: a line for all, and one for each."""
+    if not proved.has_prices:
+        return []
+    if not proved.missed:
+        return ["missed: nothing that has a price"]
+    return [f"missed: {roster.shown(proved.missed_cost)} in all", *map(missed_text(roster), proved.missed)]
+
+
+def missed_text(roster: Roster) -> Callable[[Missed], str]:
+    """What is said of one that is missed."""
+    def text(one: Missed) -> str:
+        times = f"{one.amount} times {roster.shown(one.cost // one.amount)}, " if one.amount > 1 else ""
+        return f"{one.broken.sentence}: {times}{roster.shown(one.cost)}"
+    return text
+
+
 def _otherwise(roster: Roster, cost: str, other: Proved, maximize: bool) -> str:
     if other.kind == BEST:
         return (f"{'greatest' if maximize else 'least'} {cost}, proved: {_no_plan(other, 'the other rules')} "
@@ -110,8 +154,15 @@ def as_content(roster: Roster, proved: Proved) -> Content:
     if proved.reasons:
         content["reasons"] = [reason._asdict() for reason in proved.reasons]
         content["is_minimal"] = proved.is_minimal
+    if len(proved.whys) > 1 or any(why.by for why in proved.whys):
+        content["conflicts"] = [{"reasons": [reason.sentence for reason in why.reasons], "is_minimal": why.is_minimal,
+                                 **({"short_by": why.by} if why.by else {})} for why in proved.whys]
     if proved.missing:
         content["missing"], content["least_missing"] = proved.missing, proved.least_missing
+    if proved.has_prices:
+        content["missed_cost"] = decimal_text(proved.missed_cost, roster.decimals, ".")
+        content["missed"] = [{**one.broken._asdict(), "amount": one.amount,
+                              "cost": decimal_text(one.cost, roster.decimals, ".")} for one in proved.missed]
     if proved.even:
         content["even"], content["is_most_even"] = [even._asdict() for even in proved.even], proved.is_most_even
     if proved.otherwise is not None and proved.otherwise_cost is not None:

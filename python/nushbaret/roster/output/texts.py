@@ -18,12 +18,14 @@ if TYPE_CHECKING:
 
 
 class Hand(NamedTuple):
-    """A plan from elsewhere, the rules that it breaks, and by how much it and the best plan miss least counts."""
+    """A plan from elsewhere, the rules that it breaks, by how much it and the best plan miss least counts, and what it
+    misses costs that has a price."""
 
     plan: OldPlan
     broken: Sequence[Broken]
     lack: int
     best_lack: int = 0
+    missed: int = 0
 
     @property
     def is_comparable(self) -> bool:
@@ -46,8 +48,10 @@ class Report(NamedTuple):
     @property
     def alarms(self) -> int:
         """How many of the first lines say why there is no plan."""
-        of_rules = len(self.proved.reasons) + 1 if self.proved is not None and self.proved.is_impossible else 0
-        return len(self.answer.groups) + of_rules
+        if self.proved is None:
+            return len(self.answer.groups)
+        from .rule_texts import reason_lines
+        return len(reason_lines(self.proved))
 
 
 class Note(NamedTuple):
@@ -88,9 +92,11 @@ def with_marks(report: Report) -> Report:
     proved = report.proved
     if proved is not None:
         named = [*report.roster.persons, *report.roster.objects]
-        proved = proved._replace(reasons=[reason._replace(sentence=with_names_marked(reason.sentence, named),
-                                                          about=list(map(marked, reason.about)))
-                                          for reason in proved.reasons])
+        missed = [one._replace(broken=one.broken._replace(sentence=with_names_marked(
+            one.broken.sentence, (*one.broken.persons, *one.broken.objects)))) for one in proved.missed]
+        proved = proved._replace(missed=missed, whys=[why._replace(reasons=[
+            reason._replace(sentence=with_names_marked(reason.sentence, named), about=list(map(marked, reason.about)))
+            for reason in why.reasons]) for why in proved.whys])
     persons, objects = list(map(marked, report.roster.persons)), list(map(marked, report.roster.objects))
     person, object_, cost = map(_title, report.roster.titles)
     roster = report.roster._replace(persons=persons, objects=objects, groups=groups,
@@ -231,9 +237,12 @@ def notes_of(report: Report, plan: NamedPlan) -> List[Note]:
 
 def _of_rules(report: Report, proved: "Proved") -> List[Note]:
     """How even counts are, and whether fewer changes may be enough."""
-    from .rule_texts import even_lines
-    fewer = [Note(f"{shown_path(report.kept.path)}: fewer changes may be enough")] if report.kept and proved.fewer_changes else []
-    return [*map(Note, even_lines(report.roster, proved, report.options.max)), *fewer]
+    from .rule_texts import even_lines, missed_lines
+    missed = missed_lines(report.roster, proved)
+    fewer = ([Note(f"{shown_path(report.kept.path)}: fewer changes may be enough")]
+             if report.kept and proved.fewer_changes else [])
+    return [*([Note(missed[0], missed[1:])] if missed else []),
+            *map(Note, even_lines(report.roster, proved, report.options.max)), *fewer]
 
 
 def rows_of(roster: Roster, plan: NamedPlan) -> List[str]:
@@ -368,10 +377,11 @@ def broken_rules(hand: Optional[Hand]) -> List[Note]:
                  [broken.sentence for broken in hand.broken])]
 
 
-def worse_by(report: Report, plan: NamedPlan, hand: OldPlan) -> int:
-    """By how much a plan from elsewhere is worse than the best."""
-    cost = sum(pair.cost for pair in hand.known)
-    return plan.cost - cost if report.options.max else cost - plan.cost
+def worse_by(report: Report, plan: NamedPlan, hand: Hand) -> int:
+    """By how much a plan from elsewhere is worse than the best, with what each misses that has a price."""
+    more = sum(pair.cost for pair in hand.plan.known) - plan.cost
+    missed = hand.missed - (0 if report.proved is None else report.proved.missed_cost)
+    return missed - more if report.options.max else missed + more
 
 
 def only_there(plan: NamedPlan, hand: OldPlan) -> List[PlanLine]:
@@ -385,10 +395,11 @@ def compared(report: Report, plan: NamedPlan, hand: Hand) -> Note:
     differ."""
     roster, own = report.roster, hand.plan
     cost = sum(pair.cost for pair in own.known)
-    more = cost - plan.cost
+    more = -worse_by(report, plan, hand) if report.options.max else worse_by(report, plan, hand)
     size = f"{roster.shown(abs(more))} {'more' if more > 0 else 'less'} than" if more else "as good as"
     of_pairs = (f" for {counted(len(own.known), 'pair')} that the roster allows" if len(own.known) < len(own.named)
                 else "")
+    of_pairs += f" and {roster.shown(hand.missed)} missed" if hand.missed else ""
     rest = "" if hand.is_comparable or hand.best_lack else ", which breaks none"
     rest = ", which misses less" if hand.lack > hand.best_lack > 0 else rest
     is_best = report.options.change_cost is None if report.proved is None else report.proved.better == 0
