@@ -122,10 +122,16 @@ def _metadata():
     fields = [("Metadata-Version", "2.1"), ("Name", "nushbaret"), ("Version", VERSION),
               ("Summary", _text("description")), ("Keywords", ",".join(_listed("keywords"))),
               ("License", "MIT OR Apache-2.0"), ("Requires-Python", _text("requires-python")),
-              *(("Classifier", text) for text in _listed("classifiers")), ("Provides-Extra", "rules"),
-              *(("Requires-Dist", f"{text}; extra == 'rules'") for text in _listed("rules")),
+              *(("Classifier", text) for text in _listed("classifiers")), *_extras("rules", "dask"),
               ("Description-Content-Type", "text/markdown")]
     return "".join(f"{name}: {text}\n" for name, text in fields) + "\n" + _description()
+
+
+def _extras(*names):
+    """What optional parts of the package need."""
+    for name in names:
+        yield "Provides-Extra", name
+        yield from (("Requires-Dist", f"{text}; extra == '{name}'") for text in _listed(name))
 
 
 def _description():

@@ -31,9 +31,10 @@ RUN = ["README.md", "docs/MODELLING.md", "docs/SCRIPTS.md"]
 RELEASED = re.compile(r"\./try\b|\brelease/|\bplanner\b")
 GENERATED = "docs/DEFINITIONS.md"
 # The most words of each page. The generated one and the list of changes may have any number.
-MOST_OF_PAGE = {"README.md": 1430, "SECURITY.md": 220, "bench/README.md": 1130,
-                "examples/README.md": 155,
-                "docs/ARCHITECTURE.md": 1385, "docs/CALLING.md": 605, "docs/CONTRIBUTING.md": 725,
+MOST_OF_PAGE = {"README.md": 1430, "SECURITY.md": 245, "bench/README.md": 1130,
+                "examples/README.md": 160,
+                "docs/ARCHITECTURE.md": 1395, "docs/BEYOND.md": 765, "docs/CALLING.md": 605,
+                "docs/CONTRIBUTING.md": 725,
                 "docs/DECISIONS.md": 1530, "docs/FORMATS.md": 1965, "docs/MODELLING.md": 1040, "docs/PROOFS.md": 1200,
                 "docs/PROVED.md": 3600, "docs/PYTHON.md": 1565, "docs/RATTLE.md": 335, "docs/ROSTERS.md": 1765,
                 "docs/RULES.md": 1400, "docs/SCRIPTS.md": 720, "docs/TESTING.md": 655}

@@ -17,6 +17,7 @@ BELOW = {
     "roster": ("costs", "lap", "rows", "counts"),
     "roster.output": ("costs", "lap", "rows", "counts", "roster"),
     "api": ("costs", "lap", "rows", "counts", "roster", "roster.output"),
+    "beyond": ("costs", "lap", "api"),
 }
 # The modules of roster/ that hand on to roster/output/, whose modules import none of them.
 FRONTS = ("roster.command", "roster.ruling")

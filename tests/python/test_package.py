@@ -69,7 +69,9 @@ class Package(unittest.TestCase):
                              set(ran.get_all("Classifier")))
         self.assertEqual(ran["Description-Content-Type"], "text/markdown")
         self.assertEqual((ran.get_all("Provides-Extra"), ran.get_all("Requires-Dist")),
-                         (["rules"], ["scipy>=1.9; extra == 'rules'"]))
+                         (["rules", "dask"], ["scipy>=1.9; extra == 'rules'",
+                                              "dask[array,dataframe,distributed]; extra == 'dask'",
+                                              "numpy; extra == 'dask'"]))
         self.assertIn("For rosters with names see ROSTERS.md.", ran.get_payload())
         self.assertNotRegex(ran.get_payload(), r"\]\((?!https?:)")
 

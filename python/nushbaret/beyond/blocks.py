@@ -1,0 +1,184 @@
+"""Which pairs of some rows are better than their own ones at given prices: over whole numbers by the library's call
+over blocks, over doubles here."""
+import ctypes
+from typing import Any, Dict, List, NamedTuple, Optional, Tuple
+
+import numpy
+
+from ..lap import library
+
+# The number of a row whose pairs are all better, and the least sum of a row without pairs.
+GREATEST = 2**63 - 1
+_NONE = numpy.empty(0, numpy.uint32)
+_calls: Dict[str, Any] = {}
+
+
+class Look(NamedTuple):
+    """The better pairs of a block, as rows and columns of it, by rows; each row's least sum of cost and price; the
+    first row with a better pair, with its first column of this kind, if there is one; and which rows have their own
+    pair at their number."""
+
+    rows: Any
+    columns: Any
+    costs: Any
+    least: Any
+    first: Optional[Tuple[int, int]]
+    shown: Any
+
+
+class Asked(NamedTuple):
+    """What is asked of the rows of a block.
+
+    Attributes
+    ----------
+    numbers : array
+        A number for each row: int64, or float64.
+    rests : array or None
+        To doubles these are added without rounding; None: they are 0.
+    own : array or None
+        Each row's own column, or -1.
+    prices : array
+        Prices of the columns, 0 or more.
+    most : int
+        The most better pairs of a row, its cheapest ones.
+    """
+
+    numbers: Any
+    rests: Any
+    own: Any
+    prices: Any
+    most: int
+
+
+def look(costs: Any, asked: Asked) -> Look:
+    """The pairs of a matrix, rows by columns, whose sum of cost and price is below the row's number; in doubles an
+    infinity forbids its pair."""
+    if costs.dtype.kind == "f":
+        return _looked_at_doubles(costs, asked)
+    return _looked(len(costs), _NONE, _NONE, costs.ravel(), asked)
+
+
+def look_listed(n: int, rows: Any, columns: Any, costs: Any, asked: Asked) -> Look:
+    """The same of listed pairs: row rows[k] of n lists column columns[k] at costs[k]. A pair may stand there several
+    times."""
+    if costs.dtype.kind == "f":
+        return _of_doubles(n, rows, columns, costs, asked)
+    return _looked(n, (rows + 1).astype(numpy.uint32), (columns + 1).astype(numpy.uint32), costs, asked)
+
+
+# Whole numbers.
+
+
+def _call() -> Any:
+    if not _calls:
+        kinds = [ctypes.c_uint32, *[ctypes.c_size_t] * 2, *[ctypes.c_void_p, ctypes.c_size_t] * 6, ctypes.c_size_t,
+                 *[ctypes.c_void_p, ctypes.c_size_t] * 5, ctypes.c_void_p]
+        _calls["block"] = ctypes.CFUNCTYPE(ctypes.c_int32, *kinds)(library.address("nushbaret_block"))
+    return _calls["block"]
+
+
+def _looked(n: int, persons: Any, objects: Any, costs: Any, asked: Asked) -> Look:
+    """What the library says of a block."""
+    own = numpy.zeros(n, numpy.uint32) if asked.own is None else (asked.own + 1).astype(numpy.uint32)
+    held = min(n * asked.most, len(costs))
+    given = persons, objects, costs, own, asked.numbers, asked.prices
+    written = (numpy.empty(n, numpy.int64), numpy.empty(n, numpy.uint8), numpy.empty(held, numpy.uint32),
+               numpy.empty(held, numpy.uint32), numpy.empty(held, numpy.int64))
+    info = library.Info()
+    code = library.CODES[_call()(0, n, len(asked.prices), *_addresses(given), asked.most, *_addresses(written),
+                                 ctypes.addressof(info))]
+    if code == "COST":
+        raise ValueError(f"a cost is {costs[info.place]}, beyond 10**12")
+    if code == "MEMORY":
+        raise MemoryError("the library was refused memory")
+    if code not in ("BEST", "SLACK"):
+        raise RuntimeError(f"the library says {code} of a block, at place {info.place}")
+    least, shown, rows, columns, paid = written
+    count = info.persons
+    return Look(rows[:count].astype(numpy.int64) - 1, columns[:count].astype(numpy.int64) - 1, paid[:count], least,
+                (info.person - 1, info.object - 1) if code == "SLACK" else None, shown.view(bool))
+
+
+def _addresses(lists: Any) -> List[int]:
+    """The address and the count of each list."""
+    return [word for values in lists for word in (values.__array_interface__["data"][0], values.size)]
+
+
+# Doubles. Rounding keeps the order of sums; where two rounded sums are equal, what they lost decides.
+
+
+def two_sum(first: Any, second: Any) -> Tuple[Any, Any]:
+    """Sums of doubles, and what they lost, exactly (Knuth); without a meaning where a sum is infinite."""
+    with numpy.errstate(invalid="ignore"):
+        sums = first + second
+        back = sums - first
+        return sums, (first - (sums - back)) + (second - back)
+
+
+def _looked_at_doubles(costs: Any, asked: Asked) -> Look:
+    """The same of a matrix of doubles."""
+    sums = costs + asked.prices
+    least, numbers = sums.min(1), asked.numbers[:, None]
+    below = sums < numbers
+    if asked.rests is not None:
+        rows, columns = (sums == numbers).nonzero()
+        lost = two_sum(costs[rows, columns], asked.prices[columns])[1]
+        below[rows, columns] = lost < asked.rests[rows]
+    first = None
+    better = below.any(1)
+    if better.any():
+        row = int(better.argmax())
+        first = row, int(below[row].argmax())
+    if asked.most < costs.shape[1]:
+        _keep_cheapest(sums, below, asked.most)
+    rows, columns = below.nonzero()
+    own, shown = asked.own, numpy.zeros(len(costs), bool)
+    if own is not None:
+        shown = (own >= 0) & _is_at(costs[numpy.arange(len(costs)), own], asked.prices[own], asked.numbers, asked.rests)
+    return Look(rows, columns, costs[rows, columns], least, first, shown)
+
+
+def _is_at(costs: Any, prices: Any, numbers: Any, rests: Any) -> Any:
+    """Which sums are exactly these numbers and rests."""
+    sums, lost = two_sum(costs, prices)
+    return (sums == numbers) & (lost == (0.0 if rests is None else rests))
+
+
+def _keep_cheapest(sums: Any, below: Any, most: int) -> None:
+    """Leaves of each row's marked pairs so many, those of the least sums."""
+    many = numpy.flatnonzero(numpy.count_nonzero(below, 1) > most)
+    if not len(many):
+        return
+    held = numpy.where(below[many], sums[many], numpy.inf)
+    chosen = numpy.argpartition(held, most - 1, 1)[:, :most]
+    below[many] = False
+    below[many[:, None], chosen] = True
+
+
+def _of_doubles(n: int, rows: Any, columns: Any, costs: Any, asked: Asked) -> Look:
+    """The same of listed pairs."""
+    sums, lost = two_sum(costs, asked.prices[columns])
+    below = sums < asked.numbers[rows]
+    if asked.rests is not None:
+        below |= (sums == asked.numbers[rows]) & (lost < asked.rests[rows])
+    least, shown = numpy.full(n, numpy.inf), numpy.zeros(n, bool)
+    numpy.minimum.at(least, rows, sums)
+    if asked.own is not None:
+        own = (columns == asked.own[rows]) & _is_at(costs, asked.prices[columns], asked.numbers[rows],
+                                                    None if asked.rests is None else asked.rests[rows])
+        shown[rows[own]] = True
+    places = numpy.flatnonzero(below)
+    first = None
+    if len(places):
+        row = rows[places].min()
+        first = int(row), int(columns[places[rows[places] == row]].min())
+    places = places[numpy.lexsort((columns[places], sums[places], rows[places]))]
+    rank = ranks(rows[places])
+    places = places[rank < asked.most]
+    return Look(rows[places], columns[places], costs[places], least, first, shown)
+
+
+def ranks(rows: Any) -> Any:
+    """How many equal numbers stand before each one of sorted numbers."""
+    starts = numpy.flatnonzero(numpy.diff(rows, prepend=-1))
+    return numpy.arange(len(rows)) - numpy.repeat(starts, numpy.diff(numpy.append(starts, len(rows))))
