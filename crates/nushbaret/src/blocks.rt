@@ -1,5 +1,5 @@
 // The call on a block of a greater problem, as `c/nushbaret.h` declares it.
-ghost use Rattle.lent_blocks.specs.Blocks.{JudgesBlock, block_given};
+ghost use Rattle.lent_blocks.specs.Blocks.{BlockBuffers, JudgesBlock, block_given};
 
 use assign_core::Cost;
 use cost_lists::{Object, Person, Price};
@@ -29,7 +29,7 @@ pub extern "C" fn nushbaret_block(
     better_costs: &mut [Cost],
     info: &mut Info,
 ) -> i32
-    ensures { let before = record {
+    ensures { let before : BlockBuffers = record {
       least = least.old;
       own = own.old;
       better = record {
@@ -39,7 +39,7 @@ pub extern "C" fn nushbaret_block(
       };
       info = info.old;
     } in
-        let after = record {
+        let after : BlockBuffers = record {
           least = least.new;
           own = own.new;
           better = record {
