@@ -28,7 +28,7 @@ export function stripped(cell) {
 
 /**
  * A cell of CSV as it is written: with an apostrophe in front where a spreadsheet would run it, and one more where apostrophes
- * stand before such a beginning.
+ * stand before what a spreadsheet would run.
  * @param {string} cell
  * @returns {string}
  */

@@ -137,9 +137,9 @@ def text_of(case: Dict[str, Any]) -> str:
 def main() -> None:
     with open(sys.argv[1], encoding="utf-8") as file:
         table = json.load(file)
-    cases = [{"bytes": bytes.fromhex(case["bytes"]) if "bytes" in case else text_of(case).encode(), "name": case["name"],
-              "comma": case.get("comma", False), "form": case.get("form", ""), "max": case.get("max", False)}
-             for case in table]
+    cases = [{"bytes": bytes.fromhex(case["bytes"]) if "bytes" in case else text_of(case).encode(),
+              "name": case["name"], "comma": case.get("comma", False), "form": case.get("form", ""),
+              "max": case.get("max", False)} for case in table]
     for path in sys.argv[3:]:
         with open(path, "rb") as data:
             cases.append({"bytes": data.read(), "name": os.path.basename(path), "comma": False, "form": "",

@@ -45,7 +45,7 @@ def is_plain(name: str) -> bool:
 
 def guarded(cell: str) -> str:
     """A cell of CSV as it is written: with an apostrophe in front where a spreadsheet would run it, and one more where
-    apostrophes stand before such a beginning."""
+    apostrophes stand before what it would run."""
     return "'" + cell if _IS_RUN.match(cell) else cell
 
 

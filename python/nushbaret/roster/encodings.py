@@ -54,7 +54,8 @@ def decoded(data: bytes, named: Optional[str]) -> Decoded:
     if named is not None:
         text = _strictly(data, named)
         if "\0" in text:
-            raise Undecodable(f"NUL characters, which no text in {named} has: {SAVE}, or name its encoding by --encoding")
+            raise Undecodable(f"NUL characters, which no text in {named} has: {SAVE}, or name its encoding by "
+                              "--encoding")
         return Decoded(text, named)
     if data.startswith(SPREADSHEETS):
         raise Undecodable(f"a spreadsheet that is no .xlsx, and no text: save it as .xlsx, or {SAVE}")

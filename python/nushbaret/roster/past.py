@@ -133,13 +133,14 @@ def _forbidden_lines(roster: Roster, kept: OldPlan, added: Sequence[Triple]) -> 
     own: Dict[int, List[str]] = {}
     for person, object_, cost in added:
         own.setdefault(person, []).append(f"{roster.objects[object_]}, {roster.shown(cost)}")
-    return [f"{shown_path(kept.path)}: {roster.persons[person]} keeps what the roster doesn't allow now: {'; '.join(pairs)}"
+    begin = shown_path(kept.path)
+    return [f"{begin}: {roster.persons[person]} keeps what the roster doesn't allow now: {'; '.join(pairs)}"
             for person, pairs in own.items()]
 
 
 def _most_line(roster: Roster, kept: OldPlan, person: int, had: int) -> str:
-    return (f"{shown_path(kept.path)}: {roster.persons[person]} has {counted(had, roster.titles[1])} in the past, more than the "
-            f"most of {roster.tasks_of(person)}: {had} is the most")
+    return (f"{shown_path(kept.path)}: {roster.persons[person]} has {counted(had, roster.titles[1])} in the past, more "
+            f"than the most of {roster.tasks_of(person)}: {had} is the most")
 
 
 def with_fixed(roster: Roster, past: Past, fixed: Sequence[PlanLine], path: str) -> List[PlanLine]:

@@ -98,7 +98,7 @@ class Scan:
         if not 0 <= self._row < MOST_ROWS:
             raise WorkbookFault(f"a row of the number {number}, where rows have those from 1 to {MOST_ROWS}")
         if self._row <= before:
-            raise WorkbookFault(f"row {self._row + 1} stands behind row {before + 1}: save the workbook in your "
+            raise WorkbookFault(f"row {self._row + 1} stands after row {before + 1}: save the workbook in your "
                                 "spreadsheet again", self._row + 1)
 
     @staticmethod
@@ -110,7 +110,7 @@ class Scan:
         own, before = attributes.get("r"), self._column
         row, column = (self._row, before + 1) if own is None else coordinates(own)
         if column >= MOST_COLUMNS:
-            raise WorkbookFault(f"the cell {named(row, column)} is behind the last column, XFD", self._row + 1)
+            raise WorkbookFault(f"the cell {named(row, column)} is after the last column, XFD", self._row + 1)
         if row != self._row or column <= before:
             raise WorkbookFault(f"the cell {named(row, column)} isn't in its place in row {self._row + 1}: save the "
                                 "workbook in your spreadsheet again", self._row + 1)

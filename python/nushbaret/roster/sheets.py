@@ -6,8 +6,8 @@ import re
 import stat
 import sys
 from itertools import accumulate, islice
-from typing import (IO, Callable, Generator, Iterable, Iterator, List, Match, NamedTuple, NoReturn, Optional, Sequence, Set,
-    Tuple, cast)
+from typing import (IO, Callable, Generator, Iterable, Iterator, List, Match, NamedTuple, NoReturn, Optional, Sequence,
+                    Set, Tuple, cast)
 
 from ..costs.limits import MOST_PERSONS
 from .cells import GUARDS, NoName, as_name, unguarded
@@ -151,7 +151,8 @@ class Sheet:
         except Undecodable as fault:
             self.refuse(str(fault), None if fault.place is None else data.count(b"\n", 0, fault.place) + 1)
         if is_guess:
-            reading.say(f"{shown_path(self.path)}: read as {self.encoding}, since it is no UTF-8; --encoding names another")
+            reading.say(f"{shown_path(self.path)}: read as {self.encoding}, since it is no UTF-8; --encoding names "
+                        "another")
         del data
         self.text = _after_lines(text, self.skipped)
         self.has_guards = "'" in self.text and any(map(self.text.__contains__, GUARDS))

@@ -39,8 +39,8 @@ def left_out(roster: Roster, before: Optional[Before]) -> Iterator[str]:
     names = [] if roster.groups is None else undated(roster.groups, before)
     if names:
         shown = listed(names, list(range(len(names))))
-        yield (f"{shown_path(before.path)}: the groups' file doesn't list {counted(len(names), roster.titles[1])} ({shown}): no "
-               "rule looks at them")
+        yield (f"{shown_path(before.path)}: the groups' file doesn't list {counted(len(names), roster.titles[1])} "
+               f"({shown}): no rule looks at them")
 
 
 def kinds_alike(path: str, month: Month) -> Iterator[str]:

@@ -2,7 +2,7 @@
 import pathlib
 import re
 from array import array
-from typing import Callable, Dict, Iterator, List, NamedTuple, Optional, Sequence, Union
+from typing import Dict, Iterator, List, NamedTuple, Optional, Sequence, Union
 
 from .model import Certificate, Limits, bounds_costs
 
@@ -145,8 +145,8 @@ def _numbers(piece: str, line: int) -> "array[int]":
     is_plain = len(piece) <= 2 * _PIECE and not piece.encode().translate(None, _LETTERS)
     try:
         if is_plain and str(_MOST) not in piece and str(_LEAST) not in piece:
-            read: Callable[[str], int] = _SMALL.__getitem__ if len(words) * _FEW > len(piece) else int
-            return array("q", list(map(read, words)))
+            is_looked_up = len(words) * _FEW > len(piece)
+            return array("q", list(map(_SMALL.__getitem__, words) if is_looked_up else map(int, words)))
     except (ValueError, OverflowError):
         pass
     fault = next((word for word in words if not _is_number(word)), None)

@@ -7,6 +7,7 @@ import os
 import pathlib
 import random
 import subprocess
+import sys
 import tempfile
 import unittest
 from unittest import mock
@@ -18,7 +19,7 @@ from nushbaret.roster.files import OutputFault, write_file
 from nushbaret.roster.names import without_marks
 from nushbaret.roster.roster import read_roster
 from nushbaret.roster.words import parser_of
-from commands import OTHERS, SQUARE, TOP, Runs, parsed, program, shell, square, without_names
+from commands import OTHERS, SQUARE, TOP, Runs, environment, parsed, program, shell, square, without_names
 
 NIGHTS = ("person,shift,hours\nAda,early,1\nBen,night,2\nBen,weekend,3\nCleo,night,2\nDan,night,1\nDan,weekend,5\n"
           "Ada,late,2\nAda,office,1\n")
@@ -556,9 +557,17 @@ class Statuses(Runs):
 
     @unittest.skipIf("NUSHBARET_EMULATED" in os.environ, "an emulator takes more memory")
     def test_memory_refused_by_a_limit(self):
-        self.file("r.csv", square(1500))
-        self.assertEqual(shell("ulimit -v 60000; N r.csv --output p.csv"), (4, "", "memory refused\n"))
-        self.assertEqual(os.listdir(), ["r.csv"])
+        """With a little more address space than the command takes for a short roster, it refuses one whose text alone
+        is longer."""
+        self.file("few.csv", SQUARE)
+        measured = ("from nushbaret.roster.command import main; main(['few.csv']); "
+                    "print(*(line.split()[1] for line in open('/proc/self/status') if line.startswith('VmPeak')))")
+        few = int(subprocess.check_output([sys.executable, "-c", measured], env=environment()).split()[-1])
+        limit = few + 2048
+        self.assertEqual(shell(f"ulimit -v {limit}; N few.csv --output few.json")[0], 0)
+        self.file("r.csv", SQUARE + "\n" * (limit * 1024))
+        self.assertEqual(shell(f"ulimit -v {limit}; N r.csv --output p.csv"), (4, "", "memory refused\n"))
+        self.assertEqual(sorted(os.listdir()), ["few.csv", "few.json", "r.csv"])
 
     def test_as_a_program(self):
         self.file("r.csv", SQUARE.replace("Ada", "Ad\u00e4"))

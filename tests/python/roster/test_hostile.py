@@ -1,4 +1,5 @@
 """Files that are meant to break a reader: cells that run, far cells, texts of other encodings, and damaged parts."""
+import errno
 import io
 import json
 import os
@@ -20,7 +21,8 @@ from optional import openpyxl
 RUN = ("=1+1", "@SUM(A1)", "+a", "-", "-2+3", "+1 2", "\tx", "\rx", "'=a", "''@b", "'-c")
 BARE = ("-4", "+5", "-1.5", "+2,50", "-1e-3", "a=b", "'", "''", "'a", "'-4", "", " =a", "O'Hara", "-1.5E+01")
 TURNING = "\u202a\u202b\u202c\u202d\u202e\u2066\u2067\u2068\u2069\u200e\u200f\u2028\u2029"
-SHEET = '<worksheet xmlns="http://schemas.openxmlformats.org/spreadsheetml/2006/main"><sheetData>{}</sheetData></worksheet>'
+SHEET = ('<worksheet xmlns="http://schemas.openxmlformats.org/spreadsheetml/2006/main"><sheetData>{}</sheetData>'
+         "</worksheet>")
 
 
 class Guards(Runs):
@@ -62,7 +64,8 @@ class Guards(Runs):
 
     @unittest.skipUnless(openpyxl, "openpyxl isn't installed")
     def test_workbooks(self):
-        """A workbook keeps texts from formulas: names stand as they are, but for apostrophes that would be taken off."""
+        """A workbook keeps texts from formulas: names stand as they are, with one more apostrophe where readers take
+        one off."""
         self.file("r.csv", "a,b,c\n'=x,y,1\n''=z,w,1\n")
         self.assertEqual(self.run_words("r.csv", "--lines", "--output", "p.xlsx")[0], 0)
         cells = openpyxl.load_workbook("p.xlsx")["Plan"]
@@ -88,7 +91,7 @@ class Letters(Runs):
         self.assertIsNone(FORBIDDEN.search("a\u00a0\u200d\u202fÿ"))
 
     def test_files(self):
-        """A file's own name is printed in quotes where it has what can't be printed."""
+        """A file's own name is printed in quotes where it has what can't be printed, and else as it is."""
         for name, shown in (("a\u202eb.csv", "'a\\u202eb.csv'"), ("a\x1b[1m.csv", "'a\\x1b[1m.csv'"),
                             ("a\nb.csv", "'a\\nb.csv'")):
             self.file(name, "x,y,z\nAda,early,1x\n")
@@ -97,7 +100,7 @@ class Letters(Runs):
             self.file("r.csv", SQUARE)
             self.assertEqual(self.run_words("r.csv", "--output", name)[2], f"{shown} exists: --force overwrites it\n")
             self.assertEqual(self.run_words("r.csv", "--keep", f"no{name}")[2],
-                             f"{shown[0]}no{shown[1:]}: No such file or directory\n")
+                             f"{shown[0]}no{shown[1:]}: {os.strerror(errno.ENOENT)}\n")
 
     def test_names_of_windows(self):
         self.assertEqual(file_names(["lpt\u00b9", "COM\u00b2.x", "conin$", "CONOUT$", "lpt\u2074x"]),
@@ -157,7 +160,8 @@ class Json(Runs):
                 ('{"pairs": [{"person": 1, "object": "x"}]}', "each a text: its person is a number"),
                 ('{"pairs": [{"person": " ", "object": "x"}]}', "pair 1: an empty name, its person"),
                 ('{"pairs": [{"person": "\\ud800", "object": "x"}]}', "pair 1: a control character in the name"),
-                ('{"pairs": [{"person": "A", "object": "x", "cost": [1]}]}', "pair 1: its cost is a list, where a number")):
+                ('{"pairs": [{"person": "A", "object": "x", "cost": [1]}]}',
+                 "pair 1: its cost is a list, where a number")):
             self.file("k.json", text)
             with self.subTest(text=text[:60]):
                 self.refused(3, "k.json", "r.csv", "--keep", "k.json")
@@ -171,7 +175,8 @@ class Words(Runs):
     def test_csv(self):
         for text, shown in (('a,b,c\nAda,"x,1\n', "line 2: no CSV: the quotes around a cell aren't closed\n"),
                             ('a,b,c\nAda,"x"y,1\n', "line 2: no CSV: text after the quotes around a cell\n"),
-                            ('a,b,c\nAda,"' + "x" * 131073 + '",1\n', "line 2: a cell of more than 131072 characters\n")):
+                            ('a,b,c\nAda,"' + "x" * 131073 + '",1\n',
+                             "line 2: a cell of more than 131072 characters\n")):
             self.file("r.csv", text)
             self.refused(3, "r.csv, " + shown, "r.csv", "--lines")
 
@@ -249,7 +254,7 @@ class Workbooks(Runs):
                           f'{head}<row r="1000000000">{self.cell("A1000000000", "x")}</row>')
         self.refused_with(": a row of the number 0, where", f'<row r="0">{self.cell("A1", "x")}</row>')
         self.refused_with(": a row of the number -3, where", '<row r="-3"/>')
-        self.refused_with(", line 2: the cell XFE2 is behind the last column, XFD",
+        self.refused_with(", line 2: the cell XFE2 is after the last column, XFD",
                           f'<row r="2">{self.cell("XFE2", "x")}</row>')
         with mock.patch.object(sheet_scan, "MOST_CELLS", 1000):
             empty = "".join(f'<row r="{row}"><c r="CV{row}" s="0"/></row>' for row in range(3, 20))
@@ -261,8 +266,8 @@ class Workbooks(Runs):
     def test_rows_out_of_order(self):
         rows = [self.row(1, "a", "b", "c"), self.row(2, "Ada", "x", "1"), self.row(3, "Ben", "y", "1")]
         again = self.row(2, "Cleo", "z", "1")
-        self.refused_with(", line 2: row 2 stands behind row 3", "".join(rows) + again)
-        self.refused_with(", line 3: row 3 stands behind row 3", "".join(rows) + self.row(3, "Cleo", "z", "1"))
+        self.refused_with(", line 2: row 2 stands after row 3", "".join(rows) + again)
+        self.refused_with(", line 3: row 3 stands after row 3", "".join(rows) + self.row(3, "Cleo", "z", "1"))
         self.refused_with(", line 2: the cell A3 isn't in its place in row 2",
                           rows[0] + f'<row r="2">{self.cell("A3", "Ada")}</row>')
         self.refused_with(", line 2: the cell A2 isn't in its place in row 2",

@@ -14,7 +14,8 @@ from .calendar import Event, calendar
 from .html import document, name, ours, scrolling, style_of
 
 PAGE, CALENDAR = ".html", ".ics"
-# Letters that some system forbids in the name of a file, and names that Windows keeps for itself; a raised 1 counts as 1.
+# Letters that some system forbids in the name of a file, and names that Windows keeps for itself; a raised 1 counts as
+# 1.
 FORBIDDEN = frozenset('<>:"/\\|?*')
 RESERVED = frozenset(("con", "prn", "aux", "nul", "conin$", "conout$", *(f"{word}{number}" for word in ("com", "lpt")
                                                     for number in range(1, 10))))
@@ -69,7 +70,8 @@ def lines_on_calendars(roster: Roster, plan: NamedPlan, folder: str) -> List[str
         return [f"{shown_path(folder)}: no calendars are written: {dates.why}"]
     rest = sorted({pair.object for pair in plan.pairs if group_of(roster, pair.object) is None})
     title = "" if groups is None else groups.title
-    return [f"{shown_path(folder)}: the calendars leave out what has no {title}: {listed(roster.objects, rest)}"] if rest else []
+    begin = f"{shown_path(folder)}: the calendars leave out what has no {title}"
+    return [f"{begin}: {listed(roster.objects, rest)}"] if rest else []
 
 
 def times_at(roster: Roster, object_: int) -> Optional[Times]:

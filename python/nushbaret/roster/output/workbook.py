@@ -25,7 +25,8 @@ def need_openpyxl(path: str) -> Any:
     try:
         import openpyxl
     except ImportError:
-        raise OutputFault(f"{shown_path(path)}: a workbook is written where openpyxl is installed; elsewhere write .csv") from None
+        raise OutputFault(f"{shown_path(path)}: a workbook is written where openpyxl is installed; elsewhere write "
+                          ".csv") from None
     return openpyxl
 
 
