@@ -100,7 +100,8 @@ def whole_kinds(n):
             "i + j": i + j, "(i - j)^2": (i - j)**2, "i^2 j": i * i * j, "ones": np.ones((n, n), int),
             "0 or 1": drawn(0, 2, (n, n)),
             "rows alike": np.broadcast_to(drawn(0, 10**6, n), (n, n)).copy(), "columns alike":
-            np.broadcast_to(drawn(0, 10**6, n)[:, None], (n, n)).copy(), "distances": far, "squares of distances": far**2,
+            np.broadcast_to(drawn(0, 10**6, n)[:, None], (n, n)).copy(),
+            "distances": far, "squares of distances": far**2,
             "sums": drawn(0, 10**5, (n, 1)) + drawn(0, 10**5, (1, n)) + few,
             "products": drawn(1, 1000, (n, 1)) * drawn(1, 1000, (1, n)),
             "negative": drawn(-10**6, 10**6, (n, n))}
@@ -120,13 +121,15 @@ def whole():
 def doubles():
     """linear_sum_assignment of uniform doubles by the library's call."""
     call = ctypes.CFUNCTYPE(ctypes.c_int32, ctypes.c_uint32, *[ctypes.c_size_t] * 2,
-                            *[ctypes.c_void_p, ctypes.c_size_t] * 4, ctypes.c_void_p)(library.address("nushbaret_doubles"))
+                            *[ctypes.c_void_p, ctypes.c_size_t] * 4,
+                            ctypes.c_void_p)(library.address("nushbaret_doubles"))
     for n in (500, 1000, 2060, 4000):
         costs = RNG.random((n, n))
         room = [np.zeros(n, np.uint32), np.zeros(n, np.uint32), np.zeros(n), np.zeros(8, np.uint64)]
         words = [word for values in [costs, *room[:3]] for word in (values.ctypes.data, values.size)]
         found = least({"own": lambda: nushbaret.linear_sum_assignment(costs),
-                       "library": lambda: call(0, n, n, *words, room[3].ctypes.data), "scipy": lambda: scipys(costs)}, 3)
+                       "library": lambda: call(0, n, n, *words, room[3].ctypes.data),
+                       "scipy": lambda: scipys(costs)}, 3)
         print(f"doubles, n = {n}: {found['own'] / found['library']:.2f} of the library's call, "
               f"{found['own'] / found['scipy']:.2f} of SciPy's")
 
@@ -150,7 +153,8 @@ def sparse():
 def thresholds():
     """Whole numbers by the doubles' call and by their own, through ctypes: where the second is sooner."""
     call = ctypes.CFUNCTYPE(ctypes.c_int32, ctypes.c_uint32, *[ctypes.c_size_t] * 2,
-                            *[ctypes.c_void_p, ctypes.c_size_t] * 4, ctypes.c_void_p)(library.address("nushbaret_doubles"))
+                            *[ctypes.c_void_p, ctypes.c_size_t] * 4,
+                            ctypes.c_void_p)(library.address("nushbaret_doubles"))
     for n in (5, 10, 20, 30, 50, 80, 120):
         ratios = {}
         for name, costs in whole_kinds(n).items():
