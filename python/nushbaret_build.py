@@ -26,7 +26,7 @@ LIBRARIES = {
 }
 EXTENSION = "_extension.abi3.so"
 NAMES = {EXTENSION, *(path.name for path, _ in LIBRARIES.values())}
-SOURCE = TOP / "nushbaret_extension.c"
+SOURCES = sorted((TOP / "extension").glob("*.[ch]"))
 # The compilers that make the extension for each kind of machine; those of a machine of the same kind alone need no name
 # of their own.
 COMPILERS = {r"(linux|manylinux2014)[-_]x86_64": "cc", r"(linux|manylinux2014)[-_]aarch64": "aarch64-linux-gnu-gcc"}
@@ -83,7 +83,8 @@ def compile_extension(compiler, path):
         return False
     with tempfile.TemporaryDirectory() as held:
         _configuration(headers, pathlib.Path(held))
-        words = [compiler, *FLAGS, f"-I{headers}", f"-I{held}", "-o", str(path), SOURCE.name]
+        words = [compiler, *FLAGS, f"-I{headers}", f"-I{held}", "-o", str(path),
+                 *(str(file.relative_to(TOP)) for file in SOURCES if file.suffix == ".c")]
         return subprocess.run(words, cwd=TOP).returncode == 0
 
 
@@ -101,8 +102,9 @@ def _extension():
     """The extension for the machine that the wheel is for, as bytes: what was built, unless its source is newer, or
     else compiled here; None where there is none."""
     library = next(path for kind, (path, _) in LIBRARIES.items() if re.fullmatch(kind, PLATFORM))
+    newest = max(file.stat().st_mtime for file in SOURCES)
     for file in (PACKAGE / EXTENSION, library.with_name(EXTENSION)):
-        if library.suffix == ".so" and file.exists() and file.stat().st_mtime >= SOURCE.stat().st_mtime:
+        if library.suffix == ".so" and file.exists() and file.stat().st_mtime >= newest:
             return file.read_bytes()
     compiler = next((own for kind, own in COMPILERS.items() if re.fullmatch(kind, PLATFORM)), None)
     if compiler is None:
@@ -254,7 +256,8 @@ def build_sdist(sdist_directory, config_settings=None):
     """The sources with the library next to them, so that a wheel can be made of them alone."""
     front = f"nushbaret-{VERSION}"
     files = {name: TOP / name for name in ("pyproject.toml", "nushbaret_build.py", "nushbaret_guide.py",
-                                           "nushbaret_manual.py", SOURCE.name)}
+                                           "nushbaret_manual.py")}
+    files.update({f"extension/{file.name}": file for file in SOURCES})
     files.update({file.name: file for file in (*DESCRIPTIONS, *GUIDES, *RULES) if file.exists()})
     files.update({f"examples/{file.name}": file for file in _examples()})
     files.update({file.name: file for file in _licenses()})

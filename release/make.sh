@@ -116,7 +116,7 @@ look_at_the_library() {
     for file in "$library.so" "$library.a" "$extension"; do
         [ -e "$file" ] || stop "${file#"$top"/} isn't there: run c/build.sh$words first (the extension needs Python.h)"
     done
-    [ "$extension" -nt "$top/python/nushbaret_extension.c" ] || stop "${extension#"$top"/} is older than its source: run c/build_extension.sh$words"
+    [ -z "$(find "$top/python/extension" -newer "$extension" -name '*.[ch]')" ] || stop "${extension#"$top"/} is older than its source: run c/build_extension.sh$words"
     soname=$(readelf -d "$library.so" | sed -n 's/.*(SONAME).*\[\(.*\)\]/\1/p')
     [ "$soname" = "libnushbaret.so.$major" ] || stop "the SONAME of ${library#"$top"/}.so is '$soname', not libnushbaret.so.$major: run c/build.sh$words"
     for file in "$library.so" "$extension"; do

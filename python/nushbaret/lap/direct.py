@@ -1,4 +1,4 @@
-"""The short way to the library: an extension module in C, nushbaret_extension.c, where there is one for this Python.
+"""The short way to the library: an extension module in C, of python/extension/, where there is one for this Python.
 Other Pythons, and Windows, go by ctypes alone. It solves arrays and lists of floats and whole numbers; for anything
 else, and for each fault, it goes the longer way, through Python.
 
@@ -18,7 +18,7 @@ from . import library, proved
 NAME = "nushbaret._extension"
 FILE = "_extension.abi3.so"
 # What the extension calls.
-EXPORTS = "nushbaret_doubles", "nushbaret_dense"
+EXPORTS = "nushbaret_doubles", "nushbaret_check_doubles", "nushbaret_dense_from"
 
 
 def extension() -> Any:
@@ -56,7 +56,7 @@ def connect() -> None:
     """Gives the extension the addresses of the library's calls, and NumPy's table if NumPy is there."""
     held, numpy = sys.modules[NAME], reading.loaded_numpy()
     if numpy is not None:
-        held.attach_numpy(_table_of(numpy))
+        held.attach_numpy(_table_of(numpy), numpy.float64)
     held.attach(*map(library.address, EXPORTS))
 
 
@@ -77,26 +77,26 @@ def over(longer: Any) -> Any:
 
 
 def found(costs: Any, maximize: bool) -> Optional[proved.ResultParts]:
-    """What a result is made of, for a small array, a frame or a list of lists, where floats are the decimals that they
+    """What a result is made of, for a small array, a frame or a list of rows, where floats are the decimals that they
     print as; None where the longer way is to be taken."""
     held = extension()
     if held is None:
         return None
-    matrix = costs if type(costs) is list else _matrix(costs)
+    is_list = type(costs) is list
+    matrix = costs if is_list else _matrix(costs)
     answer = None if matrix is None else held.found(matrix, maximize)
     if answer is None:
         return None
     (rows, columns), (own, objects, prices, total, decimals) = answer
-    is_list = type(costs) is list
-    if is_list and decimals < 0 and not _is_long(costs[0][0]):
+    if is_list and decimals < 0 and not _is_long(own[0]):
         return None
-    n_rows, n_columns = (len(costs), len(costs[0])) if is_list else matrix.shape
-    labels = (list(costs.index), list(costs.columns)) if is_frame(costs) else None
+    n_rows, n_columns = (len(costs), len(costs[0])) if is_list else costs.shape
+    labels = (list(costs.index), list(costs.columns)) if not is_list and is_frame(costs) else None
     kind = kinds.shape(None if decimals < 0 else decimals)
     shape = AssignmentProblem(n_rows, n_columns, maximize, kind, labels=labels)
     n, m = sorted((n_rows, n_columns))
     best = proved.Assignment(n, m, total, array("I", objects), None if prices is None else array("q", prices))
-    return proved.ResultParts(shape, best, rows, columns, own, not is_list)
+    return proved.ResultParts(shape, best, rows, columns, own, type(rows) is not list)
 
 
 def _is_long(cost: float) -> bool:
@@ -106,23 +106,14 @@ def _is_long(cost: float) -> bool:
 
 
 def _matrix(costs: Any) -> Any:
-    """An array for the extension, whose floats have 64 bits; None where there is none."""
+    """A frame of pandas, or an array of which nothing is masked, as the extension reads them; None for anything
+    else."""
     numpy = reading.loaded_numpy()
-    if numpy is None:
-        return None
-    if type(costs) is not numpy.ndarray:
-        costs = _of_frame(numpy, costs)
-    if costs is None or costs.ndim != 2 or costs.dtype.kind != "f" or costs.dtype.itemsize == 8:
-        return costs
-    return None if costs.dtype.itemsize > 8 else printing.of_shape(numpy, costs)
-
-
-def _of_frame(numpy: Any, costs: Any) -> Any:
-    """The array that holds all costs of a frame of pandas; None where these stand in several, maybe of several
-    kinds."""
-    if not is_frame(costs):
-        return None
-    values = costs.values
-    if type(values) is not numpy.ndarray or values.base is None or values.base is not costs.values.base:
-        return None
-    return values
+    if numpy is None or not isinstance(costs, numpy.ndarray):
+        return costs if is_frame(costs) else None
+    if isinstance(costs, numpy.ma.MaskedArray):
+        if numpy.ma.is_masked(costs):
+            return None
+        costs = costs.data
+    # Floats of 16 bits as what they print as.
+    return printing.of_shape(numpy, costs) if costs.dtype.char == "e" else costs

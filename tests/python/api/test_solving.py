@@ -171,6 +171,8 @@ class Duals(unittest.TestCase):
         for _, costs, maximize, result in self.results(8):
             other = nushbaret.solve(costs, maximize, partial=True)
             answer = other._found.answer
+            if answer.prices is None:
+                continue
             raised = answer._replace(prices=array("q", [price + 7 for price in answer.prices]))
             other.__dict__["_found"] = other._found._replace(answer=raised)
             self.assertEqual((other.row_duals, other.column_duals, other.prices),

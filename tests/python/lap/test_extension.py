@@ -19,13 +19,19 @@ from unittest import mock
 import nushbaret
 from nushbaret.lap import direct
 from drawn import best, drawing, exactly
-from optional import np
+from optional import np, optimize, pd
 from ways import by_the_longer_way, extension, longer_call
 
 if np:
     import exact_doubles
 
 LONGER = object()
+
+
+def is_near(costs, rows, columns):
+    """Whether a plan's sum is that of SciPy's, to within their rounding."""
+    theirs = costs[optimize.linear_sum_assignment(costs)] if optimize else costs[longer_call(costs)]
+    return len(set(columns.tolist())) == len(rows) and abs(math.fsum(costs[rows, columns]) - math.fsum(theirs)) < 1e-9
 
 
 def another(longer=lambda *words, **named: LONGER):
@@ -80,8 +86,10 @@ class Reading(unittest.TestCase):
         class Row(list):
             pass
 
-        for costs in ([], [[]], [[1, 2], [3]], [[1], (2,)], ((1, 2), (3, 4)), [Row([1])], Row([[1]]), [[True]],
-                      [[None]], [["1"]], [[1j]], [[2**53 + 1]], [[10**30]], [[Fraction(1, 2)]], [[math.nan]],
+        for costs in ([], [[]], [[1, 2], [3]], [[1, 2], (3,)], ((1, 2), (3, 4)), [Row([1])],
+                      Row([[1]]), [[1], Row([1])],
+                      [[None]], [[1, None], [2, None]], [["1"]], [[1j]], [[2**53 + 1]], [[10**30]],
+                      [[Fraction(1, 2)]], [[math.nan]],
                       [[-math.inf]], [[math.inf]], [1, 2], [[[1]]], None, "12", 5, b"1"):
             self.assertIs(self.call(costs), LONGER, costs)
 
@@ -105,13 +113,86 @@ class Reading(unittest.TestCase):
             pass
 
         plain = np.array([[1.0, 2.0], [3.0, 5.0]])
-        for costs in (plain.astype("f2"), plain.astype("u8"), plain.astype("c8"), plain.astype(object),
-                      plain.astype("longdouble"), plain.astype(">f8"), plain.astype(">i4"), plain.view(Other),
-                      np.ma.array(plain), plain[0], plain[None], np.zeros((0, 3)), np.zeros((3, 0)), np.array(1.0),
+        for costs in (plain.astype("c8"), plain.astype("longdouble"), np.array([[Fraction(1, 3)]]),
+                      np.array([["1"]], object),
+                      np.array([[10**30]], object), np.array([[2**63]], "u8"), plain[0], plain[None], np.zeros((0, 3)),
+                      np.zeros((3, 0)), np.array(1.0), [plain[0], plain[0, :1]], [plain[0], np.array(["a", "b"])],
                       np.array([[2**53 + 1]]), np.array([[np.nan]]), np.array([[-np.inf]]), np.array([[np.inf]]),
                       np.array([["a"]]), np.array([[1]], "M8[s]"), memoryview(plain)):
             self.assertIs(self.call(costs), LONGER, repr(costs))
         self.assertIs(self.call(np.array([[np.inf]]), True), LONGER)
+
+    @unittest.skipUnless(np, "NumPy isn't there")
+    def test_every_kind_of_input(self):
+        """Each of these is read without a step of Python's."""
+        class Other(np.ndarray):
+            pass
+
+        draw = drawing(306)
+        for turn in range(40):
+            n, m, maximize = draw.randint(1, 14), draw.randint(1, 14), turn % 2 == 0
+            plain = np.array([[draw.randint(-200, 400) / 4 for _ in range(m)] for _ in range(n)])
+            forms = [plain.astype(kind) for kind in ("f2", "f4", ">f8", ">f4", ">f2", object)]
+            forms += [plain.view(Other), np.ma.array(plain), np.ma.array(plain, mask=plain > 50), list(plain),
+                      list(map(tuple, plain)), [*plain[:1], *plain[1:].tolist()], list(plain.astype("f4"))]
+            forms += [pd.DataFrame(plain), pd.DataFrame(plain.T).T, pd.DataFrame(plain.astype(object))] if pd else []
+            self.same(forms, plain, maximize)
+            whole = np.abs(np.rint(plain))
+            forms = [whole.astype(kind) for kind in ("i2", ">i2", "i8", "u8", ">i8", ">u8", "i4", "u2", ">u4")]
+            self.same([*forms, *map(np.asfortranarray, forms)], whole, maximize)
+            if pd:
+                frame = pd.DataFrame(plain)
+                frame[0] = 3
+                self.same([frame, frame[frame.columns[::-1]].iloc[:, ::-1]], frame.to_numpy(float), maximize)
+
+    def same(self, forms, plain, maximize):
+        """Forms get what the plain array of doubles gets, each by itself."""
+        wanted = sums(plain.tolist(), *longer_call(plain, maximize))
+        for form in forms:
+            answer = self.call(form, maximize)
+            self.assertIsNot(answer, LONGER, repr(form))
+            self.assertEqual(sums(plain.tolist(), *answer), wanted, repr(form))
+            has_arrays = type(form) is not list or any(type(row) is np.ndarray for row in form)
+            self.assertEqual([type(part) for part in answer], [np.ndarray if has_arrays else list] * 2)
+
+    def test_none_forbids(self):
+        draw = drawing(307)
+        for turn in range(200):
+            n, maximize = draw.randint(1, 4), turn % 2 == 0
+            costs = [[draw.choice([None, draw.randint(0, 9), True, 2.5]) for _ in range(n)] for _ in range(n)]
+            try:
+                wanted = longer_call(costs, maximize)
+            except nushbaret.Infeasible:
+                self.assertIs(self.call(costs, maximize), LONGER)
+            else:
+                self.assertEqual(sums(costs, *self.call(costs, maximize)), sums(costs, *wanted))
+
+    @unittest.skipUnless(np, "NumPy isn't there")
+    def test_floats_of_32_bits_as_they_print(self):
+        draw = np.random.default_rng(308)
+        drawn = [draw.random(3000), draw.random(3000) * 10.0**draw.integers(-44, 38, 3000),
+                 draw.integers(0, 10**8, 3000) / 100,
+                 2.0**draw.integers(-149, 127, 300), np.arange(0, 2**31, 701_819).astype(np.int32).view(np.float32),
+                 [0.0, -0.0, 1e-45, 3.4e38, 16777216, 0.015625, 9.999999e-5, 1e-4]]
+        left = 0
+        with np.errstate(all="ignore"):
+            values = np.concatenate([np.asarray(part, float) for part in drawn]).astype(np.float32)
+        for part in np.array_split(values[np.isfinite(values)], 150):
+            for row in (part, -part[::-1]):
+                for value in row[::7]:
+                    answer = self.module.found(np.array([[value]]), False)
+                    left += answer is None
+                    if answer is not None:
+                        (cost,), decimals = answer[1][0], answer[1][4]
+                        self.assertEqual(Fraction(cost) / 10**max(decimals, 0) if decimals > 0 else cost,
+                                         Fraction(str(value)) if decimals > 0 else float(str(value)))
+            if len(part) > 9:
+                square = part[:9].reshape(3, 3)
+                wide = np.array([[float(str(value)) for value in row] for row in square])
+                answer = self.module.found(square, False)
+                if answer is not None:
+                    self.assertEqual(answer[1], self.module.found(wide, False)[1])
+        self.assertLess(left, len(values) // 4)
 
     def test_arguments(self):
         """Other arguments than a matrix and a bool are judged by the longer way, which gets them as they are."""
@@ -184,7 +265,7 @@ class Exact(unittest.TestCase):
                 self.assertEqual(exact_doubles.is_best(costs, rows, columns), len(np.unique(costs)) == 1)
 
     def test_long_searches(self):
-        """Up to 2047 rows, these take the short way too."""
+        """Of 2048 rows and more too."""
         rng = np.random.default_rng(4)
         costs = np.where(rng.random((520, 520)) < 0.3, np.inf, rng.random((520, 520)))
         module, call = another()
@@ -193,7 +274,28 @@ class Exact(unittest.TestCase):
                 rows, columns = call(-matrix if maximize else matrix, maximize)
                 wanted = longer_call(-matrix if maximize else matrix, maximize)
                 self.assertEqual(sums(matrix, rows, columns), sums(matrix, *wanted))
-        self.assertIs(call(np.broadcast_to(1.0, (2048, 2048))), LONGER)
+        # So many doubles are rounded first, and searched in pieces.
+        for costs in rng.random((2060, 2050))[:, ::-1], rng.random((2048, 2048)) - 0.5:
+            answer = call(costs)
+            self.assertIsNot(answer, LONGER)
+            self.assertTrue(is_near(costs, *answer))
+        costs = np.full((2048, 2048), 1 / 3)
+        costs[0, 0] = np.inf
+        self.assertIs(call(costs), LONGER)
+
+    def test_whole_numbers_are_exact(self):
+        """They go by the call for whole numbers, beyond what doubles hold, and whatever their order in memory."""
+        rng = np.random.default_rng(12)
+        for n, m in ((12, 12), (40, 30), (30, 55)):
+            great = rng.integers(2**53, 2**53 + 9, (n, m))
+            self.assertIs(another()[1](great), LONGER)
+            for costs in rng.integers(-10**12, 10**12, (n, m)), np.arange(1, n + 1)[:, None] * np.arange(1, m + 1):
+                for form in costs, np.asfortranarray(costs), costs.astype(float), costs[::-1, ::-1][::-1, ::-1]:
+                    for maximize in False, True:
+                        answer = another()[1](form, maximize)
+                        self.assertIsNot(answer, LONGER)
+                        wanted = longer_call(costs, maximize)
+                        self.assertEqual(sums(costs.tolist(), *answer), sums(costs.tolist(), *wanted))
 
 
 @unittest.skipUnless(extension() and np, "the extension or NumPy isn't there")
@@ -270,7 +372,12 @@ def forms():
     if np:
         rng = np.random.default_rng(10)
         held += [rng.random((3, 3)), rng.random((70, 70)), rng.random((5, 3)), np.ones((2, 2), "i4"),
-                 np.asfortranarray(rng.random((4, 4))), np.ones(3), np.array([[np.inf]]), rng.random((60, 60))[:, ::-1]]
+                 np.asfortranarray(rng.random((4, 4))), np.ones(3), np.array([[np.inf]]), rng.random((60, 60))[:, ::-1],
+                 rng.integers(0, 99, (12, 12)), rng.random((9, 9)).astype("f4"), np.ones((2, 2), object),
+                 list(rng.random((3, 4))),
+                 np.ma.array(rng.random((3, 3))), [(1, 2), [3, None]]]
+    if pd:
+        held += [pd.DataFrame(rng.random((4, 4))), pd.DataFrame({"a": [1, 2], "b": [0.5, 7], "c": [True, False]})]
     return held
 
 
@@ -289,7 +396,8 @@ class Kept(unittest.TestCase):
         self.each_way(module, call)
         for costs in held:
             watched = [costs, None, True, False, call,
-                       module] + (costs if type(costs) is list else [costs.dtype, type(costs)])
+                       module] + (costs if type(costs) is list else [type(costs)])
+            watched += [costs.dtype] if np and isinstance(costs, np.ndarray) else []
             call(costs)
             before = [sys.getrefcount(value) for value in watched]
             for _ in range(50):

@@ -1,0 +1,256 @@
+/* What the library found, as callers get it: rows and columns as arrays or lists, what a result is made of, and a batch. */
+#include <math.h>
+#include <string.h>
+#include "extension.h"
+
+/* Floats of at most so many decimal places are whole numbers of a unit. */
+enum { MOST_PLACES = 6 };
+
+/* ---- Pairs ---- */
+
+/* Who has each object; 0 where nobody has it. */
+static void find_owners(const Matrix *matrix, const Room *room) {
+    memset(room->owners, 0, (size_t)matrix->m * sizeof(uint32_t));
+    for (Py_ssize_t i = 0; i < matrix->n; i++) room->owners[room->objects[i] - 1] = (uint32_t)i + 1;
+}
+
+/* Rows and columns of a plan, rows rising. */
+void pair_up(const Matrix *matrix, const Room *room) {
+    if (matrix->turned) {
+        find_owners(matrix, room);
+        for (Py_ssize_t j = 0, k = 0; j < matrix->m; j++)
+            if (room->owners[j]) {
+                room->rows[k] = j;
+                room->columns[k++] = (int64_t)room->owners[j] - 1;
+            }
+        return;
+    }
+    for (Py_ssize_t i = 0; i < matrix->n; i++) {
+        room->rows[i] = i;
+        room->columns[i] = (int64_t)room->objects[i] - 1;
+    }
+}
+
+/* Numbers as a list. */
+static PyObject *as_list(const int64_t *numbers, Py_ssize_t count) {
+    PyObject *list = PyList_New(count);
+    for (Py_ssize_t k = 0; list && k < count; k++) {
+        PyObject *number = PyLong_FromLongLong(numbers[k]);
+        if (!number || PyList_SetItem(list, k, number)) {
+            Py_DECREF(list);
+            return NULL;
+        }
+    }
+    return list;
+}
+
+/* Numbers as an array of intp. */
+static PyObject *as_array(const State *state, const int64_t *numbers, Py_ssize_t count) {
+    PyObject *array = state->make(state->array, 1, &count, LONGS, NULL, NULL, 0, 0, NULL);
+    if (array) memcpy(((struct array *)array)->data, numbers, (size_t)count * sizeof *numbers);
+    return array;
+}
+
+static PyObject *as_given(const State *state, const Matrix *matrix, const int64_t *numbers) {
+    return matrix->gives_arrays ? as_array(state, numbers, matrix->n) : as_list(numbers, matrix->n);
+}
+
+/* Two objects as a pair; it takes both, and either may be NULL. */
+PyObject *pair_of(PyObject *first, PyObject *second) {
+    PyObject *pair = first && second ? PyTuple_New(2) : NULL;
+    if (!pair) {
+        Py_XDECREF(first);
+        Py_XDECREF(second);
+        return NULL;
+    }
+    PyTuple_SetItem(pair, 0, first);
+    PyTuple_SetItem(pair, 1, second);
+    return pair;
+}
+
+/* Rows and columns in the form that the costs have. */
+PyObject *rows_and_columns(const State *state, const Matrix *matrix, const Room *room) {
+    pair_up(matrix, room);
+    PyObject *rows = as_given(state, matrix, room->rows);
+    return pair_of(rows, rows ? as_given(state, matrix, room->columns) : NULL);
+}
+
+/* ---- solve ---- */
+
+/* Whether a pair is forbidden, of costs that aren't NaN. */
+static int forbids(const double *costs, size_t count) {
+    int found = 0;
+    for (size_t k = 0; k < count; k++) found |= fabs(costs[k]) > MOST_DOUBLE;
+    return found;
+}
+
+/* Whether doubles have decimals that are whole numbers, at most 10^12, of the unit 1 / power; these are written. An infinite one stands
+   as 0. */
+static int has_places(const double *costs, size_t count, double power, int64_t *whole) {
+    for (size_t k = 0; k < count; k++) {
+        const double scaled = costs[k] * power, nearest = scaled + TO_WHOLE - TO_WHOLE;
+        const int is_infinite = fabs(costs[k]) > MOST_DOUBLE;
+        if (!is_infinite && (!(fabs(scaled) <= (double)GREATEST_COST) || nearest / power != costs[k])) return 0;
+        whole[k] = is_infinite ? 0 : (int64_t)nearest;
+    }
+    return 1;
+}
+
+/* How many decimal places finite doubles have at most, from 0 on; -1 where these are too many. */
+static int places_of(const double *costs, size_t count, int64_t *whole) {
+    static const double powers[MOST_PLACES + 1] = {1, 1e1, 1e2, 1e3, 1e4, 1e5, 1e6};
+    for (int places = 0; places <= MOST_PLACES; places++)
+        if (has_places(costs, count, powers[places], whole)) return places;
+    return -1;
+}
+
+/* The costs of the pairs of a plan: whole numbers, or doubles where `whole` is NULL. */
+static PyObject *paid(const Matrix *matrix, const double *costs, const int64_t *whole, const Room *room) {
+    PyObject *list = PyList_New(matrix->n);
+    for (Py_ssize_t k = 0; list && k < matrix->n; k++) {
+        const int64_t person = matrix->turned ? room->columns[k] : room->rows[k], object = matrix->turned ? room->rows[k] : room->columns[k];
+        const size_t place = (size_t)(person * matrix->m + object);
+        PyObject *cost = whole ? PyLong_FromLongLong(whole[place]) : PyFloat_FromDouble(costs[place]);
+        if (!cost || PyList_SetItem(list, k, cost)) {
+            Py_DECREF(list);
+            return NULL;
+        }
+    }
+    return list;
+}
+
+/* Rows and columns; the costs paid, the objects, prices and total if there are any, and the places of whole numbers, else -1; and the first
+   cost, the number of rows and that of columns. */
+static PyObject *found_of(const State *state, const Matrix *matrix, const Room *room, const double *costs, const int64_t *whole, int places,
+    const struct info *info) {
+    PyObject *pairs = rows_and_columns(state, matrix, room);
+    if (!pairs) return NULL;
+    PyObject *own = paid(matrix, costs, places < 0 ? NULL : whole, room);
+    const char *objects = (const char *)room->objects, *prices = (const char *)room->prices;
+    const Py_ssize_t n = 4 * matrix->n, m = 8 * matrix->m;
+    PyObject *rest = !own ? NULL : info ? Py_BuildValue("(Oy#y#Li)", own, objects, n, prices, m, (long long)info->total, places)
+        : Py_BuildValue("(Oy#OOi)", own, objects, n, Py_None, Py_None, places);
+    Py_XDECREF(own);
+    return pair_of(pairs, rest);
+}
+
+/* The plan of whole costs. */
+static PyObject *found_whole(const State *state, const Matrix *matrix, int maximize, const int64_t *whole, const Room *room, int places) {
+    struct info info;
+    const int32_t code = solve_whole(state, matrix, maximize, whole, room, &info);
+    return code == BEST ? found_of(state, matrix, room, NULL, whole, places, &info) : NULL;
+}
+
+/* The plan of floats that are the decimals that they print as. Whole numbers are these decimals; a plan for others has to be best by a
+   margin. */
+static PyObject *found_in(State *state, const Matrix *matrix, int maximize, const double *costs, const Room *room, int64_t *whole) {
+    const size_t count = (size_t)matrix->n * (size_t)matrix->m;
+    const int places = places_of(costs, count, whole);
+    uint32_t by_margin = 0;
+    if (places >= 0 && !forbids(costs, count)) return found_whole(state, matrix, maximize, whole, room, places);
+    if (solve(state, matrix, maximize, costs, room, &by_margin) != BEST || !(by_margin || places == 0)) return NULL;
+    return found_of(state, matrix, room, costs, whole, places, NULL);
+}
+
+/* The same of a matrix that was read. */
+static PyObject *found_of_matrix(State *state, const Matrix *matrix, int maximize, const Room *room, int64_t *whole) {
+    if (has_whole_kind(matrix)) {
+        const int64_t *costs = whole_costs_of(matrix, whole);
+        return costs ? found_whole(state, matrix, maximize, costs, room, 0) : NULL;
+    }
+    const double *costs = costs_of(state, matrix, room);
+    return costs ? found_in(state, matrix, maximize, costs, room, whole) : NULL;
+}
+
+/* found(costs, maximize): what a result is made of; None where the longer way is to be taken. */
+PyObject *found(PyObject *module, PyObject *arguments) {
+    State *state = PyModule_GetState(module);
+    PyObject *costs, *answer = NULL;
+    double spare[SPARE];
+    int maximize;
+    Matrix matrix;
+    Room room;
+    if (!PyArg_ParseTuple(arguments, "Op", &costs, &maximize)) return NULL;
+    if (!is_ready(state) || !look_at(state, costs, &matrix, 0)) Py_RETURN_NONE;
+    matrix.as_printed = 1;
+    matrix.forbids = maximize ? -INFINITY : INFINITY;
+    const int is_left = looks_at_most(&matrix) >= LONG || matrix.kind == HALVES || (matrix.kind == FLOATS && matrix.swapped);
+    int64_t *whole = is_left ? NULL : PyMem_Malloc((size_t)matrix.n * (size_t)matrix.m * sizeof *whole);
+    if (whole && take(&room, &matrix, !is_plain(&matrix) && !has_whole_kind(&matrix), spare)) {
+        answer = found_of_matrix(state, &matrix, maximize, &room, whole);
+        PyMem_Free(room.taken);
+    }
+    PyMem_Free(whole);
+    let_go(&matrix);
+    if (answer || PyErr_Occurred()) return answer;
+    Py_RETURN_NONE;
+}
+
+/* ---- A batch ---- */
+
+/* Solves one matrix of a batch, and writes rows and columns of its plan; a first row of -1 where it found none. */
+static void solve_one(const State *state, const Matrix *matrix, int maximize, const Room *room, int64_t *rows, int64_t *columns) {
+    const size_t size = (size_t)matrix->n * sizeof *rows;
+    uint32_t by_margin;
+    const double *costs = costs_of(state, matrix, room);
+    rows[0] = -1;
+    if (!costs || search(state, matrix, maximize, costs, room, &by_margin) != BEST) return;
+    pair_up(matrix, room);
+    memcpy(rows, room->rows, size);
+    memcpy(columns, room->columns, size);
+}
+
+/* Some matrices of a batch, one after the other, without the lock. A matrix that is copied may be so in its turn alone. */
+static void solve_some(const State *state, Matrix matrix, Py_ssize_t step, Py_ssize_t count, int maximize, Room room, int64_t *rows,
+    int64_t *columns) {
+    PyThreadState *thread = PyEval_SaveThread();
+    for (Py_ssize_t k = 0; k < count; k++) {
+        solve_one(state, &matrix, maximize, &room, rows + k * matrix.n, columns + k * matrix.n);
+        matrix.data += step;
+    }
+    PyEval_RestoreThread(thread);
+}
+
+/* All of them, a piece at a time, so that Ctrl-C ends it; 0 where something was raised. */
+static int solve_all(const State *state, Matrix matrix, Py_ssize_t step, Py_ssize_t count, int maximize, const Room *room, int64_t *rows,
+    int64_t *columns) {
+    const Py_ssize_t piece = 1 + (Py_ssize_t)(LONG / (looks_at_most(&matrix) + 256));
+    for (Py_ssize_t k = 0; k < count; k += piece) {
+        if (PyErr_CheckSignals()) return 0;
+        solve_some(state, matrix, step, count - k < piece ? count - k : piece, maximize, *room, rows + k * matrix.n, columns + k * matrix.n);
+        matrix.data += piece * step;
+    }
+    return 1;
+}
+
+/* Whether this is an array of intp, and of this shape, that may be written as it stands. */
+static int is_own(const State *state, PyObject *made, Py_ssize_t count, Py_ssize_t n) {
+    const struct array *array = (const struct array *)made;
+    return Py_TYPE(made) == state->array && array->dimensions == 2 && array->kind->number == LONGS && array->shape[0] == count
+        && array->shape[1] == n && array->steps[1] == 8 && (array->steps[0] == 8 * n || count == 1);
+}
+
+/* batch(costs, maximize, rows, columns): fills two arrays of intp of its caller's; a row of `rows` begins with -1 where a matrix is left to
+   the longer way. None where all are. */
+PyObject *batch(PyObject *module, PyObject *arguments) {
+    State *state = PyModule_GetState(module);
+    PyObject *costs, *rows, *columns;
+    double spare[SPARE];
+    int maximize;
+    Matrix matrix;
+    Room room;
+    if (!PyArg_ParseTuple(arguments, "OpOO", &costs, &maximize, &rows, &columns)) return NULL;
+    if (!is_ready(state) || !is_array(state, costs, 3)) Py_RETURN_NONE;
+    const struct array *array = (const struct array *)costs;
+    const Py_ssize_t count = array->shape[0];
+    of_array(array, 1, &matrix);
+    turn(&matrix, 1);
+    if (count < 1 || matrix.n < 1 || matrix.m > MOST_SIDE || looks_at_most(&matrix) >= LONG || matrix.kind == VALUES) Py_RETURN_NONE;
+    if (!is_own(state, rows, count, matrix.n) || !is_own(state, columns, count, matrix.n)) Py_RETURN_NONE;
+    const int copies = !is_plain(&matrix) || array->steps[0] % (Py_ssize_t)sizeof(double) != 0;
+    if (!take(&room, &matrix, copies, spare)) Py_RETURN_NONE;
+    const int done = solve_all(state, matrix, array->steps[0], count, maximize, &room, (int64_t *)((struct array *)rows)->data,
+        (int64_t *)((struct array *)columns)->data);
+    PyMem_Free(room.taken);
+    return done ? PyBool_FromLong(1) : NULL;
+}
