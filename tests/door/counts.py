@@ -51,22 +51,24 @@ def group(problem, j):
 
 
 def solve(library, problem, budget=None):
-    """The code and what was written: (code, plan, row numbers, column numbers, row marks, column marks, info)."""
+    """The code and what was written: (code, plan, row numbers, column numbers, row marks, column marks, the first three
+    before the last call, info)."""
     n, m, k = len(problem["row_least"]), len(problem["column_least"]), len(problem["costs"])
     plan, rows, columns = (c_uint8 * max(1, k))(*[7] * k), (c_int64 * n)(*[7] * n), (c_int64 * m)(*[7] * m)
     row_marks, column_marks = (c_uint8 * n)(*[7] * n), (c_uint8 * m)(*[7] * m)
     info, record = Info(7, 7, 7, 7, 7), Record()
     buffers = [plan, c_size_t(k), rows, c_size_t(n), columns, c_size_t(m)]
     buffers += [row_marks, c_size_t(n), column_marks, c_size_t(m)]
-    code = STOPPED
+    code, before = STOPPED, (list(plan)[:k], list(rows), list(columns))
     if budget is None:
         code = library.nushbaret_counts(*given(problem), *buffers, ctypes.byref(info))
     calls = 0
     while budget is not None and code == STOPPED and calls < 10**5:
         calls += 1
+        before = list(plan)[:k], list(rows), list(columns)
         code = library.nushbaret_counts_from(*given(problem), *buffers, c_uint64(budget), ctypes.byref(record),
                                              ctypes.byref(info))
-    return code, list(plan)[:k], list(rows), list(columns), list(row_marks), list(column_marks), info
+    return code, list(plan)[:k], list(rows), list(columns), list(row_marks), list(column_marks), before, info
 
 
 def keeps(problem, pairs, chosen):
@@ -165,7 +167,7 @@ def total(info):
 
 
 def judge_answer(library, problem, answer):
-    code, plan, r, v, rows, columns, info = answer
+    code, plan, r, v, rows, columns, before, info = answer
     pairs = pairs_of(problem)
     best = best_of_all(problem, pairs)
     want(f"code {code} of {problem}, whose best is {best}", code == BEST if best is not None else code in (1, 2))
@@ -176,7 +178,7 @@ def judge_answer(library, problem, answer):
         want("the checker says no", check(library, problem, plan, r, v)[0] == BEST)
         return
     want(f"no shortage of {problem}", lacks(problem, pairs, code, rows, columns))
-    want("a plan was written", plan == [7] * len(plan) and r == [7] * len(r) and v == [7] * len(v))
+    want("a plan was written", (plan, r, v) == before)
     want("the checker says no", check_shortage(library, problem, code, rows, columns) == code)
 
 
