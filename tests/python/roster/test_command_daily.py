@@ -238,7 +238,8 @@ class Faults(Daily):
                                                       for person, object_ in pairs]}))
             self.refused(3, text, "r.csv", "--fixed", "s.json")
         self.file("s.json", '{"format": 5, "pairs": []}')
-        self.refused(3, "s.json: 5 is the format of this plan in JSON, where 1 to 4 can be read", "r.csv", "--keep", "s.json")
+        self.refused(3, "s.json: 5 is the format of this plan in JSON, where 1 to 4 can be read", "r.csv", "--keep",
+                     "s.json")
 
     def test_change_cost_with_places(self):
         self.file("o.csv", "a,b\nAda,early\n")
