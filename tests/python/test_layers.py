@@ -45,8 +45,8 @@ class Package(unittest.TestCase):
         folders = {layers.folder_of(name) for name in self.GRAPH if name not in layers.ENTRIES}
         self.assertEqual(folders, set(layers.BELOW))
         drawn = "\n".join(layers.drawn(self.GRAPH))
-        self.assertRegex(drawn, r"(?s)^api/ .*\nroster/output/ .*\nroster/ .*\ncounts/ .*\nrows/ .*\nlap/ "
-                         r".*\ncosts/  imports nothing\n")
+        self.assertRegex(drawn, r"(?s)^beyond/ .*\napi/ .*\nroster/output/ .*\nroster/ .*\ncounts/ .*\nrows/ .*"
+                         r"\nlap/ .*\ncosts/  imports nothing\n")
 
 
 class Tests(unittest.TestCase):
