@@ -107,7 +107,7 @@
 extern "C" {
 #endif
 
-#define NUSHBARET_VERSION "5.0.0"
+#define NUSHBARET_VERSION "5.1.0"
 
 /* The sense: the least sum of costs, or the greatest. */
 #define NUSHBARET_MIN 0u
