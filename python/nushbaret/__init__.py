@@ -18,7 +18,7 @@ from typing import TYPE_CHECKING, Any, List
 
 if TYPE_CHECKING:
     from .api.assigner import Assigner
-    from .api.batch import linear_sum_assignment_batch
+    from .api.batch import linear_sum_assignment_batch, solve_batch
     from .api.bottleneck import bottleneck
     from .api.check import Comparison, check, compare
     from .api.counts import CountsInfeasible, CountsResult, assign_counts
@@ -34,13 +34,13 @@ if TYPE_CHECKING:
 __all__ = ["GREATEST_COST", "MOST_PERSONS", "Assigner", "Comparison", "CountsInfeasible", "CountsResult", "Infeasible",
            "LibraryNotFound", "Plan", "Result", "RosterPlan", "Shortage", "Verdict", "__version__", "assign_counts",
            "bottleneck", "check", "compare", "k_best", "linear_sum_assignment", "linear_sum_assignment_batch",
-           "plan_roster", "solve", "solve_sparse"]
+           "plan_roster", "solve", "solve_batch", "solve_sparse"]
 
 # The module of each name. It is loaded when the name is first used, so that the command can set what Ctrl-C does before
 # that.
 _MODULES = {
     "api.assigner": ("Assigner",),
-    "api.batch": ("linear_sum_assignment", "linear_sum_assignment_batch"),
+    "api.batch": ("linear_sum_assignment", "linear_sum_assignment_batch", "solve_batch"),
     "api.bottleneck": ("bottleneck",),
     "api.check": ("Comparison", "check", "compare"),
     "api.counts": ("CountsInfeasible", "CountsResult", "assign_counts"),

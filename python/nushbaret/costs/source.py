@@ -2,7 +2,7 @@
 import copy
 from typing import Any, Dict, NamedTuple, Optional, Tuple
 
-from . import problem as reading, reading as exact
+from . import problem as reading, reading as exact, unmatched
 from .numbers import Ratio
 from .problem import AssignmentProblem
 
@@ -26,7 +26,8 @@ def listed(values: Any) -> Any:
 
 class Source(NamedTuple):
     """What a call was given: costs, for listed pairs also their rows, columns and the sizes, how they are read, the
-    pairs that are left out, and the worst cost that a pair may have. Without costs it is what a pickle has of them."""
+    pairs that are left out, the worst cost that a pair may have, and what rows and columns cost that stay out. Without
+    costs it is what a pickle has of them."""
 
     costs: Any
     rows: Any
@@ -35,15 +36,22 @@ class Source(NamedTuple):
     manner: exact.Manner
     less: Tuple[Tuple[int, int], ...] = ()
     worst: Optional[Ratio] = None
+    out: Optional[unmatched.Unmatched] = None
 
     def read(self) -> AssignmentProblem:
         """The problem, as its costs are now."""
         if self.costs is None:
             raise ValueError(NO_COSTS)
-        problem = problem_of(self.costs, self.rows, self.columns, self.sizes, self.manner)
+        problem = self.own_problem()
+        if self.out is not None:
+            problem = unmatched.extended(problem, self.out)
         for row, column in self.less:
             problem = reading.without_pair(problem, row, column)
         return problem if self.worst is None else reading.within(problem, self.worst)
+
+    def own_problem(self) -> AssignmentProblem:
+        """The problem of the costs alone."""
+        return problem_of(self.costs, self.rows, self.columns, self.sizes, self.manner)
 
     def without_costs(self) -> "Source":
         """What of it is no longer than the plan."""
