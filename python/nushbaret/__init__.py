@@ -23,6 +23,7 @@ if TYPE_CHECKING:
     from .api.check import Comparison, check, compare
     from .api.counts import CountsInfeasible, CountsResult, assign_counts
     from .api.infeasible import Infeasible, Shortage
+    from .api.pairs import solve_pairs
     from .api.plans import k_best
     from .api.results import Plan, Result
     from .api.rosters import RosterPlan, plan_roster
@@ -34,7 +35,7 @@ if TYPE_CHECKING:
 __all__ = ["GREATEST_COST", "MOST_PERSONS", "Assigner", "Comparison", "CountsInfeasible", "CountsResult", "Infeasible",
            "LibraryNotFound", "Plan", "Result", "RosterPlan", "Shortage", "Verdict", "__version__", "assign_counts",
            "bottleneck", "check", "compare", "k_best", "linear_sum_assignment", "linear_sum_assignment_batch",
-           "plan_roster", "solve", "solve_batch", "solve_sparse"]
+           "plan_roster", "solve", "solve_batch", "solve_pairs", "solve_sparse"]
 
 # The module of each name. It is loaded when the name is first used, so that the command can set what Ctrl-C does before
 # that.
@@ -45,6 +46,7 @@ _MODULES = {
     "api.check": ("Comparison", "check", "compare"),
     "api.counts": ("CountsInfeasible", "CountsResult", "assign_counts"),
     "api.infeasible": ("Infeasible", "Shortage"),
+    "api.pairs": ("solve_pairs",),
     "api.plans": ("k_best",),
     "api.results": ("Plan", "Result"),
     "api.rosters": ("RosterPlan", "plan_roster"),

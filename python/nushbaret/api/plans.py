@@ -17,7 +17,7 @@ def _in_order(ranking: Ranking, result: Result, count: int, timeout: Optional[fl
             part = ranking.take()
             if part is None:
                 return
-            plan = Plan(*result._solved.plan_of(ranking, part))
+            plan = result._plan(*result._solved.plan_of(ranking, part))
         yield plan
         with library.limited(timeout):
             if left > 1:

@@ -7,28 +7,68 @@ from typing import Any, Dict, Iterable, Iterator, List, NamedTuple, Optional, Tu
 from ..costs import source as sources
 from ..costs.naming import Numbers
 from ..costs.numbers import Number
-from ..costs.problem import AssignmentProblem
+from ..costs.problem import AssignmentProblem, Labels
 from ..costs.reading import Manner, manner
 from ..costs.source import Source, problem_of
 from ..lap import library, proved
 from ..lap.ranking import has_other
 from .infeasible import infeasible
-from .shown import FixedList, fixed, frame_of, numbers
+from .shown import ByNames, FixedList, fixed, frame_of, numbers
 from .solved import SolvedProblem, WholeDuals, ratios_of, result_parts, sum_of
 from .verdicts import Verdict, verdict_on
 
 
-class Plan(NamedTuple):
-    """A plan: row rows[k] has column columns[k], and all pairs together cost `cost`.
+class _PlanParts(NamedTuple):
+    """What a plan consists of."""
 
+    rows: Any
+    columns: Any
+    cost: Number
+
+
+class Plan(_PlanParts, ByNames):
+    """A plan: row rows[k] has column columns[k], and all pairs together cost `cost`. `pairs` has the labels of a frame.
+
+    Examples
+    --------
     >>> import nushbaret
     >>> nushbaret.solve([[4, 1], [2, 3]]).next_best()
     Plan(rows=[0, 1], columns=[0, 1], cost=7)
     """
 
-    rows: Any
-    columns: Any
-    cost: Number
+    labels: Labels = None
+
+    @property
+    def pairs(self) -> List[Tuple[Any, Any]]:
+        """The pairs, by the labels of a frame, or else by numbers."""
+        rows, columns = self.labels or (None, None)
+        return [(rows[row] if rows else int(row), columns[column] if columns else int(column))
+                for row, column in zip(self.rows, self.columns)]
+
+    def to_frame(self) -> Any:
+        """The pairs as a DataFrame of pandas, which must be installed, with the columns row and column.
+
+        Returns
+        -------
+        pandas.DataFrame
+
+        Examples
+        --------
+        >>> import nushbaret
+        >>> nushbaret.solve([[4, 1], [2, 3]]).next_best().to_frame()  # doctest: +SKIP
+           row  column
+        0    0       0
+        1    1       1
+        """
+        return frame_of(self.pairs, None)
+
+
+def plan_of(rows: Any, columns: Any, cost: Number, labels: Labels) -> Plan:
+    """A plan with the labels of a frame."""
+    plan = Plan(rows, columns, cost)
+    if labels:
+        plan.labels = labels
+    return plan
 
 
 class Lasting:
@@ -53,7 +93,7 @@ class Lasting:
         return self
 
 
-class Result(Lasting):
+class Result(ByNames, Lasting):
     """A best assignment, with exact duals that prove it.
 
     Row `rows[k]` has column `columns[k]`; numbers are from 0, and rows rise. They are NumPy arrays if the costs are
@@ -114,6 +154,12 @@ class Result(Lasting):
         """The exact sum of the costs: an int, a Decimal where costs have decimal places, or a Fraction where one was
         given."""
         return sum_of(self._shape, ratios_of(self._shape, self._found.costs))
+
+    @property
+    def labels(self) -> Labels:
+        """The labels of all rows and of all columns, if the costs have them; else None."""
+        held = self._shape.labels
+        return held and (list(held[0]), list(held[1]))
 
     @cached_property
     def pairs(self) -> List[Tuple[Any, Any]]:
@@ -186,7 +232,7 @@ class Result(Lasting):
         return None if part is None else self._plan(*self._solved.plan_of(ranking, part))
 
     def _plan(self, rows: Any, columns: Any, cost: Number) -> Plan:
-        return Plan(rows, columns, cost)
+        return plan_of(rows, columns, cost, self.labels)
 
     def to_frame(self) -> Any:
         """The pairs as a DataFrame of pandas, which must be installed.

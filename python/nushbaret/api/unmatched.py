@@ -4,13 +4,13 @@ from functools import cached_property
 from typing import Any, List, Optional, Tuple
 
 from ..costs.numbers import Number, all_shown, total
-from ..costs.problem import AssignmentProblem
+from ..costs.problem import AssignmentProblem, Labels
 from ..costs.reading import Manner
 from ..costs.source import Source, problem_of
 from ..costs.unmatched import Unmatched, extended, unmatched_of, with_ties, worth_it
 from ..lap import proved
 from ..lap.solving import solved
-from .results import Plan, Result
+from .results import Plan, Result, plan_of
 from .shown import FixedList, fixed, numbers
 from .solved import WholeDuals, result_parts
 
@@ -58,6 +58,11 @@ class UnmatchedResult(Result):
         out = self._source.out
         assert out is not None
         return out
+
+    @property
+    def labels(self) -> Labels:
+        rows, columns = self._shape.labels or ([], [])
+        return (list(rows), columns[:self._sizes[1]]) if self._out.has_labels else None
 
     @property
     def _sizes(self) -> Tuple[int, int]:
@@ -113,7 +118,7 @@ class UnmatchedResult(Result):
     def _plan(self, rows: Any, columns: Any, cost: Number) -> Plan:
         rows, columns = (numbers(map(int, side), self._solved.as_arrays)
                          for side in _own(rows, columns, self._sizes[1]))
-        return Plan(rows, columns, self._sum([Fraction(cost)]))
+        return plan_of(rows, columns, self._sum([Fraction(cost)]), self.labels)
 
     def _costs_of_pairs(self) -> List[Number]:
         held = self._solved.pairs

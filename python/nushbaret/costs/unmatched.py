@@ -22,11 +22,13 @@ _MOST = 2**61
 
 
 class Unmatched(NamedTuple):
-    """What each row and each column costs where it is left out, and the shift s between these."""
+    """What each row and each column costs where it is left out, the shift s between these, and whether the caller has
+    names for them."""
 
     rows: List[Fraction]
     columns: List[Fraction]
     shift: Fraction
+    has_labels: bool
 
     @property
     def constant(self) -> Fraction:
@@ -43,9 +45,9 @@ def unmatched_of(given: Any, problem: AssignmentProblem, manner: exact.Manner) -
                              "columns")
         rows, columns = problem.labels or (None, None)
         return Unmatched(_costs_of_side(given[0], "row", n_rows, rows, manner),
-                         _costs_of_side(given[1], "column", n_columns, columns, manner), Fraction())
+                         _costs_of_side(given[1], "column", n_columns, columns, manner), Fraction(), bool(problem.labels))
     half = _cost(given, WORD, manner) / 2
-    return Unmatched([half] * n_rows, [half] * n_columns, half)
+    return Unmatched([half] * n_rows, [half] * n_columns, half, bool(problem.labels))
 
 
 def _costs_of_side(given: Any, kind: str, count: int, labels: Any, manner: exact.Manner) -> List[Fraction]:

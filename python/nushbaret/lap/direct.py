@@ -72,7 +72,7 @@ def over(longer: Any) -> Any:
     if held is None:
         return longer
     signature = (f"{longer.__name__}(cost_matrix, maximize=False, *, missing='refuse', timeout=None, "
-                 "progress=None)\n--\n\n")
+                 "progress=None, unmatched_cost=None)\n--\n\n")
     return held.function(longer, signature + (longer.__doc__ or ""), "nushbaret")
 
 
