@@ -91,7 +91,8 @@ def _listed(pairs: Any, manner: reading.Manner, rows: Optional[List[Any]], weigh
             raise ValueError(f"pairs is an array of the shape {held.shape}: it must have three columns")
         return _Listed(held[:, 0].tolist(), held[:, 1].tolist(), held[:, 2])
     if isinstance(pairs, (str, bytes)) or not hasattr(pairs, "__iter__"):
-        raise TypeError(f"pairs is {pairs!r}: it must be a frame, an iterable of (row, column, cost), a dict or a graph")
+        raise TypeError(f"pairs is {pairs!r}: it must be a frame, an iterable of (row, column, cost), a dict or a "
+                        "graph")
     return _of_triples(pairs)
 
 

@@ -1,4 +1,5 @@
 """The solving calls."""
+import time
 from typing import Any, Callable, List, Optional, Sequence, Tuple, Union, overload
 
 from ..costs import problem as reading, reading as exact, source as sources
@@ -126,13 +127,19 @@ def solve(costs: Any, maximize: bool = False, decimals: Optional[int] = None, st
     >>> nushbaret.solve([[0.1 + 0.2, 2.5], [3, 1e15]]).cost
     Decimal('5.5')
     """
-    if unmatched_cost is None and decimals is None and start is None and timeout is None and progress is None \
+    end = direct.end_of(timeout)
+    if unmatched_cost is None and decimals is None and start is None and end is not None and progress is None \
             and missing == "refuse":
-        found = direct.found(costs, bool(maximize))
+        found = direct.found(costs, bool(maximize), end)
         if found:
             return Result(Source(costs, None, None, None, exact.Manner(found.shape.maximize)), found)
     source = Source(sources.lasting(costs), None, None, None, exact.manner(maximize, decimals, missing))
-    return solve_source(source, start, partial, timeout, progress, unmatched_cost)
+    return solve_source(source, start, partial, _left(end, timeout), progress, unmatched_cost)
+
+
+def _left(end: Optional[float], timeout: Any) -> Any:
+    """What is left of a time."""
+    return timeout if timeout is None or end is None else max(0.0, end - time.monotonic())
 
 
 def solve_sparse(n_rows: Any, n_columns: Optional[int] = None, rows: Any = None, columns: Any = None, costs: Any = None,
@@ -177,7 +184,13 @@ def solve_sparse(n_rows: Any, n_columns: Optional[int] = None, rows: Any = None,
     else:
         source = Source(sources.listed(costs), sources.listed(rows), sources.listed(columns), (n_rows, n_columns),
                         manner)
-    return solve_source(source, start, partial, timeout, progress, unmatched_cost)
+    end = direct.end_of(timeout)
+    if unmatched_cost is None and decimals is None and start is None and end is not None and progress is None \
+            and not manner.forbid_nan:
+        found = direct.found_listed((n_rows, *lists), manner.maximize, end)
+        if found:
+            return Result(source, found)
+    return solve_source(source, start, partial, _left(end, timeout), progress, unmatched_cost)
 
 
 @overload

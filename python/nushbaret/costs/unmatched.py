@@ -45,7 +45,8 @@ def unmatched_of(given: Any, problem: AssignmentProblem, manner: exact.Manner) -
                              "columns")
         rows, columns = problem.labels or (None, None)
         return Unmatched(_costs_of_side(given[0], "row", n_rows, rows, manner),
-                         _costs_of_side(given[1], "column", n_columns, columns, manner), Fraction(), bool(problem.labels))
+                         _costs_of_side(given[1], "column", n_columns, columns, manner), Fraction(),
+                         bool(problem.labels))
     half = _cost(given, WORD, manner) / 2
     return Unmatched([half] * n_rows, [half] * n_columns, half, bool(problem.labels))
 
