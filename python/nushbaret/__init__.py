@@ -1,17 +1,21 @@
-"""The linear assignment problem, solved with proof: best assignments of rows to columns, with prices that prove them.
+"""The linear assignment problem, solved with proof: best assignments of rows to columns, with duals that prove them.
 
-    import nushbaret
-    result = nushbaret.solve([[1, 2], [3, 5]])
-    result.columns, result.cost, result.column_duals
+Three calls serve most:
 
-`solve` takes a matrix, `solve_sparse` listed pairs, and `linear_sum_assignment` is SciPy's call. `assign_counts` plans
-where rows and columns count several times, and `plan_roster` where there are rules, such as of rest, weeks and
-weekends; for it SciPy finds, and a check in whole numbers proves. `k_best` yields plans from the best on, and
-`bottleneck` makes the worst pair as good as possible. `check` and `compare` judge plans from elsewhere. Plans are best
-for the costs as given, of any size. Nushbaret's proved library solves all costs that are up to 10**12 multiples of one
-unit, and matrices of doubles unless plans nearly tie, and proves the plan; for any others it solves rounded ones, level
-by level. What this package adds is tested, not proved: how costs are read, levels, dummies where some stay out, and the
-order of plans.
+    nushbaret.linear_sum_assignment(costs)      SciPy's call, with its results: rows and columns
+    nushbaret.solve(costs)                      a result: columns, exact cost, duals, other plans
+    nushbaret.solve_pairs({"Ada": {"early": 4, "late": 1}, "Ben": {"early": 2}})      by names
+
+`solve_sparse` takes listed pairs, and `solve_batch` and `linear_sum_assignment_batch` many matrices. With
+`unmatched_cost` rows and columns may be left out. An `Assigner` follows changes. `assign_counts` plans where rows and
+columns count several times, and `plan_roster` where there are rules, such as of rest, weeks and weekends; for it SciPy
+finds, and a check in whole numbers proves. `k_best` yields plans from the best on, and `bottleneck` makes the worst
+pair as good as possible. `check` and `compare` judge plans from elsewhere.
+
+Plans are best for the costs as given, of any size. Nushbaret's proved library solves all costs that are up to 10**12
+multiples of one unit, and matrices of doubles unless plans nearly tie, and proves the plan; for any others it solves
+rounded ones, level by level. What this package adds is tested, not proved: how costs are read, levels, dummies where
+some stay out, and the order of plans.
 """
 import importlib
 from typing import TYPE_CHECKING, Any, List
@@ -67,4 +71,4 @@ def __getattr__(name: str) -> Any:
 
 
 def __dir__() -> List[str]:
-    return sorted({*globals(), *__all__})
+    return sorted(__all__)

@@ -9,6 +9,7 @@ from ..costs.problem import AssignmentProblem, Labels, judge_row, row_in_list, r
 from ..costs.source import Source
 from ..lap import doubles, library, proved
 from .results import Result
+from .shown import Matrix
 from .solve import solve
 
 # Whole numbers up to this are doubles.
@@ -50,9 +51,9 @@ class Assigner:
     <nushbaret.Assigner: 2 rows, 3 columns>
     """
 
-    def __init__(self, costs: Any, maximize: bool = False):
+    def __init__(self, costs: Matrix, maximize: bool = False):
         self._maximize = bool(maximize)
-        self._labels: Labels = (list(costs.index), list(costs.columns)) if naming.is_frame(costs) else None
+        self._labels: Labels = naming.labels_of(costs)
         self._costs = copied(costs)
         first = self._costs[:1]
         self._width: int = first.shape[1] if hasattr(first, "dtype") else len(first[0]) if first else 0

@@ -7,6 +7,7 @@ from typing import Any, Callable, List, Optional, Sequence, Tuple, overload
 from ..costs import reading
 from ..lap import direct, library
 from .results import Result
+from .shown import Missing
 from .solve import Progress, linear_sum_assignment as longer, solve
 
 linear_sum_assignment = direct.over(longer)
@@ -18,19 +19,20 @@ _Work = Callable[[range], None]
 
 @overload
 def linear_sum_assignment_batch(costs: Sequence[Sequence[Sequence[Any]]], maximize: bool = ..., *,
-                                unmatched_cost: Any = ..., missing: str = ..., workers: Optional[int] = ...,
+                                unmatched_cost: Any = ..., missing: Missing = ..., workers: Optional[int] = ...,
                                 timeout: Optional[float] = ...,
                                 progress: Progress = ...) -> Tuple[List[List[int]], List[List[int]]]: ...
 
 
 @overload
-def linear_sum_assignment_batch(costs: Any, maximize: bool = ..., *, unmatched_cost: Any = ..., missing: str = ...,
-                                workers: Optional[int] = ..., timeout: Optional[float] = ...,
+def linear_sum_assignment_batch(costs: Any, maximize: bool = ..., *, unmatched_cost: Any = ...,
+                                missing: Missing = ..., workers: Optional[int] = ...,
+                                timeout: Optional[float] = ...,
                                 progress: Progress = ...) -> Tuple[Any, Any]: ...
 
 
 def linear_sum_assignment_batch(costs: Any, maximize: bool = False, *, unmatched_cost: Any = None,
-                                missing: str = "refuse", workers: Optional[int] = None,
+                                missing: Missing = "refuse", workers: Optional[int] = None,
                                 timeout: Optional[float] = None, progress: Progress = None) -> Tuple[Any, Any]:
     """Solves many matrices, as `linear_sum_assignment` solves each: one call for a thousand small ones takes much less
     time than a thousand calls. `solve_batch` also returns costs and duals.
@@ -84,7 +86,7 @@ def linear_sum_assignment_batch(costs: Any, maximize: bool = False, *, unmatched
 
 
 def solve_batch(costs: Any, maximize: bool = False, decimals: Optional[int] = None, partial: bool = False,
-                missing: str = "refuse", *, unmatched_cost: Any = None, workers: Optional[int] = None,
+                missing: Missing = "refuse", *, unmatched_cost: Any = None, workers: Optional[int] = None,
                 timeout: Optional[float] = None, progress: Progress = None) -> List[Result]:
     """Solves many matrices, as `solve` solves each.
 

@@ -5,6 +5,7 @@ from typing import Any, Dict, Iterable, Iterator, List, NamedTuple, Optional, Se
 from ..costs import naming, reading
 from ..costs.source import Source
 from .results import Result
+from .shown import Missing
 from .solve import Progress, solve_source
 
 _TITLES = ["row", "column", "cost"]
@@ -21,7 +22,7 @@ class _Listed(NamedTuple):
 
 
 def solve_pairs(pairs: Any, maximize: bool = False, decimals: Optional[int] = None, partial: bool = False,
-                missing: str = "refuse", timeout: Optional[float] = None, progress: Progress = None, *,
+                missing: Missing = "refuse", timeout: Optional[float] = None, progress: Progress = None, *,
                 unmatched_cost: Any = None, rows: Optional[Iterable[Any]] = None,
                 columns: Optional[Iterable[Any]] = None, weight: str = "weight") -> Result:
     """A best assignment where rows and columns have names, and only the listed pairs may be used.

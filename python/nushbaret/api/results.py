@@ -13,7 +13,7 @@ from ..costs.source import Source, problem_of
 from ..lap import library, proved
 from ..lap.ranking import has_other
 from .infeasible import infeasible
-from .shown import ByNames, FixedList, fixed, frame_of, numbers
+from .shown import ByNames, FixedList, Missing, fixed, frame_of, numbers
 from .solved import SolvedProblem, WholeDuals, ratios_of, result_parts, sum_of
 from .verdicts import Verdict, verdict_on
 
@@ -104,6 +104,8 @@ class Result(ByNames, Lasting):
     the costs of its pairs, duals and the verdict: what needs the costs raises ValueError, until `with_costs` gives
     them.
 
+    Examples
+    --------
     >>> import nushbaret
     >>> result = nushbaret.solve([[4, 1, 3], [2, 0, 5], [3, 2, 2]])
     >>> result.columns, result.cost
@@ -222,6 +224,8 @@ class Result(ByNames, Lasting):
             None if there is no other plan. Of several, the one that comes first in the order of `k_best`, whose notes
             say how it is checked.
 
+        Examples
+        --------
         >>> import nushbaret
         >>> nushbaret.solve([[4, 1], [2, 3]]).next_best().cost
         7
@@ -243,6 +247,8 @@ class Result(ByNames, Lasting):
             With columns row, column and cost: by labels if the costs were a DataFrame, else by numbers. Costs are whole
             numbers or floats where these print as the exact costs, and Decimals or Fractions otherwise.
 
+        Examples
+        --------
         >>> import nushbaret
         >>> nushbaret.solve([[4, 1], [2, 3]]).to_frame()  # doctest: +SKIP
            row  column  cost
@@ -254,7 +260,7 @@ class Result(ByNames, Lasting):
     def _costs_of_pairs(self) -> List[Number]:
         return self._shape.costs.all_shown(self._solved.ratios)
 
-    def verify(self, costs: Any = None, rows: Any = None, columns: Any = None, missing: str = "refuse") -> Verdict:
+    def verify(self, costs: Any = None, rows: Any = None, columns: Any = None, missing: Missing = "refuse") -> Verdict:
         """Checks the plan and its duals against a problem.
 
         Parameters
@@ -277,6 +283,8 @@ class Result(ByNames, Lasting):
         ValueError
             If `costs` isn't given and the result comes from a pickle.
 
+        Examples
+        --------
         >>> import nushbaret
         >>> result = nushbaret.solve([[1, 2], [3, 5]])
         >>> result.verify(), bool(result.verify([[1, 2], [3, 3]]))
@@ -329,6 +337,8 @@ class Result(ByNames, Lasting):
         ValueError
             If the plan's pairs have other costs, or the duals don't prove the plan best for these.
 
+        Examples
+        --------
         >>> import nushbaret, pickle
         >>> costs = [[4, 1], [2, 3]]
         >>> again = pickle.loads(pickle.dumps(nushbaret.solve(costs)))
@@ -367,6 +377,8 @@ class Result(ByNames, Lasting):
             If the costs were changed after the call, so that the duals no longer prove the plan best, or if the frame
             has the label several times.
 
+        Examples
+        --------
         >>> import nushbaret
         >>> nushbaret.solve([[4, 1], [2, 3]]).without(0, 1).cost
         7

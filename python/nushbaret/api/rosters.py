@@ -47,6 +47,8 @@ class RosterPlan(NamedTuple):
     certificate : Certificate or None
         What proves the answer, for `write_certificate`.
 
+    Examples
+    --------
     >>> import nushbaret
     >>> nushbaret.RosterPlan._fields[:4]
     ('proved', 'pairs', 'cost', 'better')
@@ -134,6 +136,8 @@ def plan_roster(costs: Mapping[Named, Any], days: Mapping[str, Union[str, date]]
         without a cost or at a holiday on another day; kinds differ in case or spaces alone; or days that aren't dates
         have other days of the week than their order.
 
+    Examples
+    --------
     >>> import nushbaret
     >>> try:
     ...     nushbaret.plan_roster({("Ada", "Early Mon"): 1}, {"Early Mon": "Mon"}, [("rest", "Late > Early")])

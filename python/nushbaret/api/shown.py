@@ -1,9 +1,28 @@
-"""What results show: lists, dicts and arrays that can't be changed, and frames of pandas."""
+"""What calls take, as types, and what results show: lists, dicts and arrays that can't be changed, and frames of
+pandas."""
 import decimal
 import importlib
-from typing import Any, Dict, Iterable, List, NoReturn, Optional, Sequence, Tuple
+from typing import (TYPE_CHECKING, Any, Dict, Iterable, List, Literal, NoReturn, Optional, Protocol, Sequence, Tuple,
+                    Union)
 
 from ..costs.numbers import Number
+
+if TYPE_CHECKING:
+    from numpy.typing import ArrayLike
+
+    class SparseMatrix(Protocol):
+        """A sparse matrix or array, of SciPy's or of pydata's."""
+
+        @property
+        def shape(self) -> Any: ...
+
+        def tocsr(self, *words: Any, **named: Any) -> Any: ...
+
+    Matrix = Union[ArrayLike, Iterable[Iterable[Any]], SparseMatrix]
+else:
+    Matrix = Any
+# How NaN and what a mask covers are taken.
+Missing = Literal["refuse", "forbid"]
 
 
 class FixedList(List[Any]):

@@ -9,6 +9,7 @@ from ..lap import direct, library, proved
 from ..lap.solving import Began, most, solved
 from .infeasible import infeasible
 from .results import Result
+from .shown import Matrix, Missing
 from .solved import result_parts
 
 Start = Union[Result, Sequence[Any], None]
@@ -58,8 +59,8 @@ def solve_source(source: Source, start: Start = None, partial: bool = False, tim
         return solve_problem(source.read(), source, start, partial)
 
 
-def solve(costs: Any, maximize: bool = False, decimals: Optional[int] = None, start: Start = None,
-          partial: bool = False, missing: str = "refuse", timeout: Optional[float] = None,
+def solve(costs: Matrix, maximize: bool = False, decimals: Optional[int] = None, start: Start = None,
+          partial: bool = False, missing: Missing = "refuse", timeout: Optional[float] = None,
           progress: Progress = None, *, unmatched_cost: Any = None) -> Result:
     """A best assignment of the rows and columns of a matrix, with exact duals that prove it.
 
@@ -123,6 +124,8 @@ def solve(costs: Any, maximize: bool = False, decimals: Optional[int] = None, st
     The time grows as the cube of the size at worst. The interpreter's lock is free while the library works, and Ctrl-C
     ends the call.
 
+    Examples
+    --------
     >>> import nushbaret
     >>> nushbaret.solve([[0.1 + 0.2, 2.5], [3, 1e15]]).cost
     Decimal('5.5')
@@ -144,7 +147,7 @@ def _left(end: Optional[float], timeout: Any) -> Any:
 
 def solve_sparse(n_rows: Any, n_columns: Optional[int] = None, rows: Any = None, columns: Any = None, costs: Any = None,
                  maximize: bool = False, decimals: Optional[int] = None, start: Start = None, partial: bool = False,
-                 missing: str = "refuse", timeout: Optional[float] = None, progress: Progress = None, *,
+                 missing: Missing = "refuse", timeout: Optional[float] = None, progress: Progress = None, *,
                  unmatched_cost: Any = None) -> Result:
     """A best assignment where only the listed pairs may be used.
 
@@ -169,6 +172,8 @@ def solve_sparse(n_rows: Any, n_columns: Optional[int] = None, rows: Any = None,
     Infeasible, ValueError, TypeError, TimeoutError, MemoryError, LibraryNotFound
         As in `solve`.
 
+    Examples
+    --------
     >>> import nushbaret
     >>> nushbaret.solve_sparse(2, 2, rows=[0, 0, 1], columns=[0, 1, 0], costs=[4, 1, 2]).pairs
     [(0, 1), (1, 0)]
@@ -194,18 +199,18 @@ def solve_sparse(n_rows: Any, n_columns: Optional[int] = None, rows: Any = None,
 
 
 @overload
-def linear_sum_assignment(cost_matrix: Sequence[Sequence[Any]], maximize: bool = ..., *, missing: str = ...,
+def linear_sum_assignment(cost_matrix: Sequence[Sequence[Any]], maximize: bool = ..., *, missing: Missing = ...,
                           timeout: Optional[float] = ..., progress: Progress = ...,
                           unmatched_cost: Any = ...) -> Tuple[List[int], List[int]]: ...
 
 
 @overload
-def linear_sum_assignment(cost_matrix: Any, maximize: bool = ..., *, missing: str = ...,
+def linear_sum_assignment(cost_matrix: Matrix, maximize: bool = ..., *, missing: Missing = ...,
                           timeout: Optional[float] = ..., progress: Progress = ...,
                           unmatched_cost: Any = ...) -> Tuple[Any, Any]: ...
 
 
-def linear_sum_assignment(cost_matrix: Any, maximize: bool = False, *, missing: str = "refuse",
+def linear_sum_assignment(cost_matrix: Any, maximize: bool = False, *, missing: Missing = "refuse",
                           timeout: Optional[float] = None, progress: Progress = None,
                           unmatched_cost: Any = None) -> Tuple[Any, Any]:
     """The call of scipy.optimize, with its results and errors. The plan is best for exactly these costs; a float is its
@@ -234,6 +239,8 @@ def linear_sum_assignment(cost_matrix: Any, maximize: bool = False, *, missing: 
     TimeoutError, MemoryError, LibraryNotFound
         As in `solve`.
 
+    Examples
+    --------
     >>> import nushbaret
     >>> nushbaret.linear_sum_assignment([[0.3, 0.1, 1e15], [0.1, 0.3, 1e15], [1e15, 1e15, 0.5]])
     ([0, 1, 2], [1, 0, 2])

@@ -13,7 +13,7 @@ from array import array
 from typing import Any, Optional, Tuple
 
 from ..costs import kinds, printing, reading
-from ..costs.naming import is_frame
+from ..costs.naming import is_frame, labels_of
 from ..costs.problem import AssignmentProblem
 from . import library, proved
 
@@ -100,7 +100,7 @@ def found(costs: Any, maximize: bool, end: float = math.inf) -> Optional[proved.
     if is_list and decimals < 0 and not _is_long(own[0]):
         return None
     n_rows, n_columns = (len(costs), len(costs[0])) if is_list else costs.shape
-    labels = (list(costs.index), list(costs.columns)) if not is_list and is_frame(costs) else None
+    labels = None if is_list else labels_of(costs)
     return _parts(n_rows, n_columns, maximize, answer, labels)
 
 
