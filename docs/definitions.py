@@ -32,13 +32,26 @@ def crates():
     return [line.split(":")[0].split()[0] for line in lines]
 
 
-def modules(crate):
-    """The public files of a crate's specs in the order of their list; the private definitions lie in `inside`."""
-    path = f"crates/{crate}/specs/Lib.antt"
+def listed(path):
+    """The modules that a file lists."""
+    return [line.split()[2] for line in read(path) if line.startswith("pub mod ")]
+
+
+def modules(crate, folder=""):
+    """The public files of a crate's specs, and of their folders, in the order of their lists; the private definitions
+    lie in `inside`."""
+    specs = f"crates/{crate}/specs/"
+    path = f"{specs}{folder or 'Lib'}.antt"
     if not os.path.exists(os.path.join(TOP, path)):
         return []
-    names = [line.split()[2] for line in read(path) if line.startswith("pub mod ")]
-    return [name for name in names if name != "inside"]
+    out = []
+    for name in listed(path):
+        inner = os.path.join(folder, name)
+        if os.path.isdir(os.path.join(TOP, specs + inner)):
+            out += modules(crate, inner) if name != "inside" else []
+        else:
+            out.append(inner)
+    return out
 
 
 def items(lines):
