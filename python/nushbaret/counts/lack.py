@@ -1,15 +1,14 @@
 """Why counts can't be met: who is short, and by how much.
 
 Each side is looked at alone: whether its least counts can be met within the greatest counts of the other side, where a
-row takes at most one column of a group. If each side's can alone, both can at once (Mendelsohn and Dulmage 1958). Pairs
-are added one by one along augmenting paths (Ford and Fulkerson 1956). What the searches that fail have reached is
-short, in connected parts."""
-from array import array
-from bisect import bisect_left
+row takes at most one column of a group. If each side's can alone, both can at once (Mendelsohn and Dulmage 1958). The
+library finds as many pairs as can be; what a search for one more reaches from those that lack some (Ford and Fulkerson
+1956) is short, in connected parts."""
 from collections import deque
-from typing import Any, Dict, Iterator, List, NamedTuple, Optional, Set, Tuple, Type
+from typing import Any, Dict, Iterator, List, NamedTuple, Sequence, Set
 
-from .nodes import Bounds, Counted, Pair, RowGroup, Served
+from .parts import Part, narrowed
+from .problem import Best, Bounds, Counted, Pair, RowGroup, solved
 
 
 class Lack(NamedTuple):
@@ -26,149 +25,81 @@ class Lack(NamedTuple):
     had: int
 
 
-class _Step(NamedTuple):
-    """A step of a path to a row or a column (by its vertex) or to a row group, with the pair that it gives up and the
-    one that it makes."""
+class _Search:
+    """A search for one more pair of those that lack some, from the most pairs that least counts of one side can have. A
+    row is the vertex of its number, and the columns come after the rows. A row group that has a column is a vertex
+    too."""
 
-    end: Any
-    leave: Optional[Pair]
-    take: Optional[Pair]
-
-
-class _Flow:
-    """Pairs that meet least counts of one side, as many as can be. A row is the vertex of its number, and the columns
-    come after the rows. A row group that has a column is a vertex too."""
-
-    def __init__(self, counted: Counted):
+    def __init__(self, counted: Counted, chosen: Sequence[Pair]):
         self.counted, self.first_column = counted, len(counted.row_bounds)
-        self.taken: Dict[RowGroup, int] = {}
         self.of_rows: List[Set[int]] = [set() for _ in counted.row_bounds]
         self.of_columns: List[Set[int]] = [set() for _ in counted.column_bounds]
-        # What searches that failed have reached: no later one finds more there.
-        self.closed: Set[Any] = set()
+        self.taken: Dict[RowGroup, int] = {}
+        for row, column in chosen:
+            self.taken[self.row_group(row, column)] = column
+            self.of_rows[row].add(column)
+            self.of_columns[column].add(row)
+        self.reached: Set[Any] = set()
 
     def row_group(self, row: int, column: int) -> RowGroup:
         return row, self.counted.group_of[column]
 
-    def is_full(self, vertex: int) -> bool:
-        if vertex < self.first_column:
-            return len(self.of_rows[vertex]) >= self.counted.row_bounds[vertex].most
-        column = vertex - self.first_column
-        return len(self.of_columns[column]) >= self.counted.column_bounds[column].most
-
-    def take(self, row: int, column: int) -> None:
-        self.taken[self.row_group(row, column)] = column
-        self.of_rows[row].add(column)
-        self.of_columns[column].add(row)
-
-    def leave(self, row: int, column: int) -> None:
-        del self.taken[self.row_group(row, column)]
-        self.of_rows[row].remove(column)
-        self.of_columns[column].remove(row)
-
-    def near(self, vertex: Any) -> Iterator[_Step]:
-        """What can be changed from a vertex on."""
+    def starts(self) -> List[int]:
+        """The vertices that lack pairs."""
         raise NotImplementedError
 
-    def is_goal(self, vertex: Any) -> bool:
-        """Whether a vertex of the other side can have one more."""
-        raise NotImplementedError
-
-    def begin(self) -> None:
-        """Makes pairs as long as nothing has to change for them, each vertex from where the one before ended."""
+    def near(self, vertex: Any) -> Iterator[Any]:
+        """The vertices that can be changed from one on."""
         raise NotImplementedError
 
     def lacks(self) -> List[Lack]:
-        """What is short, in the order of the first rows or columns."""
+        """What is short, in the order of the first rows or columns, by what was reached."""
         raise NotImplementedError
 
-    def serve(self, start: int) -> bool:
-        """Gives a vertex one more pair, if that is possible, where others may change theirs."""
-        if start in self.closed:
-            return False
-        reached: Dict[Any, Tuple[Any, _Step]] = {}
-        seen, waiting = {start}, deque([start])
+    def found(self) -> List[Lack]:
+        """What is short."""
+        waiting = deque(self.starts())
+        self.reached.update(waiting)
         while waiting:
-            vertex = waiting.popleft()
-            for step in self.near(vertex):
-                if step.end in seen or step.end in self.closed:
-                    continue
-                seen.add(step.end)
-                reached[step.end] = vertex, step
-                if self.is_goal(step.end):
-                    self._change(reached, step.end, start)
-                    return True
-                waiting.append(step.end)
-        self.closed |= seen
-        return False
-
-    def _change(self, reached: Dict[Any, Tuple[Any, _Step]], vertex: Any, start: int) -> None:
-        while vertex != start:
-            vertex, step = reached[vertex]
-            if step.leave:
-                self.leave(*step.leave)
-            if step.take:
-                self.take(*step.take)
-
-    def fill(self, begin: int, bounds: List[Bounds]) -> int:
-        """Serves each vertex from one on as often as its least count says, as far as that can be: how often, summed
-        up."""
-        self.begin()
-        count = 0
-        for start, bound in enumerate(bounds, begin):
-            served = len(self.of_rows[start] if start < self.first_column
-                         else self.of_columns[start - self.first_column])
-            while served < bound.least and self.serve(start):
-                served += 1
-            count += served
-        return count
+            for end in self.near(waiting.popleft()):
+                if end not in self.reached:
+                    self.reached.add(end)
+                    waiting.append(end)
+        return self.lacks()
 
 
-class _RowsFlow(_Flow):
+class _OfRows(_Search):
     """Rows need columns: a row takes one of a row group that has none. Where a column is full, a row group that has it
     takes another of its group, or its row takes one of another group."""
 
-    def __init__(self, counted: Counted):
-        super().__init__(counted)
-        self.lists = [array("I") for _ in counted.row_bounds]
+    def __init__(self, counted: Counted, chosen: Sequence[Pair]):
+        super().__init__(counted, chosen)
+        self.lists: List[List[int]] = [[] for _ in counted.row_bounds]
         for row, column in zip(counted.rows, counted.columns):
             self.lists[row].append(column)
 
-    def near(self, vertex: Any) -> Iterator[_Step]:
+    def starts(self) -> List[int]:
+        return [row for row, bound in enumerate(self.counted.row_bounds) if len(self.of_rows[row]) < bound.least]
+
+    def near(self, vertex: Any) -> Iterator[Any]:
         if isinstance(vertex, tuple):
             row, group = vertex
-            held = self.taken[row, group]
-            yield _Step(row, (row, held), None)
+            yield row
             if group < self.counted.n_groups:
-                yield from (_Step(self.first_column + column, (row, held), (row, column)) for column in self.lists[row]
-                            if column != held and self.counted.group_of[column] == group)
+                yield from (self.first_column + column for column in self.lists[row]
+                            if column != self.taken[vertex] and self.counted.group_of[column] == group)
         elif vertex < self.first_column:
             for column in self.lists[vertex]:
                 if self.row_group(vertex, column) not in self.taken:
-                    yield _Step(self.first_column + column, None, (vertex, column))
+                    yield self.first_column + column
         else:
             column = vertex - self.first_column
-            yield from (_Step(self.row_group(row, column), None, None) for row in self.of_columns[column])
-
-    def is_goal(self, vertex: Any) -> bool:
-        return not isinstance(vertex, tuple) and vertex >= self.first_column and not self.is_full(vertex)
-
-    def begin(self) -> None:
-        last = 0
-        for row, bound in enumerate(self.counted.row_bounds):
-            own = self.lists[row]
-            place = bisect_left(own, last)
-            for column in own[place:] + own[:place]:
-                if len(self.of_rows[row]) >= bound.least:
-                    break
-                if self.row_group(row, column) not in self.taken and not self.is_full(self.first_column + column):
-                    self.take(row, column)
-                    last = column
+            yield from (self.row_group(row, column) for row in self.of_columns[column])
 
     def lacks(self) -> List[Lack]:
-        rows = sorted(vertex for vertex in self.closed if not isinstance(vertex, tuple) and vertex < self.first_column)
+        rows = sorted(vertex for vertex in self.reached if not isinstance(vertex, tuple) and vertex < self.first_column)
         once = {row: [row_group for row_group in (self.row_group(row, column) for column in sorted(self.of_rows[row]))
-                      if self.first_column + self.taken[row_group] not in self.closed] for row in rows}
+                      if self.first_column + self.taken[row_group] not in self.reached] for row in rows}
         links = {row: [self.first_column + column for column in self.lists[row]
                        if self.row_group(row, column) not in once[row]] for row in rows}
         return [self._lack(part, once) for part in _parts(rows, links)]
@@ -182,49 +113,38 @@ class _RowsFlow(_Flow):
         return Lack(False, rows, columns, row_groups, wanted, had)
 
 
-class _ColumnsFlow(_Flow):
+class _OfColumns(_Search):
     """Columns need rows: a column takes a row that has none of its group, or whose column of the group takes another
     row instead. Where a row is full, any column that has it may take another."""
 
-    def __init__(self, counted: Counted):
-        super().__init__(counted)
-        self.listed = [array("I") for _ in counted.column_bounds]
+    def __init__(self, counted: Counted, chosen: Sequence[Pair]):
+        super().__init__(counted, chosen)
+        self.listed: List[List[int]] = [[] for _ in counted.column_bounds]
         for row, column in zip(counted.rows, counted.columns):
             self.listed[column].append(row)
 
-    def near(self, vertex: Any) -> Iterator[_Step]:
+    def starts(self) -> List[int]:
+        return [self.first_column + column for column, bound in enumerate(self.counted.column_bounds)
+                if len(self.of_columns[column]) < bound.least]
+
+    def near(self, vertex: Any) -> Iterator[Any]:
         if vertex < self.first_column:
-            yield from (_Step(self.first_column + column, (vertex, column), None) for column in self.of_rows[vertex])
+            yield from (self.first_column + column for column in self.of_rows[vertex])
             return
         column = vertex - self.first_column
         for row in self.listed[column]:
             held = self.taken.get(self.row_group(row, column))
             if held is None:
-                yield _Step(row, None, (row, column))
+                yield row
             elif held != column:
-                yield _Step(self.first_column + held, (row, held), (row, column))
-
-    def is_goal(self, vertex: Any) -> bool:
-        return bool(vertex < self.first_column) and not self.is_full(vertex)
-
-    def begin(self) -> None:
-        last = 0
-        for column, bound in enumerate(self.counted.column_bounds):
-            own = self.listed[column]
-            place = bisect_left(own, last)
-            for row in own[place:] + own[:place]:
-                if len(self.of_columns[column]) >= bound.least:
-                    break
-                if self.row_group(row, column) not in self.taken and not self.is_full(row):
-                    self.take(row, column)
-                    last = row
+                yield self.first_column + held
 
     def lacks(self) -> List[Lack]:
-        columns = sorted(vertex for vertex in self.closed if vertex >= self.first_column)
+        columns = sorted(vertex for vertex in self.reached if vertex >= self.first_column)
         links: Dict[Any, List[Any]] = {}
         for vertex in columns:
             column = vertex - self.first_column
-            links[vertex] = [row if row in self.closed else self.row_group(row, column) for row in self.listed[column]]
+            links[vertex] = [row if row in self.reached else self.row_group(row, column) for row in self.listed[column]]
         return [self._lack(part) for part in _parts(columns, links)]
 
     def _lack(self, part: Set[Any]) -> Lack:
@@ -258,20 +178,52 @@ def _part(start: Any, seen: Set[Any], links: Dict[Any, List[Any]], back: Dict[An
     return part
 
 
-def lacks_of(counted: Counted) -> Tuple[List[Lack], Served]:
-    """What is short, and how much of the least counts can be met. Nothing is short where there is a plan."""
-    of_rows, some = _side_of(_RowsFlow, counted, 0, counted.row_bounds)
-    of_columns, more = _side_of(_ColumnsFlow, counted, len(counted.row_bounds), counted.column_bounds)
-    return some + more, Served(of_rows, of_columns)
+def lacks_of(counted: Counted) -> List[Lack]:
+    """What is short; nothing where there is a plan."""
+    of_rows = _most(counted, [Bounds(0, bound.least) for bound in counted.row_bounds],
+                    [Bounds(0, bound.most) for bound in counted.column_bounds])
+    of_columns = _most(counted, [Bounds(0, bound.most) for bound in counted.row_bounds],
+                       [Bounds(0, bound.least) for bound in counted.column_bounds])
+    return _OfRows(counted, of_rows).found() + _OfColumns(counted, of_columns).found()
 
 
-def _side_of(kind: Type[_Flow], counted: Counted, begin: int, bounds: List[Bounds]) -> Tuple[int, List[Lack]]:
-    """How much of the least counts of one side can be met, and what is short there."""
-    if not any(bound.least for bound in bounds):
-        return 0, []
-    flow = kind(counted)
-    served = flow.fill(begin, bounds)
-    lacks = flow.lacks()
-    if served + sum(lack.wanted - lack.had for lack in lacks) != sum(bound.least for bound in bounds):
-        raise RuntimeError("groups were found to be short, and by another sum than what is missed")
-    return served, lacks
+def _most(counted: Counted, row_bounds: List[Bounds], column_bounds: List[Bounds]) -> List[Pair]:
+    """As many pairs as can be within bounds."""
+    counted = counted._replace(row_bounds=row_bounds, column_bounds=column_bounds, costs=[-1] * len(counted.rows))
+    found = solved(counted)
+    return counted.pairs_of(found.plan) if isinstance(found, Best) else []
+
+
+class Cut(NamedTuple):
+    """The problem whose plans are those that miss as little as can be, and what the shortages say as numbers of rows
+    and columns."""
+
+    part: Part
+    rows: List[int]
+    columns: List[int]
+
+
+def cut_of(counted: Counted, lacks: Sequence[Lack]) -> Cut:
+    """The plans that miss as little of the least counts as can be, summed up over both sides.
+
+    Let S and T be the rows and columns of shortages of rows. In what plans pair of S, no more is counted than what T
+    take at most, and one for each row group of S with a column outside T; and a plan misses least exactly if all of
+    that is counted. Then T take all that they can, from S alone; each of these row groups takes one column outside T;
+    no row of S takes more than its least count, and no other row less. Shortages of columns say the same with rows and
+    columns exchanged. So with r = 1 for S and v = -1 for T, and -r and -v for the others, pairs with e = -r - v are
+    open exactly if their e is min(0, the least e of their row group)."""
+    short = [[set().union(*(own for lack in lacks if lack.of_columns == side for own in (
+        lack.columns if of_columns else lack.rows,))) for side in (False, True)] for of_columns in (False, True)]
+    (rows, full_rows), (full_columns, columns) = short
+    numbers = [[(number in ones) - (number in minus) for number in range(len(bounds))] for bounds, ones, minus in (
+        (counted.row_bounds, rows, full_rows), (counted.column_bounds, columns, full_columns))]
+    spare = [-numbers[0][row] - numbers[1][column] for row, column in zip(counted.rows, counted.columns)]
+    part = narrowed(counted, spare, 0, _cut(counted.row_bounds, rows, full_rows),
+                    _cut(counted.column_bounds, columns, full_columns))
+    return Cut(part, *numbers)
+
+
+def _cut(bounds: Sequence[Bounds], short: Set[int], full: Set[int]) -> List[Bounds]:
+    """The bounds of a side of which some names are short and some must take all that they can."""
+    return [Bounds(bound.most if number in full else 0 if number in short else bound.least,
+                   bound.least if number in short else bound.most) for number, bound in enumerate(bounds)]

@@ -7,9 +7,9 @@ from fractions import Fraction
 from unittest import mock
 
 import nushbaret
-from nushbaret.counts import nodes
-from nushbaret.counts.nodes import Bounds, Counted
-from nushbaret.counts.planned import planned
+from nushbaret.counts import levels
+from nushbaret.counts.planned import planned, with_fewest_changes
+from nushbaret.counts.problem import Bounds, Counted
 import drawn
 from optional import np as numpy, pd as pandas
 
@@ -77,16 +77,6 @@ class Plans(unittest.TestCase):
         self.assertGreater(infeasible, 500)
         self.assertLess(infeasible, 1300)
 
-    def test_transshipments_only_where_a_plan_needs_them(self):
-        solved, more = nodes.best_plan, 0
-        for case, (roster, maximize) in enumerate(rosters(2, SMALL)):
-            least, calls = min(plan[:2] for plan in roster.plans(maximize)), []
-            with mock.patch.object(nodes._Builder, "spare", lambda builder: iter(())), mock.patch.object(
-                    nodes, "best_plan", lambda *lists: calls.append(lists) or solved(*lists)), self.subTest(case=case):
-                self.judge(roster, roster.assign(maximize=maximize, partial=True), maximize, least)
-            more += len(calls) > 1
-        self.assertGreater(more, 50)
-
     def test_kept_pairs_beside_all_best_plans(self):
         draw, changed = random.Random(3), 0
         for case, (roster, _) in enumerate(rosters(3, SMALL)):
@@ -96,7 +86,7 @@ class Plans(unittest.TestCase):
             plans = list(roster.plans())
             least = min(plan[:2] for plan in plans)
             fewest = min(len(set(pairs) - set(kept)) for *worth, pairs in plans if tuple(worth) == least)
-            _, pairs, _ = planned(roster.counted(), True, kept)
+            pairs = with_fewest_changes(planned(roster.counted(), True).plans, kept).pairs()
             with self.subTest(case=case):
                 self.assertIn((*least, pairs), plans)
                 self.assertEqual(len(set(pairs) - set(kept)), fewest)
@@ -104,16 +94,12 @@ class Plans(unittest.TestCase):
         self.assertGreater(changed, 50)
 
     def test_month(self):
-        """100 nurses, one shift a day: at once; and where nodes are few, those come first that a plan may need."""
+        """100 nurses, one shift a day."""
         draw = random.Random(1)
         costs = [[draw.randint(1, 100) if draw.random() < 0.9 else None for _ in range(93)] for _ in range(100)]
         result = nushbaret.assign_counts(costs, (18, 20), (18, 22), [column // 3 for column in range(93)])
         self.assertEqual((result.cost, len(result.pairs)), (25223, 1800))
         self.assertEqual(len({(row, column // 3) for row, column in result.pairs}), 1800)
-        some = [row[:21] for row in costs[:60]]
-        wanted = nushbaret.assign_counts(some, (4, 5), (10, 13)).cost
-        with mock.patch.multiple(nodes, MOST_PERSONS=1200, AT_ONCE=1200, LIKELY=800):
-            self.assertEqual(nushbaret.assign_counts(some, (4, 5), (10, 13)).cost, wanted)
 
 
 class AnyNumbers(unittest.TestCase):
@@ -265,18 +251,6 @@ class Words(unittest.TestCase):
         costs = [[draw.randint(1, 10**6) for _ in range(93)] for _ in range(100)]
         with self.assertRaises(TimeoutError):
             nushbaret.assign_counts(costs, (18, 20), (18, 22), timeout=0)
-
-    def test_too_many_nodes(self):
-        costs = [[1] * 100 for _ in range(100)]
-        helps = "can be had: lower the greatest counts, forbid more pairs, or split the problem, as by weeks"
-        for row_counts, column_counts, text in (((0, 90), (0, 2), "9000 columns that rows may take, 200 rows that "
-                                                 "columns may take and 0 rules of at most one need 9000"),
-                                                ((40, 80), (40, 80), "8000 columns that rows may take, 8000 rows that "
-                                                 "columns may take and 0 rules of at most one need 12000")):
-            with mock.patch.object(nodes, "MOST_PERSONS", 8192):
-                with self.assertRaises(ValueError) as caught:
-                    nushbaret.assign_counts(costs, row_counts, column_counts)
-                self.assertEqual(str(pickle.loads(pickle.dumps(caught.exception))), f"{text} nodes, and 8192 {helps}")
 
     @unittest.skipUnless(numpy, "needs NumPy")
     def test_arrays(self):
