@@ -190,7 +190,7 @@ def lacks_of(counted: Counted) -> List[Lack]:
 def _most(counted: Counted, row_bounds: List[Bounds], column_bounds: List[Bounds]) -> List[Pair]:
     """As many pairs as can be within bounds."""
     counted = counted._replace(row_bounds=row_bounds, column_bounds=column_bounds, costs=[-1] * len(counted.rows))
-    found = solved(counted)
+    found = solved(counted, True)
     return counted.pairs_of(found.plan) if isinstance(found, Best) else []
 
 

@@ -13,7 +13,9 @@ The numbers of all levels, each in its unit, add up to numbers for the given cos
 at the end; where they don't, since a number of a later level is greater than what was left out allows, Bellman (1958)
 and Ford mend them."""
 from array import array
+from collections import Counter
 from fractions import Fraction
+from itertools import compress, count
 from typing import Any, List, NamedTuple, Optional, Sequence, Tuple, Union
 
 from ..costs.kinds import AnyWholeNumbers, Costs, plain
@@ -68,27 +70,27 @@ class _Level(NamedTuple):
     denominator: int
 
 
-def best_of(counted: Counted, given: Optional[Given] = None) -> Union[Levelled, Marked]:
+def best_of(counted: Counted, given: Optional[Given] = None, is_part: bool = False) -> Union[Levelled, Marked]:
     """The best plan of a problem, for its own costs, which are whole, or for given ones; or why there is none."""
     if given is None:
         if counted.in_range():
-            found = solved(counted)
+            found = solved(counted, is_part)
             return Levelled(*found, 1) if isinstance(found, Best) else found
         given = Given(AnyWholeNumbers(counted.listed().costs), 1)
-    answer = _by_levels(counted.listed(), given)
+    answer = _by_levels(counted, given, is_part)
     if isinstance(answer, Marked):
         return answer
     found, level = answer
     return found if _is_proof(counted, given, found, level) else _mended(counted, given, found)
 
 
-def _by_levels(counted: Counted, given: Given) -> Union[Tuple[Levelled, _Level], Marked]:
+def _by_levels(counted: Counted, given: Given, is_part: bool) -> Union[Tuple[Levelled, _Level], Marked]:
     numbers, shift = given.costs.rounded(_BITS)
     costs = [given.sign * cost for cost in numbers.tolist()]
-    found = solved(counted._replace(costs=array("q", costs)))
+    found = solved(counted._replace(costs=array("q", costs)), is_part)
     if isinstance(found, Marked):
         return found
-    rows, columns = found.row_numbers.tolist(), found.column_numbers.tolist()
+    counted, rows, columns = counted.listed(), found.row_numbers.tolist(), found.column_numbers.tolist()
     most = counted.most_pairs()
     # A float may be that much further from the decimal that it prints as.
     paid = most + 2 + most // 4096
@@ -114,9 +116,9 @@ def _rest(part: Part, costs: List[int]) -> Levelled:
     """The best plan of what a level left open."""
     counted = part.counted._replace(costs=costs)
     if counted.in_range():
-        found: Any = solved(counted)
+        found: Any = solved(counted, True)
     else:
-        found = _by_levels(counted, Given(AnyWholeNumbers(costs), 1))
+        found = _by_levels(counted, Given(AnyWholeNumbers(costs), 1), True)
         found = found if isinstance(found, Marked) else found[0]
     if isinstance(found, Marked):
         raise RuntimeError("a level's plan was found to be possible, and then it wasn't: please report this problem")
@@ -146,25 +148,23 @@ def _is_proof(counted: Counted, given: Given, found: Levelled, level: _Level) ->
             return apart < 0
         return exact(place) < (0 if other is None else exact(other))
 
-    held = {}
-    for place, (row_group, is_chosen) in enumerate(zip(counted.row_groups(), found.plan)):
-        if is_chosen:
-            if row_group in held or coarse[place] > -1 and exact(place) > 0:
-                return False
-            held[row_group] = place
-    return _keeps_counts(counted, found) and not any(is_below(place, held.get(row_group)) for place, (
-        row_group, is_chosen) in enumerate(zip(counted.row_groups(), found.plan)) if not is_chosen)
+    row_groups = list(counted.row_groups())
+    held = {row_groups[place]: place for place in compress(count(), found.plan)}
+    if len(held) < sum(found.plan) or any(coarse[place] > -1 and exact(place) > 0 for place in held.values()):
+        return False
+    # All others have e above 0.
+    near = [place for place, own in enumerate(coarse) if own < 5]
+    return _keeps_counts(counted, found) and not any(is_below(place, held.get(row_groups[place])) for place in near
+                                                     if not found.plan[place])
 
 
 def _keeps_counts(counted: Counted, found: Levelled) -> bool:
     """Whether counts are in their bounds, and each number stands for the count that its row or column has."""
     for numbers, bounds, duals in ((counted.rows, counted.row_bounds, found.row_numbers),
                                    (counted.columns, counted.column_bounds, found.column_numbers)):
-        counts = [0] * len(bounds)
-        for number, is_chosen in zip(numbers, found.plan):
-            counts[number] += is_chosen
-        if any(not bound.least <= count <= bound.most or dual > 0 and count > bound.least
-               or dual < 0 and count < bound.most for bound, count, dual in zip(bounds, counts, duals)):
+        counts = Counter(compress(numbers, found.plan))
+        if any(not bound.least <= counts[number] <= bound.most or dual > 0 and counts[number] > bound.least
+               or dual < 0 and counts[number] < bound.most for number, (bound, dual) in enumerate(zip(bounds, duals))):
             return False
     return True
 

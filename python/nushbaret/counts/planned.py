@@ -8,7 +8,7 @@ from .exchanges import Other, exchanges_of, next_plan
 from .lack import Cut, Lack, cut_of, lacks_of
 from .levels import Given, Levelled, best_of
 from .parts import Part, fixed, narrowed, reduced_costs, settled, whole
-from .problem import Bounds, Counted, Marked, Pair
+from .problem import Bounds, Counted, Marked, Pair, show_progress
 
 
 class Plans(NamedTuple):
@@ -53,11 +53,12 @@ def planned(counted: Counted, partial: bool, given: Optional[Given] = None) -> P
     part, own = cut.part, given and given.at(cut.part.places)
     if given is None:
         part = part._replace(counted=part.counted._replace(costs=[counted.costs[place] for place in part.places]))
-    found = best_of(part.counted, own)
+    found = best_of(part.counted, own, True)
     if isinstance(found, Marked):
         raise RuntimeError("a plan was found to miss as little as can be, and there is none: please report this "
                            "problem")
     plans = Plans(counted, part, found, cut)
+    show_progress(counted, part.plan(found.plan, len(counted.rows)))
     if given is None and not shows(certificate_of_best(counted, lacks, plans.shown())):
         raise RuntimeError("a plan was found to be the best by its counts, and the check of these doesn't show it: "
                            "please report this problem")
@@ -71,7 +72,7 @@ def with_fewest_changes(plans: Plans, kept: Collection[Pair]) -> Plans:
                     fixed(counted.row_bounds, best.row_numbers, 0), fixed(counted.column_bounds, best.column_numbers, 0))
     named = [(plans.part.of_rows[counted.rows[place]], plans.part.of_columns[counted.columns[place]])
              for place in face.places]
-    found = best_of(face.counted._replace(costs=[-1 if pair in kept else 1 for pair in named]))
+    found = best_of(face.counted._replace(costs=[-1 if pair in kept else 1 for pair in named]), None, True)
     if isinstance(found, Marked):
         raise RuntimeError("a best plan was found, and then there was none: please report this problem")
     plan = face.plan(found.plan, len(counted.rows))
@@ -125,6 +126,6 @@ def _second(counted: Counted, best: Levelled, pairs: Set[Pair], those: FrozenSet
     own: Any = best
     if those:
         counted = settled(counted, pairs & those, those - pairs)
-        own = best_of(counted)
+        own = best_of(counted, None, True)
     other = next_plan(exchanges_of(counted, sorted(pairs - those), own.row_numbers, own.column_numbers))
     return None if other is None else Other(other.more, other.pairs | (pairs & those))

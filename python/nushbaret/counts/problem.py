@@ -8,7 +8,7 @@ from typing import Any, Dict, Iterator, List, NamedTuple, NoReturn, Sequence, Tu
 
 from ..costs.limits import GREATEST_COST, MOST_PERSONS, Numbers
 from ..costs.problem import TooLarge
-from ..lap.library import PieceSize, Pace, address, address_and_count, look_at_time, progress_asked
+from ..lap.library import PIECES, Pace, address, address_and_count, look_at_time, progress_asked
 
 Pair = Tuple[int, int]
 # A row and a group of which it takes at most one column.
@@ -92,7 +92,6 @@ class Marked(NamedTuple):
 
 # The library's codes that aren't faults of its lists.
 _BEST, _ROWS_LACK, _COLUMNS_LACK, _MEMORY, _STOPPED = 0, 1, 2, 15, 16
-_PIECE = PieceSize(5 * 10**6, 4)
 _MOST_COUNT = 2**32 - 1
 # Lists that are given and written; then the sense comes first, and in the end a budget, a record and an info.
 _LISTS = 13
@@ -140,9 +139,10 @@ def _given(counted: Counted) -> List[Any]:
         counted.row_bounds, counted.column_bounds) for side in range(2)), groups]
 
 
-def solved(counted: Counted) -> Union[Best, Marked]:
+def solved(counted: Counted, is_part: bool = False) -> Union[Best, Marked]:
     """The library's answer to a problem whose costs are in its range. The search is done in pieces, as others are;
-    `progress` is called with how many rows have their least count, and at least one pair if they take any."""
+    unless it is part of another one, `progress` is called with how many rows have their least count, and at least one
+    pair if they take any."""
     n, m, pairs = len(counted.row_bounds), len(counted.column_bounds), len(counted.rows)
     if not n or not m:
         return _of_one_side(counted)
@@ -153,13 +153,13 @@ def solved(counted: Counted) -> Union[Best, Marked]:
     plan, marks = array("B", bytes(pairs)), (array("B", bytes(n)), array("B", bytes(m)))
     numbers = array("q", bytes(8 * n)), array("q", bytes(8 * m))
     words = list(chain.from_iterable(map(address_and_count, (*given, plan, *numbers, *marks))))
-    record, info, pace, progress = _Record(), _Info(), Pace(_PIECE, pairs), progress_asked()
+    record, info, pace = _Record(), _Info(), Pace(PIECES["counts"], pairs)
     code = _STOPPED
     while code == _STOPPED:
         look_at_time()
         code = _loaded()(0, *words, pace.budget(), ctypes.addressof(record), ctypes.addressof(info))
-        if progress is not None and code in (_BEST, _STOPPED):
-            progress(_served(counted, plan), n)
+        if code in (_BEST, _STOPPED) and not is_part:
+            show_progress(counted, plan)
     if code == _BEST:
         return Best(plan, *numbers)
     return Marked(code == _COLUMNS_LACK, *marks) if code in (_ROWS_LACK, _COLUMNS_LACK) else _refuse(code)
@@ -174,11 +174,14 @@ def _of_one_side(counted: Counted) -> Union[Best, Marked]:
     return Best(array("B"), *(array("q", bytes(8 * len(own))) for own in needs))
 
 
-def _served(counted: Counted, plan: Any) -> int:
-    had = [0] * len(counted.row_bounds)
-    for row, _ in counted.pairs_of(plan):
-        had[row] += 1
-    return sum(map(le, (min(max(least, 1), most) for least, most in counted.row_bounds), had))
+def show_progress(counted: Counted, plan: Any) -> None:
+    """Calls `progress`, where it was asked for."""
+    progress = progress_asked()
+    if progress is not None:
+        had = [0] * len(counted.row_bounds)
+        for row, _ in counted.pairs_of(plan):
+            had[row] += 1
+        progress(sum(map(le, (min(max(least, 1), most) for least, most in counted.row_bounds), had)), len(had))
 
 
 def _refuse(code: int) -> NoReturn:

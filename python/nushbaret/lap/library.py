@@ -202,7 +202,7 @@ _limits = threading.local()
 LONG = 2**27
 # The same of doubles, which mostly take a tenth of a second, for linear_sum_assignment and an Assigner.
 LONGEST = 2**33
-PIECES = {"dense": PieceSize(2 * 10**7, 10), "sparse": PieceSize(5 * 10**6, 4)}
+PIECES = {"dense": PieceSize(2 * 10**7, 10), "sparse": PieceSize(5 * 10**6, 4), "counts": PieceSize(5 * 10**6, 4)}
 _LONGEST_WAIT = 10.0**5
 _TIME_IS_OVER = "the time is over; nothing of the caller's was changed"
 
