@@ -6,7 +6,7 @@ from typing import Any, Dict, Iterable, List, Mapping, NamedTuple, Optional, Seq
 
 from ..costs.numbers import Number, Ratio, in_unit, unit_of
 from ..costs.reading import exact_ratio
-from ..counts.nodes import Bounds
+from ..counts.problem import Bounds
 from ..roster.answer import Request
 from ..roster.by_rules import Proved, Task, answer_by_rules
 from ..roster.month import Before, Month, month_of

@@ -20,10 +20,13 @@ class Part(NamedTuple):
     forced: FrozenSet[int] = frozenset()
     over: Tuple[FrozenSet[int], FrozenSet[int]] = (frozenset(), frozenset())
 
+    def named(self, pairs: Iterable[Pair]) -> List[Pair]:
+        """Pairs by the greater problem's numbers."""
+        return [(self.of_rows[row], self.of_columns[column]) for row, column in pairs]
+
     def pairs(self, whole: Counted, chosen: Iterable[Pair]) -> List[Pair]:
-        """The greater problem's pairs, in order, by those of this one."""
-        found = [(self.of_rows[row], self.of_columns[column]) for row, column in chosen]
-        return sorted(found + [(whole.rows[place], whole.columns[place]) for place in self.taken])
+        """The pairs of the greater problem's plan, in order, by those of this one's."""
+        return sorted(self.named(chosen) + [(whole.rows[place], whole.columns[place]) for place in self.taken])
 
     def plan(self, plan: Sequence[int], pairs: int) -> bytearray:
         """The greater problem's plan, of so many pairs, by that of this one."""

@@ -4,7 +4,7 @@ from typing import Any, Collection, Dict, FrozenSet, Iterator, List, NamedTuple,
 
 from ..rows.check import shows
 from .count_rows import Shown, certificate_of_best, check_lacks
-from .exchanges import Other, exchanges_of, next_plan
+from .exchanges import Exchanges, Other, exchanges_of, free_pairs, next_plan
 from .lack import Cut, Lack, cut_of, lacks_of
 from .levels import Given, Levelled, best_of
 from .parts import Part, fixed, narrowed, reduced_costs, settled, whole
@@ -23,6 +23,20 @@ class Plans(NamedTuple):
     def pairs(self) -> List[Pair]:
         """The pairs of the best plan."""
         return self.part.pairs(self.problem, self.part.counted.pairs_of(self.best.plan))
+
+    def exchanges(self) -> Exchanges:
+        """How the plans that are as good as the best one, and others, differ from it."""
+        counted = self.part.counted
+        return exchanges_of(counted, counted.pairs_of(self.best.plan), self.best.row_numbers, self.best.column_numbers)
+
+    def free_pairs(self) -> List[List[Pair]]:
+        """The pairs that are in some best plan and not in all, in groups that depend on each other."""
+        return [sorted(self.part.named(those)) for those in free_pairs(self.exchanges())]
+
+    def after(self) -> Iterator[Other]:
+        """The plans after the best one, each with what it costs more."""
+        for other in _plans_after(self.part.counted, self.best):
+            yield Other(other.more, set(self.part.pairs(self.problem, other.pairs)))
 
     def shown(self) -> Shown:
         """The best plan with its numbers, as a certificate shows it."""
@@ -70,8 +84,7 @@ def with_fewest_changes(plans: Plans, kept: Collection[Pair]) -> Plans:
     counted, best = plans.part.counted.listed(), plans.best
     face = narrowed(counted, reduced_costs(counted, counted.costs, best.row_numbers, best.column_numbers), 0,
                     fixed(counted.row_bounds, best.row_numbers, 0), fixed(counted.column_bounds, best.column_numbers, 0))
-    named = [(plans.part.of_rows[counted.rows[place]], plans.part.of_columns[counted.columns[place]])
-             for place in face.places]
+    named = plans.part.named((counted.rows[place], counted.columns[place]) for place in face.places)
     found = best_of(face.counted._replace(costs=[-1 if pair in kept else 1 for pair in named]), None, True)
     if isinstance(found, Marked):
         raise RuntimeError("a best plan was found, and then there was none: please report this problem")
@@ -96,7 +109,7 @@ def missing(bounds: Sequence[Bounds], had: Dict[int, int]) -> Dict[int, int]:
 _Waiting = List[Tuple[int, int, Other, int, Set[Pair], FrozenSet[Pair]]]
 
 
-def plans_after(counted: Counted, best: Levelled) -> Iterator[Other]:
+def _plans_after(counted: Counted, best: Levelled) -> Iterator[Other]:
     """The plans after a best one, each with what it costs more than that one.
 
     Hamacher and Queyranne (1985): all plans are split into parts, each with its best plan and its second best one. The

@@ -3,13 +3,10 @@ from collections import Counter
 from itertools import islice
 from typing import List, Sequence, Tuple
 
-from ..costs.problem import TooLarge
-from ..counts.exchanges import free_pairs
 from ..counts.lack import Lack
-from ..counts.nodes import Bounds, Counted, TooManyNodes
-from ..counts.planned import planned
-from ..counts.ranked import plans_after
-from .answer import Answer, Request, ShortGroup, plan_of, plural, with_following
+from ..counts.planned import planned, with_fewest_changes
+from ..counts.problem import Bounds, Counted
+from .answer import Answer, Request, ShortGroup, plan_of, with_following
 from .nodes import Swap
 from .roster import PlanLine, Roster
 from .sentences import sentence_of
@@ -18,22 +15,18 @@ from .sentences import sentence_of
 def answer_by_counts(roster: Roster, request: Request) -> Answer:
     """The answer to a roster with counts or groups; TooLarge where it is so for the library."""
     counted = counted_of(roster, request)
-    try:
-        lacks, pairs, exchanges = planned(counted, request.fullest, request.kept if request.change is None else None)
-    except TooManyNodes as fault:
-        persons, objects = map(plural, roster.titles[:2])
-        raise TooLarge(fault.said(f"{objects} that {persons} may take", f"places at {objects}")) from fault
+    lacks, plans = planned(counted, request.fullest)
     groups = [_short(roster, counted, lack, _around(roster, request.fixed)) for lack in lacks]
-    if pairs is None or exchanges is None:
+    if plans is None:
         return Answer(None, groups)
-    plan = plan_of(roster, request.fixed, pairs)
     if request.kept is not None and request.change is not None:
-        return Answer(plan, groups)
-    swaps = [Swap(those) for those in free_pairs(exchanges)]
-    plan = plan._replace(swaps=swaps, is_only_one=not swaps)
+        return Answer(plan_of(roster, request.fixed, plans.pairs()), groups)
+    if request.kept is not None:
+        plans = with_fewest_changes(plans, request.kept)
+    swaps = [Swap(those) for those in plans.free_pairs()]
+    plan = plan_of(roster, request.fixed, plans.pairs())._replace(swaps=swaps, is_only_one=not swaps)
     count = max(request.plans - 1, int(request.others and not swaps))
-    following = [plan_of(roster, request.fixed, sorted(other.pairs))
-                 for other in islice(plans_after(counted, pairs, bool(lacks)), count)]
+    following = [plan_of(roster, request.fixed, sorted(other.pairs)) for other in islice(plans.after(), count)]
     return Answer(with_following(plan, following, request.others and not swaps), groups)
 
 
@@ -46,7 +39,7 @@ def counted_of(roster: Roster, request: Request) -> Counted:
     rows: List[int] = []
     columns: List[int] = []
     costs: List[int] = []
-    for person, object_, cost in zip(roster.of_persons, roster.of_objects, roster.costs):
+    for person, object_, cost in sorted(zip(roster.of_persons, roster.of_objects, roster.costs)):
         if object_ not in roster.past and (not taken or (person, group_of[object_]) not in taken):
             rows.append(person)
             columns.append(object_)

@@ -4,7 +4,7 @@ from collections import Counter
 from typing import Dict, Iterator, List, NamedTuple, Optional, Protocol, Sequence, Tuple
 
 from ..costs.limits import MOST_PERSONS
-from ..counts.nodes import Bounds
+from ..counts.problem import Bounds
 from .dates import spellings
 from .names import quoted
 from .roster import Earlier, Groups, PlanLine, Roster, Wanted, known, looks_like_number

@@ -7,8 +7,7 @@ from unittest import mock
 
 import nushbaret
 from nushbaret.counts import levels
-from nushbaret.counts.exchanges import exchanges_of, free_pairs
-from nushbaret.counts.planned import planned, plans_after
+from nushbaret.counts.planned import planned
 import drawn
 from counts.test_counts import rosters
 from optional import np as numpy, optimize
@@ -148,8 +147,8 @@ class Others(unittest.TestCase):
             with self.subTest(case=case):
                 first = plans[0][0]
                 others = [(0, found.pairs())]
-                for other in plans_after(counted, best):
-                    others.append((other.more, found.part.pairs(found.problem, other.pairs)))
+                for other in found.after():
+                    others.append((other.more, sorted(other.pairs)))
                     if len(others) > 60:
                         break
                 self.assertEqual([first + more for more, _ in others], [cost for cost, _ in plans[:len(others)]])
@@ -158,10 +157,9 @@ class Others(unittest.TestCase):
                 self.assertEqual(len(others), min(61, len(plans)))
                 ranked += len(others) > 2
                 alike = [set(pairs) for cost, pairs in plans if cost == first]
-                free = {pair for those in free_pairs(exchanges_of(
-                    counted, counted.pairs_of(best.plan), best.row_numbers, best.column_numbers)) for pair in those}
-                free = {(found.part.of_rows[row], found.part.of_columns[column]) for row, column in free}
-                self.assertEqual(free, set.union(*alike) - set.intersection(*alike))
+                free = [pair for those in found.free_pairs() for pair in those]
+                self.assertEqual(len(free), len(set(free)))
+                self.assertEqual(set(free), set.union(*alike) - set.intersection(*alike))
         self.assertGreater(ranked, 100)
 
 
