@@ -15,9 +15,9 @@ from ..costs.problem import AssignmentProblem, Labels, kept, listed
 from ..costs.reading import is_nan, manner
 from ..costs.source import lasting, problem_of
 from ..counts.lack import Lack
-from ..counts.levels import Given
+from ..counts.count_levels import Given
 from ..counts.planned import Plans, missing, planned
-from ..counts.problem import Bounds, Counted, Pair
+from ..counts.counted import Bounds, Counted
 from ..lap import library
 from .infeasible import Infeasible, Shortage, numbered
 from .results import Lasting
@@ -110,7 +110,8 @@ class CountsResult(Lasting):
     _labels: Labels
     _kind: Costs
     _costs: List[Any]
-    _numbers: Optional[Tuple[Sequence[int], Sequence[int], int]]
+    _numbers: Optional[Tuple[Sequence[int], Sequence[int]]]
+    _denominator: int
 
     def __init__(self, problem: AssignmentProblem, plans: Plans):
         counted, best = plans.problem, plans.best
@@ -121,7 +122,7 @@ class CountsResult(Lasting):
             rows=fixed(problem.numbers(rows)), columns=fixed(problem.numbers(columns)), maximize=problem.maximize,
             missing_rows=FixedDict(missed[0]), missing_columns=FixedDict(missed[1]), _labels=problem.labels,
             _kind=problem.costs.without_numbers(), _costs=costs,
-            _numbers=None if plans.cut else (best.row_numbers, best.column_numbers, best.denominator))
+            _numbers=None if plans.cut else (best.row_numbers, best.column_numbers), _denominator=best.denominator)
 
     def __setstate__(self, state: Any) -> None:
         super().__setstate__({**state, "rows": fixed(state["rows"]), "columns": fixed(state["columns"])})
@@ -169,9 +170,9 @@ class CountsResult(Lasting):
     def _shown(self, side: int) -> Optional[List[Number]]:
         if self._numbers is None:
             return None
-        sign, denominator = -1 if self.maximize else 1, self._numbers[2]
-        ratios = [Fraction(sign * number, denominator).as_integer_ratio() for number in self._numbers[side]]
-        return FixedList(self._kind.all_shown(ratios))
+        sign = -1 if self.maximize else 1
+        return FixedList(self._kind.all_shown([Fraction(sign * number, self._denominator).as_integer_ratio()
+                                               for number in self._numbers[side]]))
 
     def to_frame(self) -> Any:
         """The pairs as a DataFrame of pandas, which must be installed.

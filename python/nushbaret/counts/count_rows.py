@@ -9,10 +9,10 @@ from collections import Counter
 from itertools import chain
 from typing import Dict, List, NamedTuple, Optional, Sequence, Tuple
 
-from ..rows.check import shows
+from ..rows.certificate_check import shows
 from ..rows.model import Certificate, Leaf, Limits, Terms, flat
 from .lack import Cut, Lack
-from .problem import Bounds, Counted, Pair, RowGroup
+from .counted import Bounds, Counted, Pair, RowGroup
 
 
 class CountTerms(NamedTuple):
@@ -143,7 +143,8 @@ def _multipliers(counted: Counted, row_groups: Sequence[RowGroup], plan: Shown,
     rows, columns, weight = plan.rows, plan.columns, 0
     if plan.cut is not None:
         # More than any difference of two sums of a cost and numbers.
-        weight = 1 + sum(max(map(abs, values), default=0) for values in (counted.costs, rows, columns)) * 2
+        weight = 1 + 2 * sum(max((abs(value) for value in values), default=0)
+                             for values in (counted.costs, rows, columns))
         rows, columns = ([number + weight * more for number, more in zip(own, others)] for own, others in (
             (rows, plan.cut.rows), (columns, plan.cut.columns)))
     least = dict.fromkeys(row_groups, 0)

@@ -5,9 +5,9 @@ to a column that it could take, and back where it has it. One more vertex is whe
 or less, begin and end. The numbers that prove a plan best are potentials under which no arrow costs less than 0."""
 from collections import Counter, deque
 from heapq import heappop, heappush
-from typing import Any, Dict, Iterable, List, NamedTuple, Optional, Sequence, Set, Tuple
+from typing import Any, Dict, List, NamedTuple, Optional, Sequence, Set, Tuple
 
-from .problem import Bounds, Counted, Pair, RowGroup
+from .counted import Bounds, Counted, Pair, RowGroup
 
 Arrows = List[Dict[int, int]]
 

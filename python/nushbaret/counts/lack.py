@@ -7,8 +7,8 @@ library finds as many pairs as can be; what a search for one more reaches from t
 from collections import deque
 from typing import Any, Dict, Iterator, List, NamedTuple, Sequence, Set
 
-from .parts import Part, narrowed
-from .problem import Best, Bounds, Counted, Pair, RowGroup, solved
+from .narrowed import Part, narrowed
+from .counted import Best, Bounds, Counted, Pair, RowGroup, solved
 
 
 class Lack(NamedTuple):
@@ -87,7 +87,7 @@ class _OfRows(_Search):
             yield row
             if group < self.counted.n_groups:
                 yield from (self.first_column + column for column in self.lists[row]
-                            if column != self.taken[vertex] and self.counted.group_of[column] == group)
+                            if column != self.taken[row, group] and self.counted.group_of[column] == group)
         elif vertex < self.first_column:
             for column in self.lists[vertex]:
                 if self.row_group(vertex, column) not in self.taken:

@@ -5,11 +5,11 @@ from typing import List, Sequence, Tuple
 
 from ..counts.lack import Lack
 from ..counts.planned import planned, with_fewest_changes
-from ..counts.problem import Bounds, Counted
+from ..counts.counted import Bounds, Counted
 from .answer import Answer, Request, ShortGroup, plan_of, with_following
-from .nodes import Swap
 from .roster import PlanLine, Roster
 from .sentences import sentence_of
+from .single_nodes import Swap
 
 
 def answer_by_counts(roster: Roster, request: Request) -> Answer:

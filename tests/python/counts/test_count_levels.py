@@ -6,7 +6,7 @@ from fractions import Fraction
 from unittest import mock
 
 import nushbaret
-from nushbaret.counts import levels
+from nushbaret.counts import count_levels as levels
 from nushbaret.counts.planned import planned
 import drawn
 from counts.test_counts import rosters
@@ -143,7 +143,6 @@ class Others(unittest.TestCase):
             least = plans[0][0]
             plans = [(cost, pairs) for missed, cost, pairs in plans if missed == least]
             found = planned(roster.counted(), True).plans
-            counted, best = found.part.counted.listed(), found.best
             with self.subTest(case=case):
                 first = plans[0][0]
                 others = [(0, found.pairs())]

@@ -11,9 +11,9 @@ from fractions import Fraction
 from unittest import mock
 
 import nushbaret
-from nushbaret.counts import problem
+from nushbaret.counts import counted
 from nushbaret.counts.planned import planned, with_fewest_changes
-from nushbaret.counts.problem import Bounds, Counted
+from nushbaret.counts.counted import Bounds, Counted
 import drawn
 from nushbaret.lap import library
 from optional import np as numpy, pd as pandas, sparse
@@ -200,8 +200,8 @@ def stopped():
     """The library's search, which never ends: each piece of it stops at its budget."""
     def stops(*words):
         time.sleep(0.001)
-        return problem._STOPPED
-    return mock.patch.object(problem, "_call", [stops])
+        return counted._STOPPED
+    return mock.patch.object(counted, "_call", [stops])
 
 
 class Time(unittest.TestCase):

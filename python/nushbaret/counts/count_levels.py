@@ -16,14 +16,15 @@ from array import array
 from collections import Counter
 from fractions import Fraction
 from itertools import compress, count
+from operator import add
 from typing import Any, List, NamedTuple, Optional, Sequence, Tuple, Union
 
 from ..costs.kinds import AnyWholeNumbers, Costs, plain
 from ..costs.limits import GREATEST_COST
 from ..costs.numbers import Ratio, in_unit, unit_of
 from .exchanges import exact_numbers
-from .parts import Part, fixed, narrowed, reduced_costs
-from .problem import Best, Counted, Marked, solved
+from .narrowed import Part, fixed, narrowed, reduced_costs
+from .counted import Counted, Marked, solved
 
 # Rounded costs have so many bits.
 _BITS = GREATEST_COST.bit_length() - 1
@@ -74,8 +75,8 @@ def best_of(counted: Counted, given: Optional[Given] = None, is_part: bool = Fal
     """The best plan of a problem, for its own costs, which are whole, or for given ones; or why there is none."""
     if given is None:
         if counted.in_range():
-            found = solved(counted, is_part)
-            return Levelled(*found, 1) if isinstance(found, Best) else found
+            best = solved(counted, is_part)
+            return best if isinstance(best, Marked) else Levelled(best.plan, best.row_numbers, best.column_numbers, 1)
         given = Given(AnyWholeNumbers(counted.listed().costs), 1)
     answer = _by_levels(counted, given, is_part)
     if isinstance(answer, Marked):
@@ -90,7 +91,7 @@ def _by_levels(counted: Counted, given: Given, is_part: bool) -> Union[Tuple[Lev
     found = solved(counted._replace(costs=array("q", costs)), is_part)
     if isinstance(found, Marked):
         return found
-    counted, rows, columns = counted.listed(), found.row_numbers.tolist(), found.column_numbers.tolist()
+    counted, rows, columns = counted.listed(), list(found.row_numbers), list(found.column_numbers)
     most = counted.most_pairs()
     # A float may be that much further from the decimal that it prints as.
     paid = most + 2 + most // 4096
@@ -108,8 +109,8 @@ def _by_levels(counted: Counted, given: Given, is_part: bool) -> Union[Tuple[Lev
     rest = _rest(part, own)
     added = part.numbers(rest.row_numbers, rest.column_numbers, counted)
     plan = part.plan(rest.plan, len(costs))
-    return Levelled(plan, *([number + more for number, more in zip(numbers, others)]
-                            for numbers, others in zip((rows, columns), added)), denominator), level
+    sums = [list(map(add, numbers, more)) for numbers, more in zip((rows, columns), added)]
+    return Levelled(plan, sums[0], sums[1], denominator), level
 
 
 def _rest(part: Part, costs: List[int]) -> Levelled:

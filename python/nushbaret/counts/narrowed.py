@@ -2,7 +2,7 @@
 from collections import Counter
 from typing import Any, Collection, Dict, FrozenSet, Iterable, List, NamedTuple, Sequence, Set, Tuple
 
-from .problem import Bounds, Counted, Pair, RowGroup
+from .counted import Bounds, Counted, Pair, RowGroup
 
 
 class Part(NamedTuple):
@@ -117,7 +117,7 @@ def narrowed(counted: Counted, spare: Sequence[int], slack: int, row_bounds: Seq
     over = [frozenset(number for number, bound in enumerate(side) if bound.least < 0) for side in sides]
     group_of = [group if group < counted.n_groups else counted.n_groups + number
                 for number, group in enumerate(map(counted.group_of.__getitem__, columns))]
-    part = Counted(*bounds, group_of, counted.n_groups, of_rows, of_columns, [])
+    part = Counted(bounds[0], bounds[1], group_of, counted.n_groups, of_rows, of_columns, [])
     return Part(part, [row for row, _ in rows], list(columns), [place for _, place in order], choice.taken,
                 frozenset(number for number, (_, free) in enumerate(rows) if not free), (over[0], over[1]))
 
