@@ -125,15 +125,29 @@ class Other(NamedTuple):
     pairs: Set[Pair]
 
 
+class Round(NamedTuple):
+    """The vertices of a round of changes, and what it costs."""
+
+    length: float
+    vertices: List[int]
+
+
+# A vertex, and whether the round began with a pair of its column.
+State = Tuple[int, bool]
+
+
 def next_plan(exchanges: Exchanges) -> Optional[Other]:
-    """The best other plan of those that agree in the settled pairs; None where there is none. Each changes some
-    column's pairs."""
-    best = Round(float("inf"), [])
+    """The best other plan; None where there is none. Each changes some column's pairs."""
+    potentials = exchanges.potentials
+    leads = [sorted((cost + potentials[begin] - potentials[end], end) for end, cost in ends.items())
+             for begin, ends in enumerate(exchanges.arrows)]
     tails: Dict[int, Set[int]] = {}
     for begin, end in exchanges.ends.values():
         tails.setdefault(end, set()).add(begin)
+    best = Round(float("inf"), [])
     for column in sorted(tails):
-        best = _round(exchanges, column, tails[column], best)
+        if best.length:
+            best = _round(leads, range(min(tails), column), column, tails[column], best)
     if not best.vertices:
         return None
     pairs = {ends: pair for pair, ends in exchanges.ends.items()}
@@ -142,42 +156,29 @@ def next_plan(exchanges: Exchanges) -> Optional[Other]:
     return Other(int(best.length), exchanges.chosen ^ changed)
 
 
-class Round(NamedTuple):
-    """The vertices of a round of changes, and what it costs."""
-
-    length: float
-    vertices: List[int]
-
-
-State = Tuple[int, bool]
-
-
-def _round(exchanges: Exchanges, column: int, tails: Set[int], best: Round) -> Round:
-    """The cheapest round through a column that changes one of its pairs, whose other ends are given; `best` where none
-    costs less (Dijkstra 1959). A state is a vertex, and whether the round began with a pair of the column."""
-    arrows, potentials, most = exchanges.arrows, exchanges.potentials, best.length
+def _round(leads: Sequence[Sequence[Tuple[int, int]]], done: range, column: int, tails: Set[int], best: Round) -> Round:
+    """The cheapest round through a column, and none of those that are done, that changes one of its pairs, whose other
+    ends are given; `best` where none costs less (Dijkstra 1959). Arrows lead from each vertex, the cheapest first."""
+    most = best.length
     far: Dict[State, float] = {}
     back: Dict[State, Optional[State]] = {}
-    waiting: List[Tuple[float, int, bool]] = []
     last: Optional[State] = None
-
-    def go(length: float, state: State, before: Optional[State]) -> None:
-        if length < far.get(state, most):
-            far[state], back[state] = length, before
-            heappush(waiting, (length, *state))
-
-    for end, cost in arrows[column].items():
-        go(cost + potentials[column] - potentials[end], (end, end in tails), None)
+    waiting: List[Tuple[float, int, bool]] = [(0, column, False)]
     while waiting and waiting[0][0] < most:
         length, vertex, by_pair = heappop(waiting)
-        if length > far[vertex, by_pair]:
+        if length > far.get((vertex, by_pair), length):
             continue
-        for end, cost in arrows[vertex].items():
-            longer = length + cost + potentials[vertex] - potentials[end]
-            if end != column:
-                go(longer, (end, by_pair), (vertex, by_pair))
-            elif (by_pair or vertex in tails) and longer < most:
-                most, last = longer, (vertex, by_pair)
+        for cost, end in leads[vertex]:
+            longer = length + cost
+            if longer >= most:
+                break
+            state = end, by_pair or vertex == column and end in tails
+            if end == column:
+                if by_pair or vertex in tails:
+                    most, last = longer, (vertex, by_pair)
+            elif end not in done and longer < far.get(state, most):
+                far[state], back[state] = longer, None if vertex == column else (vertex, by_pair)
+                heappush(waiting, (longer, *state))
     return best if last is None else Round(most, [column, *_way(back, last)])
 
 
