@@ -2,13 +2,14 @@
 
 Each side is looked at alone: whether its least counts can be met within the greatest counts of the other side, where a
 row takes at most one column of a group. If each side's can alone, both can at once (Mendelsohn and Dulmage 1958). The
-library finds as many pairs as can be; what a search for one more reaches from those that lack some (Ford and Fulkerson
-1956) is short, in connected parts."""
-from collections import deque
-from typing import Any, Dict, Iterator, List, NamedTuple, Sequence, Set
+library finds as many pairs as can be; what changes of them reach from those that lack some (Ford and Fulkerson 1956) is
+short, in connected parts."""
+from collections import Counter
+from typing import Any, Collection, Dict, List, NamedTuple, Sequence, Set
 
+from .counted import Bounds, Counted, Marked, RowGroup, solved
+from .exchanges import exchanges_of
 from .narrowed import Part, narrowed
-from .counted import Best, Bounds, Counted, Pair, RowGroup, solved
 
 
 class Lack(NamedTuple):
@@ -25,173 +26,92 @@ class Lack(NamedTuple):
     had: int
 
 
-class _Search:
-    """A search for one more pair of those that lack some, from the most pairs that least counts of one side can have. A
-    row is the vertex of its number, and the columns come after the rows. A row group that has a column is a vertex
-    too."""
-
-    def __init__(self, counted: Counted, chosen: Sequence[Pair]):
-        self.counted, self.first_column = counted, len(counted.row_bounds)
-        self.of_rows: List[Set[int]] = [set() for _ in counted.row_bounds]
-        self.of_columns: List[Set[int]] = [set() for _ in counted.column_bounds]
-        self.taken: Dict[RowGroup, int] = {}
-        for row, column in chosen:
-            self.taken[self.row_group(row, column)] = column
-            self.of_rows[row].add(column)
-            self.of_columns[column].add(row)
-        self.reached: Set[Any] = set()
-
-    def row_group(self, row: int, column: int) -> RowGroup:
-        return row, self.counted.group_of[column]
-
-    def starts(self) -> List[int]:
-        """The vertices that lack pairs."""
-        raise NotImplementedError
-
-    def near(self, vertex: Any) -> Iterator[Any]:
-        """The vertices that can be changed from one on."""
-        raise NotImplementedError
-
-    def lacks(self) -> List[Lack]:
-        """What is short, in the order of the first rows or columns, by what was reached."""
-        raise NotImplementedError
-
-    def found(self) -> List[Lack]:
-        """What is short."""
-        waiting = deque(self.starts())
-        self.reached.update(waiting)
-        while waiting:
-            for end in self.near(waiting.popleft()):
-                if end not in self.reached:
-                    self.reached.add(end)
-                    waiting.append(end)
-        return self.lacks()
-
-
-class _OfRows(_Search):
-    """Rows need columns: a row takes one of a row group that has none. Where a column is full, a row group that has it
-    takes another of its group, or its row takes one of another group."""
-
-    def __init__(self, counted: Counted, chosen: Sequence[Pair]):
-        super().__init__(counted, chosen)
-        self.lists: List[List[int]] = [[] for _ in counted.row_bounds]
-        for row, column in zip(counted.rows, counted.columns):
-            self.lists[row].append(column)
-
-    def starts(self) -> List[int]:
-        return [row for row, bound in enumerate(self.counted.row_bounds) if len(self.of_rows[row]) < bound.least]
-
-    def near(self, vertex: Any) -> Iterator[Any]:
-        if isinstance(vertex, tuple):
-            row, group = vertex
-            yield row
-            if group < self.counted.n_groups:
-                yield from (self.first_column + column for column in self.lists[row]
-                            if column != self.taken[row, group] and self.counted.group_of[column] == group)
-        elif vertex < self.first_column:
-            for column in self.lists[vertex]:
-                if self.row_group(vertex, column) not in self.taken:
-                    yield self.first_column + column
-        else:
-            column = vertex - self.first_column
-            yield from (self.row_group(row, column) for row in self.of_columns[column])
-
-    def lacks(self) -> List[Lack]:
-        rows = sorted(vertex for vertex in self.reached if not isinstance(vertex, tuple) and vertex < self.first_column)
-        once = {row: [row_group for row_group in (self.row_group(row, column) for column in sorted(self.of_rows[row]))
-                      if self.first_column + self.taken[row_group] not in self.reached] for row in rows}
-        links = {row: [self.first_column + column for column in self.lists[row]
-                       if self.row_group(row, column) not in once[row]] for row in rows}
-        return [self._lack(part, once) for part in _parts(rows, links)]
-
-    def _lack(self, part: Set[Any], once: Dict[int, List[RowGroup]]) -> Lack:
-        rows = sorted(vertex for vertex in part if vertex < self.first_column)
-        columns = sorted(vertex - self.first_column for vertex in part if vertex >= self.first_column)
-        row_groups = [row_group for row in rows for row_group in once[row]]
-        wanted = sum(self.counted.row_bounds[row].least for row in rows)
-        had = sum(self.counted.column_bounds[column].most for column in columns) + len(row_groups)
-        return Lack(False, rows, columns, row_groups, wanted, had)
-
-
-class _OfColumns(_Search):
-    """Columns need rows: a column takes a row that has none of its group, or whose column of the group takes another
-    row instead. Where a row is full, any column that has it may take another."""
-
-    def __init__(self, counted: Counted, chosen: Sequence[Pair]):
-        super().__init__(counted, chosen)
-        self.listed: List[List[int]] = [[] for _ in counted.column_bounds]
-        for row, column in zip(counted.rows, counted.columns):
-            self.listed[column].append(row)
-
-    def starts(self) -> List[int]:
-        return [self.first_column + column for column, bound in enumerate(self.counted.column_bounds)
-                if len(self.of_columns[column]) < bound.least]
-
-    def near(self, vertex: Any) -> Iterator[Any]:
-        if vertex < self.first_column:
-            yield from (self.first_column + column for column in self.of_rows[vertex])
-            return
-        column = vertex - self.first_column
-        for row in self.listed[column]:
-            held = self.taken.get(self.row_group(row, column))
-            if held is None:
-                yield row
-            elif held != column:
-                yield self.first_column + held
-
-    def lacks(self) -> List[Lack]:
-        columns = sorted(vertex for vertex in self.reached if vertex >= self.first_column)
-        links: Dict[Any, List[Any]] = {}
-        for vertex in columns:
-            column = vertex - self.first_column
-            links[vertex] = [row if row in self.reached else self.row_group(row, column) for row in self.listed[column]]
-        return [self._lack(part) for part in _parts(columns, links)]
-
-    def _lack(self, part: Set[Any]) -> Lack:
-        row_groups = sorted((vertex[0], vertex[1]) for vertex in part if isinstance(vertex, tuple))
-        plain = sorted(vertex for vertex in part if not isinstance(vertex, tuple))
-        rows = [vertex for vertex in plain if vertex < self.first_column]
-        columns = [vertex - self.first_column for vertex in plain if vertex >= self.first_column]
-        wanted = sum(self.counted.column_bounds[column].least for column in columns)
-        had = sum(self.counted.row_bounds[row].most for row in rows) + len(row_groups)
-        return Lack(True, rows, columns, row_groups, wanted, had)
-
-
-def _parts(starts: List[Any], links: Dict[Any, List[Any]]) -> List[Set[Any]]:
-    """The connected parts of some vertices with those that they are linked to, in the order of the first ones."""
-    back: Dict[Any, List[Any]] = {}
-    for start in starts:
-        for end in links[start]:
-            back.setdefault(end, []).append(start)
-    seen: Set[Any] = set()
-    return [_part(start, seen, links, back) for start in starts if start not in seen]
-
-
-def _part(start: Any, seen: Set[Any], links: Dict[Any, List[Any]], back: Dict[Any, List[Any]]) -> Set[Any]:
-    part, waiting = {start}, [start]
-    while waiting:
-        vertex = waiting.pop()
-        fresh = [end for end in links.get(vertex, back.get(vertex, [])) if end not in part]
-        part.update(fresh)
-        waiting += fresh
-    seen |= part
-    return part
-
-
 def lacks_of(counted: Counted) -> List[Lack]:
-    """What is short; nothing where there is a plan."""
-    of_rows = _most(counted, [Bounds(0, bound.least) for bound in counted.row_bounds],
-                    [Bounds(0, bound.most) for bound in counted.column_bounds])
-    of_columns = _most(counted, [Bounds(0, bound.most) for bound in counted.row_bounds],
-                       [Bounds(0, bound.least) for bound in counted.column_bounds])
-    return _OfRows(counted, of_rows).found() + _OfColumns(counted, of_columns).found()
+    """What is short, in the order of the first rows, and then of the first columns; nothing where there is a plan."""
+    return [lack for of_columns in (False, True) for lack in _of_side(counted, of_columns)]
 
 
-def _most(counted: Counted, row_bounds: List[Bounds], column_bounds: List[Bounds]) -> List[Pair]:
-    """As many pairs as can be within bounds."""
-    counted = counted._replace(row_bounds=row_bounds, column_bounds=column_bounds, costs=[-1] * len(counted.rows))
-    found = solved(counted, True)
-    return counted.pairs_of(found.plan) if isinstance(found, Best) else []
+def _of_side(counted: Counted, of_columns: bool) -> List[Lack]:
+    """What is short of the least counts of one side."""
+    needs = [Bounds(0, bound.least) for bound in (counted.column_bounds if of_columns else counted.row_bounds)]
+    if not any(bound.most for bound in needs):
+        return []
+    sides = [[Bounds(0, bound.most) for bound in bounds] for bounds in (counted.row_bounds, counted.column_bounds)]
+    sides[of_columns] = needs
+    own = counted._replace(row_bounds=sides[0], column_bounds=sides[1], costs=[-1] * len(counted.rows))
+    found = solved(own, True)
+    if isinstance(found, Marked):
+        raise RuntimeError("no pairs were found to be possible: please report this problem")
+    chosen = own.pairs_of(found.plan)
+    arrows: Sequence[Collection[int]] = exchanges_of(own, chosen, found.row_numbers, found.column_numbers).arrows
+    had, n_rows, n_columns = Counter(pair[of_columns] for pair in chosen), len(sides[0]), len(sides[1])
+    starts = [number + n_rows * of_columns for number, bound in enumerate(needs) if had[number] < bound.most]
+    reached = _reached(_turned(arrows) if of_columns else arrows, starts, n_rows + n_columns)
+    return _parted(counted, of_columns, {vertex for vertex in reached if vertex < n_rows},
+                   {vertex - n_rows for vertex in reached if n_rows <= vertex < n_rows + n_columns})
+
+
+def _turned(arrows: Sequence[Collection[int]]) -> List[List[int]]:
+    """The arrows the other way round."""
+    turned: List[List[int]] = [[] for _ in arrows]
+    for begin, ends in enumerate(arrows):
+        for end in ends:
+            turned[end].append(begin)
+    return turned
+
+
+def _reached(arrows: Sequence[Collection[int]], starts: List[int], barred: int) -> Set[int]:
+    """The vertices to which arrows lead from some, but not through one."""
+    reached, waiting = {barred, *starts}, list(starts)
+    while waiting:
+        fresh = set(arrows[waiting.pop()]) - reached
+        reached |= fresh
+        waiting += fresh
+    return reached
+
+
+def _parted(counted: Counted, of_columns: bool, rows: Set[int], columns: Set[int]) -> List[Lack]:
+    """The shortages of rows and columns that were reached, in connected parts: each name with what limits it, which is
+    names of the other side and row groups."""
+    outside = {row_group for row_group, column in zip(counted.row_groups(), counted.columns)
+               if row_group[0] in rows and column not in columns}
+    limits: Dict[int, Set[Any]] = {name: set() for name in sorted(columns if of_columns else rows)}
+    for row_group, row, column in zip(counted.row_groups(), counted.rows, counted.columns):
+        if of_columns and column in columns:
+            limits[column].add(row if row in rows else row_group)
+        elif not of_columns and row in rows:
+            limits[row].add(row_group if row_group in outside else column)
+    return [_lack(counted, of_columns, sorted(names), set().union(*map(limits.__getitem__, names)))
+            for names in _parts(limits)]
+
+
+def _lack(counted: Counted, of_columns: bool, names: List[int], limits: Set[Any]) -> Lack:
+    once: List[RowGroup] = sorted((limit[0], limit[1]) for limit in limits if isinstance(limit, tuple))
+    others = sorted(limit for limit in limits if not isinstance(limit, tuple))
+    needs, most = counted.row_bounds, counted.column_bounds
+    if of_columns:
+        needs, most = most, needs
+    wanted, had = sum(needs[name].least for name in names), sum(most[other].most for other in others) + len(once)
+    return Lack(of_columns, *((others, names) if of_columns else (names, others)), once, wanted, had)
+
+
+def _parts(links: Dict[int, Set[Any]]) -> List[Set[int]]:
+    """The connected parts of names, by what they are linked to, in the order of the first ones."""
+    back: Dict[Any, List[int]] = {}
+    for name, ends in links.items():
+        for end in ends:
+            back.setdefault(end, []).append(name)
+    parts: List[Set[int]] = []
+    seen: Set[int] = set()
+    for first in links:
+        part, waiting = {first}, [] if first in seen else [first]
+        while waiting:
+            fresh = {name for end in links[waiting.pop()] for name in back.pop(end, ())} - part
+            part |= fresh
+            waiting += fresh
+        parts += [] if first in seen else [part]
+        seen |= part
+    return parts
 
 
 class Cut(NamedTuple):

@@ -61,7 +61,7 @@ KINDS = ("great", "two sums", "far apart", "fractions")
 
 class Numbers(unittest.TestCase):
     def test_whole_costs(self):
-        """Beside all plans: the cost is the least, the numbers prove it, and where none is found there is none."""
+        """Among all plans: the cost is the least, the numbers prove it, and where none is found there is none."""
         feasible = 0
         for case, (roster, maximize) in enumerate(rosters(81, TINY)):
             least = min(((cost, pairs) for missed, cost, pairs in roster.plans(maximize) if not missed), default=None)
