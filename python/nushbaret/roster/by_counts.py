@@ -63,17 +63,18 @@ def bounds_around(roster: Roster, fixed: Sequence[PlanLine]) -> Tuple[List[Bound
     """How many each person and each object takes in addition to fixed pairs, in the past none. With single numbers the
     smaller side takes all."""
     had, used = Counter(pair.person for pair in fixed), Counter(pair.object for pair in fixed)
-    tasks = [roster.tasks_of(person) - had[person] for person in range(len(roster.persons))]
-    capacities = [0 if object_ in roster.past else roster.capacity_of(object_) - used[object_]
-              for object_ in range(len(roster.objects))]
-    if roster.least is None:
-        all_served = sum(tasks) <= sum(capacities)
-        return ([Bounds(most if all_served else 0, most) for most in tasks],
-                [Bounds(0 if all_served else most, most) for most in capacities])
-    of_persons, of_objects = roster.least
-    return ([Bounds(max(0, of_persons.get(person, 0) - had[person]), most) for person, most in enumerate(tasks)],
-            [Bounds(max(0, of_objects.get(object_, 0) - used[object_]), most)
-             for object_, most in enumerate(capacities)])
+    persons = [_less(roster.of_person(person), had[person]) for person in range(len(roster.persons))]
+    objects = [Bounds(0, 0) if object_ in roster.past else _less(roster.of_object(object_), used[object_])
+               for object_ in range(len(roster.objects))]
+    if roster.has_bounds:
+        return persons, objects
+    served = persons if sum(own.most for own in persons) <= sum(own.most for own in objects) else objects
+    served[:] = [Bounds(own.most, own.most) for own in served]
+    return persons, objects
+
+
+def _less(bounds: Bounds, count: int) -> Bounds:
+    return Bounds(max(0, bounds.least - count), bounds.most - count)
 
 
 def _around(roster: Roster, fixed: Sequence[PlanLine]) -> str:
