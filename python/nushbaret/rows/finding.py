@@ -147,10 +147,11 @@ def _deeper(tree: Sequence[int], first: int) -> List[int]:
 
 
 def find(model: Model, seconds: float, progress: Optional[Progress] = None, start: Optional[Sequence[int]] = None,
-         without: Optional[float] = None, sums: Sequence[Sequence[int]] = ()) -> Finding:
+         without: Optional[float] = None, sums: Sequence[Sequence[int]] = (), first: Sequence[int] = ()) -> Finding:
     """Looks for the cheapest plan of a model and for a proof, for so many seconds by the clock.
 
-    `progress` is called with the stage, the cost of the best plan so far and its bound. `start` is a plan known before.
+    `progress` is called with the stage, the cost of the best plan so far and its bound. `start` is a plan known before,
+    and `first` are values of the first variables, as of a plan that may break rows: it is looked for plans near them.
     While no plan is known, it looks for `without` seconds instead. `sums` are numbers of rows whose least counts are
     summed up, to say which are short where there is no plan. What is returned has been shown by its certificate.
     Raises ImportError where SciPy isn't there, and RuntimeError where a process fails.
@@ -166,19 +167,23 @@ def find(model: Model, seconds: float, progress: Optional[Progress] = None, star
         search.take_plan(start)
     told: "queue.Queue[Dict[str, Any]]" = queue.Queue()
     times = Times(begin, seconds, seconds if without is None else without)
-    first = {"model": search.scaled._asdict(), "seconds": seconds, "without": times.without, "sums": sums}
+    work = {"model": search.scaled._asdict(), "seconds": seconds, "without": times.without, "sums": sums,
+            "first": first, "known": search.plan, "cost": search.cost}
     workers: List[Worker] = []
     try:
         for role in ("plans", "bounds"):
             workers.append(Worker(told))
-            workers[-1].start({**first, "role": role})
-        if search.plan is not None:
-            _tell(workers, {"plan": search.plan, "cost": search.cost})
+            workers[-1].start({**work, "role": role, "is_alone": _processors() > 1})
         _follow(search, workers, told, times, progress)
     finally:
         for worker in workers:
             worker.end()
     return search.finding()
+
+
+def _processors() -> int:
+    """On how many processors this process may run."""
+    return len(os.sched_getaffinity(0)) if hasattr(os, "sched_getaffinity") else os.cpu_count() or 1
 
 
 def _without_variables(search: _PlanSearch) -> None:

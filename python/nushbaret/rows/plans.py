@@ -1,20 +1,25 @@
 """Plans by HiGHS, as SciPy has it: a mixed-integer program of the rows. Needs NumPy and SciPy."""
 import importlib
+import time
 from typing import Any, List, NamedTuple, Optional, Sequence
 
-from .blocks import cost_row, limits_of, matrix_of, side_of
+from .blocks import cost_of, cost_row, limits_of, matrix_of, side_of
 from .channel import Channel
 from .check import meets
 from .model import Limits, Model
+from .neighbourhoods import Neighbourhoods, whole_plan
 from .times import Times
 
 np: Any = importlib.import_module("numpy")
 optimize: Any = importlib.import_module("scipy.optimize")
 
-# What HiGHS is given first, as a part of the time; with the rest it looks below what is known then. Where nothing is
-# known it gets so many times as much.
-_FIRST_PART = 0.4
+# What HiGHS is given first over the whole model, as a part of the time, and how much more each time.
+_FIRST_PART = 0.5
 _MORE = 2.5
+# Seconds in which a plan known before gets the values that it doesn't have.
+_COMPLETING = 5.0
+# After so many searches in vain HiGHS looks over the whole model again.
+_VAIN = 10
 
 
 class Tried(NamedTuple):
@@ -43,20 +48,77 @@ def tried(costs: Sequence[int], rows: Sequence[Limits], seconds: float, least: A
     return Tried(None, False)
 
 
-def look_for_plans(model: Model, channel: Channel, times: Times) -> None:
-    """Reports each better plan that HiGHS returns. While it returns none it gets more and more of the time."""
-    rows = [limits_of(row) for row in model.rows]
-    part = _FIRST_PART * min(times.known, times.without)
-    while True:
-        left = times.left(channel.cost is not None)
+class Finder:
+    """Looks for plans: HiGHS over the whole model, searches around what is known, and HiGHS again below that."""
+
+    def __init__(self, model: Model, channel: Channel, times: Times):
+        self.model, self.channel, self.times = model, channel, times
+        self.rows = [limits_of(row) for row in model.rows]
+        self.part = _FIRST_PART * min(times.known, times.without)
+        self.is_over = False
+        self.around: Optional[Neighbourhoods] = None
+
+    def left(self) -> float:
+        return self.times.left(self.channel.cost is not None)
+
+    def run(self, first: Sequence[int]) -> None:
+        """Looks until no plan can be better, or the time is over. `first` are values of the first variables that a plan
+        known before has, which may break rows."""
+        self.first = first
+        if first and self.channel.cost is None:
+            self.complete()
+        self.whole()
+        while not self.is_over and self.left() > 0:
+            self.search()
+            self.whole()
+
+    def say(self, plan: Optional[Sequence[int]]) -> None:
+        """Reports a plan that meets the rows, where none as good is known."""
+        cost = cost_of(self.model, plan)
+        if plan is not None and cost is not None and meets(plan, self.rows):
+            self.channel.say_plan(plan, cost)
+
+    def complete(self) -> None:
+        """The values of the other variables, where the first plan keeps the rows with any."""
+        count = len(self.first)
+        rest = self.model.variables - count
+        least, most = np.array([*self.first, *[0] * rest], float), np.array([*self.first, *[1] * rest], float)
+        found = tried(self.model.costs, self.rows, min(_COMPLETING, self.left()), least, most)
+        self.say(found.plan)
+
+    def whole(self) -> None:
+        """HiGHS over all variables, below what is known. While no plan is known it gets more each time."""
+        left, is_known = self.left(), self.channel.cost is not None
         if left <= 0:
             return
-        below = [] if channel.cost is None else [cost_row(model, channel.cost - 1)]
-        found = tried(model.costs, rows + below, min(part, left))
-        if found.plan is not None:
-            channel.say_plan(found.plan, sum(cost for cost, taken in zip(model.costs, found.plan) if taken))
-        elif found.is_over and channel.cost is None:
-            channel.say(hopeless=True)
-        if found.is_over or part >= left:
-            return
-        part = _MORE * part if channel.cost is None else left
+        below = [] if self.channel.cost is None else [cost_row(self.model, self.channel.cost - 1)]
+        found = tried(self.model.costs, self.rows + below, min(self.part, left))
+        self.say(found.plan)
+        self.is_over = found.is_over
+        if found.is_over and found.plan is None and not is_known:
+            self.channel.say(hopeless=True)
+        self.part *= _MORE
+
+    def search(self) -> None:
+        """Searches around the best plan, or around months that keep their own rows, until nothing better comes any
+        more."""
+        self.around = self.around or Neighbourhoods(self.model)
+        until = time.monotonic() + self.left()
+        point = self.around.near(self.first, until) if self.channel.plan is None else None
+        vain = 0
+        while vain < _VAIN and self.left() > 0:
+            cost = self.channel.cost
+            if cost is not None and (point is None or point.missed > 0 or cost < point.cost):
+                point = self.around.point(self.channel.plan)
+            if point is None:
+                return
+            better = self.around.step(point, self.left())
+            vain = 0 if better is not None else vain + 1
+            point = better or point
+            if better is not None and not better.missed:
+                self.say(whole_plan(better))
+
+
+def look_for_plans(model: Model, channel: Channel, times: Times, first: Sequence[int] = ()) -> None:
+    """Reports each better plan that is found. `first` are values of the first variables of a plan known before."""
+    Finder(model, channel, times).run(first)

@@ -6,18 +6,25 @@ import time
 from .channel import Channel, unpacked
 from .times import Times
 
+# On one processor the search for bounds waits so long for a first plan.
+_FINDERS_PART = 0.4
+
 
 def main() -> None:
     """Does the work that the first line names, with the model that it has, for so many seconds."""
     channel = Channel(sys.stdin, sys.stdout)
     channel.say(started=True)
     told = json.loads(channel.lines.readline())
+    channel.plan, channel.cost = told["known"], told["cost"]
     channel.listen()
     model = unpacked(told["model"])
     if told["role"] == "plans":
         from .plans import look_for_plans
-        look_for_plans(model, channel, Times(time.monotonic(), told["seconds"], told["without"]))
+        look_for_plans(model, channel, Times(time.monotonic(), told["seconds"], told["without"]),
+                       told["first"])
     else:
+        if not told["is_alone"]:
+            channel.wait_for_plan(_FINDERS_PART * told["seconds"])
         from .bounds import look_for_bounds
         look_for_bounds(model, channel, told["seconds"], told["sums"])
     channel.say(done=told["role"])
