@@ -231,7 +231,8 @@ def sick(seed, number):
     ward = sick_ward(seed, number)
     told, line, own = command(ward, 30, "--as-many-as-can")
     found, took = alone(seed, number, own, "sick")
-    missing = told.get("rules", {}).get("missing")
+    rules = told.get("rules", {})
+    missing = rules.get("missing", 0) if told.get("cost") is not None else None
     theirs = None if found["cost"] is None else found["cost"] // 1000
     is_met = missing is not None and (theirs is None or missing <= theirs + 3)
     print(f"sick {number} ({ward.letters or 'easy'}): HiGHS misses {theirs} ({took:.1f} s), the command {missing} ({own:.1f} s) "
@@ -244,7 +245,7 @@ def sick_ward(seed, number):
     ward = Ward(seed, number, 28, 4, ("", "F", "FS", "FN")[number % 4])
     gone = set(ward.names[5:7])
     ward.wishes = {key: wish for key, wish in ward.wishes.items() if key[0] not in gone or key[1] < 11}
-    ward.places = {key: least + (key[1] == "Early") for key, least in ward.places.items()}
+    ward.places = {key: least + (key[1] != "Night") for key, least in ward.places.items()}
     ward.room = {key: max(room, ward.places[key]) for key, room in ward.room.items()}
     return ward
 

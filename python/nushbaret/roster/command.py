@@ -151,7 +151,7 @@ def _report(options: Options, roster: Roster) -> Report:
     try:
         if ruling is not None:
             from .ruling import answered_by
-            answer, proved = answered_by(ruling, roster, request, options)
+            answer, proved = answered_by(ruling, roster, request, options, hand.plan if hand else None)
         else:
             answer, fair = _answered(roster, request, options.fair)
     except TooLarge as fault:

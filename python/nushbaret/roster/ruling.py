@@ -8,7 +8,7 @@ from .by_rules import COSTS, Progress, Proved, Task, answer_by_rules
 from .groups import Broken, Paired
 from .interrupts import interrupts_raise
 from .month import Before, Month, month_of
-from .roster import Roster, named_pairs
+from .roster import OldPlan, Roster, named_pairs
 from .rule_file import Rules, read_rules
 from .rules_kept import broken_by, missed_by, plan_of
 from .unruled import days_in_order, kinds_alike, left_out, other_holidays, without_day, without_kind
@@ -54,15 +54,17 @@ def missed_cost_of(ruling: Ruling, roster: Roster, pairs: Sequence[Paired]) -> i
     return sum(one.cost for one in missed_by(plan_of(roster, ruling.rules, ruling.month, pairs)))
 
 
-def answered_by(ruling: Ruling, roster: Roster, request: Request, options: Options) -> Tuple[Answer, Proved]:
-    """The answer, with progress on a terminal.
+def answered_by(ruling: Ruling, roster: Roster, request: Request, options: Options,
+                compared: Optional[OldPlan]) -> Tuple[Answer, Proved]:
+    """The answer, with progress on a terminal. A compared plan is one that is known before.
 
     Raises `WordsFault` where SciPy isn't installed.
     """
     seconds = DEFAULT_SECONDS if options.time is None else options.time
     with interrupts_raise(), _shown(roster, options) as progress:
         try:
-            return answer_by_rules(Task(roster, ruling.month, ruling.rules, request, seconds, (), progress))
+            known = [] if compared is None else [{(pair.person, pair.object) for pair in compared.known}]
+            return answer_by_rules(Task(roster, ruling.month, ruling.rules, request, seconds, (), progress, known))
         except ImportError as fault:
             raise WordsFault(str(fault)) from fault
 

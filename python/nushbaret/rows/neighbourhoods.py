@@ -14,11 +14,13 @@ optimize: Any = importlib.import_module("scipy.optimize")
 
 # Seconds for one neighbourhood at most; one that takes less than a fraction of it is too small, and one that takes all
 # too large.
-LONGEST = 4.0
+LONGEST = 2.0
 _SHORT = 0.15
-# So many variables are free at first, and how that grows and shrinks.
-_FREE = 250
-_LEAST_FREE, _GROWTH = 40, 1.3
+# HiGHS looks at so many nodes at most.
+_NODES = 100
+# So many variables are free at first, at least and at most, and how that grows and shrinks.
+_FREE = 200
+_LEAST_FREE, _MOST_FREE, _GROWTH = 40, 600, 1.25
 # What a unit costs by which a shared row is missed, in greatest costs.
 _MISSED = 4
 
@@ -103,9 +105,9 @@ class Neighbourhoods:
         taken = self.around(point, free, allowed)
         took = time.monotonic() - begin
         if taken is not None and taken.is_least and took < _SHORT * allowed:
-            self.size = min(self.size * _GROWTH, float(self.model.variables))
-        elif taken is None or not taken.is_least:
-            self.size = max(self.size / _GROWTH, float(_LEAST_FREE))
+            self.size = min(self.size * _GROWTH, _MOST_FREE)
+        elif taken is None or not taken.is_least or took > allowed / 2:
+            self.size = max(self.size / _GROWTH, _LEAST_FREE)
         if taken is None:
             return None
         values = point.plan.copy()
@@ -150,7 +152,7 @@ def _least(matrix: Any, low: Any, high: Any, costs: Any, whole: Any, seconds: fl
     constraints = optimize.LinearConstraint(matrix, low, high) if matrix.shape[0] else ()
     found = optimize.milp(costs, constraints=constraints, integrality=whole,
                           bounds=optimize.Bounds(0, np.where(whole > 0, 1, np.inf)),
-                          options={"time_limit": max(0.05, seconds), "mip_rel_gap": 0})
+                          options={"time_limit": max(0.05, seconds), "mip_rel_gap": 0, "node_limit": _NODES})
     return None if found.x is None else _Taken(found.x, found.status == 0)
 
 

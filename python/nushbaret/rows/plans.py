@@ -8,14 +8,13 @@ from .channel import Channel
 from .check import meets
 from .model import Limits, Model
 from .neighbourhoods import Neighbourhoods, whole_plan
-from .times import Times
 
 np: Any = importlib.import_module("numpy")
 optimize: Any = importlib.import_module("scipy.optimize")
 
-# What HiGHS is given first over the whole model, as a part of the time, and how much more each time.
-_FIRST_PART = 0.5
-_MORE = 2.5
+# What HiGHS is given first over the whole model, as a part of the time; for how long searches around plans go on after
+# it that find nothing better, and what HiGHS gets then.
+_FIRST_PART, _AROUND_PART, _NEXT_PART = 0.15, 0.15, 0.45
 # Seconds in which a plan known before gets the values that it doesn't have.
 _COMPLETING = 5.0
 # After so many searches in vain HiGHS looks over the whole model again.
@@ -51,26 +50,27 @@ def tried(costs: Sequence[int], rows: Sequence[Limits], seconds: float, least: A
 class Finder:
     """Looks for plans: HiGHS over the whole model, searches around what is known, and HiGHS again below that."""
 
-    def __init__(self, model: Model, channel: Channel, times: Times):
-        self.model, self.channel, self.times = model, channel, times
+    def __init__(self, model: Model, channel: Channel, deadline: float):
+        self.model, self.channel, self.deadline = model, channel, deadline
         self.rows = [limits_of(row) for row in model.rows]
-        self.part = _FIRST_PART * min(times.known, times.without)
+        self.seconds = self.left()
         self.is_over = False
         self.around: Optional[Neighbourhoods] = None
+        self.first: Sequence[int] = ()
 
     def left(self) -> float:
-        return self.times.left(self.channel.cost is not None)
+        return self.deadline - time.monotonic()
 
-    def run(self, first: Sequence[int]) -> None:
-        """Looks until no plan can be better, or the time is over. `first` are values of the first variables that a plan
-        known before has, which may break rows."""
-        self.first = first
-        if first and self.channel.cost is None:
-            self.complete()
-        self.whole()
+    def run(self, known: Sequence[Sequence[int]]) -> None:
+        """Looks until no plan can be better, or the time is over. `known` are values of the first variables in plans
+        known before, which may break rows."""
+        self.first = known[0] if known else ()
+        for first in known:
+            self.complete(first)
+        self.whole(_FIRST_PART)
         while not self.is_over and self.left() > 0:
             self.search()
-            self.whole()
+            self.whole(_NEXT_PART)
 
     def say(self, plan: Optional[Sequence[int]]) -> None:
         """Reports a plan that meets the rows, where none as good is known."""
@@ -78,47 +78,47 @@ class Finder:
         if plan is not None and cost is not None and meets(plan, self.rows):
             self.channel.say_plan(plan, cost)
 
-    def complete(self) -> None:
-        """The values of the other variables, where the first plan keeps the rows with any."""
-        count = len(self.first)
-        rest = self.model.variables - count
-        least, most = np.array([*self.first, *[0] * rest], float), np.array([*self.first, *[1] * rest], float)
+    def complete(self, first: Sequence[int]) -> None:
+        """The values of the other variables, where those of the first keep the rows with any."""
+        rest = self.model.variables - len(first)
+        least, most = np.array([*first, *[0] * rest], float), np.array([*first, *[1] * rest], float)
         found = tried(self.model.costs, self.rows, min(_COMPLETING, self.left()), least, most)
         self.say(found.plan)
 
-    def whole(self) -> None:
-        """HiGHS over all variables, below what is known. While no plan is known it gets more each time."""
+    def whole(self, part: float) -> None:
+        """HiGHS over all variables, below what is known, for a part of the time."""
         left, is_known = self.left(), self.channel.cost is not None
         if left <= 0:
             return
         below = [] if self.channel.cost is None else [cost_row(self.model, self.channel.cost - 1)]
-        found = tried(self.model.costs, self.rows + below, min(self.part, left))
+        found = tried(self.model.costs, self.rows + below, min(part * self.seconds, left))
         self.say(found.plan)
         self.is_over = found.is_over
         if found.is_over and found.plan is None and not is_known:
             self.channel.say(hopeless=True)
-        self.part *= _MORE
 
     def search(self) -> None:
-        """Searches around the best plan, or around months that keep their own rows, until nothing better comes any
-        more."""
+        """Searches around the best plan, or around months that keep their own rows, until nothing better comes
+        any more."""
         self.around = self.around or Neighbourhoods(self.model)
-        until = time.monotonic() + self.left()
+        until = min(self.deadline, time.monotonic() + _AROUND_PART * self.seconds)
         point = self.around.near(self.first, until) if self.channel.plan is None else None
         vain = 0
-        while vain < _VAIN and self.left() > 0:
+        while vain < _VAIN and time.monotonic() < until:
             cost = self.channel.cost
             if cost is not None and (point is None or point.missed > 0 or cost < point.cost):
                 point = self.around.point(self.channel.plan)
             if point is None:
                 return
-            better = self.around.step(point, self.left())
+            better = self.around.step(point, until - time.monotonic())
             vain = 0 if better is not None else vain + 1
+            until = until if better is None else min(self.deadline, time.monotonic() + _AROUND_PART * self.seconds)
             point = better or point
             if better is not None and not better.missed:
                 self.say(whole_plan(better))
 
 
-def look_for_plans(model: Model, channel: Channel, times: Times, first: Sequence[int] = ()) -> None:
-    """Reports each better plan that is found. `first` are values of the first variables of a plan known before."""
-    Finder(model, channel, times).run(first)
+def look_for_plans(model: Model, channel: Channel, deadline: float,
+                   known: Sequence[Sequence[int]] = ()) -> None:
+    """Reports each better plan that is found. `known` are values of the first variables of plans known before."""
+    Finder(model, channel, deadline).run(known)

@@ -4,7 +4,6 @@ import sys
 import time
 
 from .channel import Channel, unpacked
-from .times import Times
 
 # On one processor the search for bounds waits so long for a first plan.
 _FINDERS_PART = 0.4
@@ -15,13 +14,12 @@ def main() -> None:
     channel = Channel(sys.stdin, sys.stdout)
     channel.say(started=True)
     told = json.loads(channel.lines.readline())
-    channel.plan, channel.cost = told["known"], told["cost"]
+    channel.plan, channel.cost = told["plan"], told["cost"]
     channel.listen()
     model = unpacked(told["model"])
     if told["role"] == "plans":
         from .plans import look_for_plans
-        look_for_plans(model, channel, Times(time.monotonic(), told["seconds"], told["without"]),
-                       told["first"])
+        look_for_plans(model, channel, time.monotonic() + told["seconds"], told["known"])
     else:
         if not told["is_alone"]:
             channel.wait_for_plan(_FINDERS_PART * told["seconds"])
