@@ -5,8 +5,8 @@ import random
 import time
 from typing import Any, Iterator, List, NamedTuple, Optional, Sequence
 
-from .blocks import blocks_of, limits_of, matrix_of, side_of
 from .model import Model
+from .persons import blocks_of, limits_of, matrix_of, side_of
 
 np: Any = importlib.import_module("numpy")
 sparse: Any = importlib.import_module("scipy.sparse")

@@ -3,11 +3,11 @@ import importlib
 import time
 from typing import Any, List, NamedTuple, Optional, Sequence
 
-from .blocks import cost_of, cost_row, limits_of, matrix_of, side_of
+from .certificate_check import meets
 from .channel import Channel
-from .check import meets
 from .model import Limits, Model
 from .neighbourhoods import Neighbourhoods, whole_plan
+from .persons import cost_of, cost_row, limits_of, matrix_of, side_of
 
 np: Any = importlib.import_module("numpy")
 optimize: Any = importlib.import_module("scipy.optimize")
