@@ -14,7 +14,9 @@ optimize: Any = importlib.import_module("scipy.optimize")
 
 # What HiGHS is given first over the whole model, as a part of the time; for how long searches around plans go on after
 # it that find nothing better, and what HiGHS gets then.
-_FIRST_PART, _AROUND_PART, _NEXT_PART = 0.15, 0.15, 0.45
+_FIRST_PART, _AROUND_PART, _NEXT_PART = 0.4, 0.15, 0.3
+# Seconds that HiGHS gets first at least, if there are so many.
+_FIRST_LEAST = 5.0
 # Seconds in which a plan known before gets the values that it doesn't have.
 _COMPLETING = 5.0
 # After so many searches in vain HiGHS looks over the whole model again.
@@ -67,7 +69,7 @@ class Finder:
         self.first = known[0] if known else ()
         for first in known:
             self.complete(first)
-        self.whole(_FIRST_PART)
+        self.whole(max(_FIRST_PART, _FIRST_LEAST / self.seconds))
         while not self.is_over and self.left() > 0:
             self.search()
             self.whole(_NEXT_PART)

@@ -3,7 +3,7 @@ and SciPy."""
 import importlib
 import random
 import time
-from typing import Any, Iterator, List, NamedTuple, Optional, Sequence
+from typing import Any, List, NamedTuple, Optional, Sequence
 
 from .model import Model
 from .persons import blocks_of, limits_of, matrix_of, side_of
@@ -19,7 +19,7 @@ _SHORT = 0.15
 # HiGHS looks at so many nodes at most.
 _NODES = 100
 # So many variables are free at first, at least and at most, and how that grows and shrinks.
-_FREE = 200
+_FREE = 250
 _LEAST_FREE, _MOST_FREE, _GROWTH = 40, 600, 1.25
 # What a unit costs by which a shared row is missed, in greatest costs.
 _MISSED = 4
@@ -100,14 +100,15 @@ class Neighbourhoods:
     def step(self, point: Point, seconds: float) -> Optional[Point]:
         """A better point in a drawn neighbourhood, or None. The next ones are larger where this was soon searched, and
         smaller where it wasn't searched in time."""
-        free = self._drawn(point)
+        free = self._drawn()
         begin, allowed = time.monotonic(), min(LONGEST, seconds)
         taken = self.around(point, free, allowed)
         took = time.monotonic() - begin
         if taken is not None and taken.is_least and took < _SHORT * allowed:
             self.size = min(self.size * _GROWTH, _MOST_FREE)
         elif taken is None or not taken.is_least or took > allowed / 2:
-            self.size = max(self.size / _GROWTH, _LEAST_FREE)
+            # HiGHS heeds its limit late.
+            self.size = max(self.size / _GROWTH ** max(1.0, took / allowed), _LEAST_FREE)
         if taken is None:
             return None
         values = point.plan.copy()
@@ -115,29 +116,23 @@ class Neighbourhoods:
         found = self.point(values)
         return found if found.is_better(point) else None
 
-    def _drawn(self, point: Point) -> Any:
-        """The variables of some persons, or of some days side by side; where shared rows are missed mostly of persons
-        or days that have a part in one."""
+    def _drawn(self) -> Any:
+        """The variables of some persons, or of some days side by side."""
         free = self.always.copy()
+        size = free.sum() + self.size
         if self.draw.random() < 0.5 or not self.model.days:
-            for block in self._persons(point):
+            for block in self.draw.sample(self.owners, len(self.owners)):
                 free[block.variables] = True
-                if free.sum() >= self.size:
+                if free.sum() >= size:
                     break
             return free
         free |= self.days < 0
         least, most = int(self.days[self.days >= 0].min(initial=0)), int(self.days.max())
         first = last = self.draw.randint(least, most)
-        while free.sum() < self.size and (first > least or last < most):
+        while free.sum() < size and (first > least or last < most):
             free |= (self.days >= first) & (self.days <= last)
             first, last = max(least, first - self.draw.randint(0, 1)), min(most, last + 1)
         return free
-
-    def _persons(self, point: Point) -> Iterator[Any]:
-        """The persons in a drawn order, those who have a variable in a missed shared row more likely first."""
-        order = list(self.owners)
-        self.draw.shuffle(order)
-        yield from order
 
 
 class _Taken(NamedTuple):
