@@ -109,7 +109,7 @@ class Finder:
         while vain < _VAIN and time.monotonic() < until:
             cost = self.channel.cost
             if cost is not None and (point is None or point.missed > 0 or cost < point.cost):
-                point = self.around.point(self.channel.plan)
+                point = self.around.point(self.channel.plan or ())
             if point is None:
                 return
             better = self.around.step(point, until - time.monotonic())

@@ -26,20 +26,21 @@ class Ruling(NamedTuple):
 
 def read_ruling(options: Options, roster: Roster, say: Callable[[str], object]) -> Optional[Ruling]:
     """The rules that are asked for, if any are."""
-    if options.rules is None or roster.groups is None or options.groups is None:
+    if options.rules is None or roster.groups is None:
         return None
+    path = options.groups or options.roster
     before = None
     if options.before is not None:
         before = Before(options.before, [(pair.person, pair.object, pair.line)
                                          for pair in named_pairs(options.before, roster)])
-    for line in (*without_day(roster, f"{options.groups}: no line for"),
-                 *without_kind(roster, f"{options.groups}: no kind of"), *left_out(roster, before)):
+    for line in (*without_day(roster, f"{path}: no line for"),
+                 *without_kind(roster, f"{path}: no kind of"), *left_out(roster, before)):
         say(line)
-    month = month_of(roster, roster.groups, options.groups, before)
-    for line in kinds_alike(options.groups, month):
+    month = month_of(roster, roster.groups, path, before)
+    for line in kinds_alike(path, month):
         say(line)
     rules = read_rules(options.rules, roster, month)
-    for line in (*other_holidays(rules, month), *days_in_order(options.groups, rules, month)):
+    for line in (*other_holidays(rules, month), *days_in_order(path, rules, month)):
         say(line)
     return Ruling(month._replace(holidays=rules.holidays), rules)
 

@@ -33,6 +33,8 @@ WHY_SHARE = 0.35
 FULLEST = 0.5
 # The goals, as progress shows them.
 MISSING, UNEVEN, COSTS, CHANGES = "missing", "evenness", "costs", "changes"
+# The text of the row that forbids a plan.
+ANOTHER = "another plan"
 
 
 class Task(NamedTuple):
@@ -73,6 +75,18 @@ class Evenness(NamedTuple):
     most: int
 
 
+class Next(NamedTuple):
+    """What was found of plans that differ from those before: the next one, None where none was; what it pays for what
+    it misses; by how much another of them may be better at most, None where nothing is known; and whether it is proved
+    that there is none at all."""
+
+    plan: Optional[NamedPlan]
+    missed_cost: int
+    better: Optional[int]
+    is_none: bool
+    certificate: Optional[Certificate]
+
+
 class Proved(NamedTuple):
     """What was proved of an answer.
 
@@ -103,6 +117,8 @@ class Proved(NamedTuple):
     has_prices: bool = False
     missed: Sequence[Missed] = ()
     certificate: Optional[Certificate] = None
+    # The next plans, as many as were asked for, and the least cost with what is missed of those that follow.
+    following: Sequence[Next] = ()
 
     @property
     def is_impossible(self) -> bool:
@@ -175,7 +191,8 @@ def _by_counts(task: Task) -> Tuple[Optional[Tuple[Answer, Proved]], Set[Tuple[i
         return None, set()
     plan = plan_of(roster, request.fixed, pairs)
     own = {(pair.person, pair.object) for pair in plan.pairs}
-    if request.kept is not None or task.own or even_rules(task.rules.rules):
+    asks_for_more = request.kept is not None or request.others or request.plans > 1
+    if asks_for_more or task.own or even_rules(task.rules.rules):
         return None, own
     daily = daily_plan_of(roster, task.rules, task.month, plan.pairs)
     if broken_by(daily) or missed_by(daily):
@@ -380,7 +397,41 @@ class _Stages:
                         even=self._even(plan) if self.is_even else (),
                         fewer_changes=changed is not finding and changed.kind != BEST,
                         has_prices=_has_prices(self.task), missed=missed, certificate=finding.certificate)
-        return Answer(plan, []), self._with_otherwise(proved)
+        return Answer(plan, []), self._with_otherwise(proved._replace(following=self._following(plan)))
+
+    def _following(self, plan: NamedPlan) -> List[Next]:
+        """The next plans, each with its proof: a row forbids each one before. The rows stand where costs are weighed
+        alone."""
+        request, found, before = self.task.request, [], plan
+        count = max(request.plans - 1, int(request.others))
+        rows = [row for row in self._rows if row.text != COSTS]
+        costs = self._pair_costs()
+        for number in range(count):
+            rows.append(self._another(before))
+            self._rows, self._start = list(rows), None
+            finding = self._find(COSTS, costs, self._left(1 / (count - number)))
+            found.append(self._next(finding))
+            if finding.plan is None:
+                return found
+            before = self._plan(finding.plan)
+        return found
+
+    def _another(self, plan: NamedPlan) -> Row:
+        """The row that a plan differs from this one in some pair."""
+        own = {(pair.person, pair.object) for pair in plan.pairs}
+        terms = tuple((variable, 1 if pair in own else -1) for variable, pair in enumerate(self.built.pairs))
+        return Row(None, terms, sum(factor > 0 for _, factor in terms) - 1, ANOTHER)
+
+    def _next(self, finding: Finding) -> Next:
+        """What a finding says of the next plan."""
+        if finding.plan is None:
+            return Next(None, 0, None, finding.kind == IMPOSSIBLE, finding.certificate)
+        plan = self._plan(finding.plan)
+        missed = sum(one.cost for one in missed_by(daily_plan_of(self.task.roster, self.task.rules, self.task.month,
+                                                                 plan.pairs)))
+        cost = (finding.cost or 0) - self._paid_above(finding.plan, missed)
+        better = None if finding.bound is None else cost - finding.bound
+        return Next(plan, missed, better, False, finding.certificate)
 
     def _paid_above(self, values: Sequence[int], missed: int) -> int:
         """What values pay for more than the plan misses, in units of their costs: a plan that isn't proved best may

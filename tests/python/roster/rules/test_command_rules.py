@@ -6,7 +6,7 @@ from unittest import mock
 
 from nushbaret.roster.answer import NamedPlan
 from nushbaret.roster.output import rule_texts
-from nushbaret.roster.roster import read_roster
+from nushbaret.roster.forms import read_roster
 from nushbaret.roster.rules import ruling
 from nushbaret.roster.rules.stages import Proved
 from nushbaret.rows import finding
@@ -34,8 +34,6 @@ REFUSED = (
     (("s.csv", "--time", "5"), "--time needs --rules"),
     (("s.csv", "--before", "b.csv"), "--before needs --rules"),
     (("s.csv", "--certificate", "c"), "--certificate needs --rules"),
-    ((*WORDS, "--plans", "3"), "--plans is of plans without rules: not with --rules"),
-    ((*WORDS, "--others"), "--others is of plans without rules: not with --rules"),
     ((*WORDS, "--fair"), "--fair is of plans without rules: not with --rules"),
     (("s.csv", "--groups", "d.csv", "--rules", "r.csv", "--rents"), "--rents"),
     ((*WORDS, "--time", "0"), "'0' is no number from 1 to 1000000"),
