@@ -160,7 +160,7 @@ def _report(options: Options, roster: Roster) -> Report:
     if hand is not None and answer.plan is not None:
         from .rules.broken_rules import lack_of
         hand = hand._replace(best_lack=lack_of(roster, answer.plan.pairs, fixed))
-    return Report(options, roster, answer, kept, hand, fair, proved)
+    return Report(options, roster, answer, kept, hand, fair, proved, ruling)
 
 
 def _read_rules(options: Options, roster: Roster) -> Optional["Ruling"]:

@@ -14,6 +14,7 @@ from ..sheets import SEPARATORS
 from ..words import Options
 
 if TYPE_CHECKING:
+    from ..rules.ruling import Ruling
     from ..rules.stages import Proved
 
 
@@ -34,8 +35,8 @@ class Hand(NamedTuple):
 
 
 class Report(NamedTuple):
-    """All that is said of a run: what was asked for, the answer, the plans that were read, what fairness costs, and
-    what was proved of a roster with rules."""
+    """All that is said of a run: what was asked for, the answer, the plans that were read, what fairness costs, what
+    was proved of a roster with rules, and the rules."""
 
     options: Options
     roster: Roster
@@ -44,6 +45,7 @@ class Report(NamedTuple):
     hand: Optional[Hand] = None
     fair: Optional[Fair] = None
     proved: Optional["Proved"] = None
+    ruling: Optional["Ruling"] = None
 
     @property
     def alarms(self) -> int:
