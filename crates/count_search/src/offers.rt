@@ -67,15 +67,14 @@ pub fn two_best(row: Row<'_>, prices: &[i64], scale: i64) -> Two {
     two
 }
 
-/// The two best of the pairs that aren't chosen.
+/// The two best of the pairs whose byte is 0: values of others are out of reach.
 #[inline(always)]
-pub fn two_best_open(row: Row<'_>, chosen: &[u8], prices: &[i64], scale: i64) -> Two {
+pub fn two_best_open(row: Row<'_>, bytes: &[u8], prices: &[i64], scale: i64) -> Two {
     let mut two = Two::none();
-    let pairs = row.columns.iter().zip(row.costs).zip(chosen);
+    let pairs = row.columns.iter().zip(row.costs).zip(bytes);
     for (place, ((column, cost), byte)) in pairs.enumerate() {
-        if *byte == 0 {
-            two = two.with(place, value_at(*column, *cost, prices, scale));
-        }
+        let value = value_at(*column, *cost, prices, scale);
+        two = two.with(place, value.wrapping_add(FAR.wrapping_mul(i64::from(*byte))));
     }
     two
 }

@@ -27,9 +27,9 @@ pub struct State {
 
 /// The keys of groups, and whether a group has two columns.
 #[derive(Drop)]
-struct Keys {
-    keys: Vec<u32>,
-    is_grouped: bool,
+pub struct Keys {
+    pub keys: Vec<u32>,
+    pub is_grouped: bool,
 }
 
 // Greater numbers are cut.
@@ -37,7 +37,7 @@ const MOST_NUMBER: i64 = 1 << 59;
 
 const UNSEEN: u32 = u32::MAX;
 
-fn keys_of(alloc: Global, groups: &[u32], columns: usize) -> Result<Keys, AllocError> {
+pub fn keys_of(alloc: Global, groups: &[u32], columns: usize) -> Result<Keys, AllocError> {
     let mut known = vec![in alloc; UNSEEN; columns.saturating_add(1)]?;
     let mut keys = vec![in alloc; 0u32; columns]?;
     let mut next = 0u32;
