@@ -1,8 +1,6 @@
 // Bids of rows and of the dummy row.
 use super::auction::Auction;
-use super::offers::{
-    NO_PLACE, Offer, Two, select, two_best, two_best_open, value_at,
-};
+use super::offers::{NO_PLACE, Offer, Two, select, two_best, two_best_open, value_at};
 use super::problem::{Problem, Row};
 use super::slots::Slot;
 use super::state::State;
@@ -102,11 +100,13 @@ impl Auction {
         if two.place == NO_PLACE {
             return Ok(());
         }
-        Ok(self.offers.push(Offer {
-            value: two.best,
-            next: two.second,
-            pair: place_at(two.place),
-        })?)
+        Ok(
+            self.offers.push(Offer {
+                value: two.best,
+                next: two.second,
+                pair: place_at(two.place),
+            })?,
+        )
     }
 
     fn offer_outside(&mut self, state: &State, row: u32, hands: u32) -> Result<(), AllocError> {

@@ -141,8 +141,13 @@ impl Run<'_, '_> {
         let Some(layout) = Layout::of(self.problem, &self.state) else {
             return Ok(Bids::Done);
         };
-        let mut auction = 
-            Auction::for_layout(self.alloc, self.problem, &self.state, layout, self.looks)?;
+        let mut auction = Auction::for_layout(
+            self.alloc,
+            self.problem,
+            &self.state,
+            layout,
+            self.looks,
+        )?;
         if self.record.stage == AUCTION {
             self.resume(&mut auction, layout, answer)?;
         } else {

@@ -40,11 +40,7 @@ impl Groups {
     }
 
     /// By the keys of the columns' groups.
-    pub fn of(
-        alloc: Global,
-        problem: &Problem<'_>,
-        keys: &[u32],
-    ) -> Result<Groups, AllocError> {
+    pub fn of(alloc: Global, problem: &Problem<'_>, keys: &[u32]) -> Result<Groups, AllocError> {
         Ok(Groups {
             begins: begins_of(alloc, problem, keys)?,
             taken: vec![in alloc; 0u8; problem.columns.len()]?,

@@ -74,7 +74,10 @@ pub fn two_best_open(row: Row<'_>, bytes: &[u8], prices: &[i64], scale: i64) -> 
     let pairs = row.columns.iter().zip(row.costs).zip(bytes);
     for (place, ((column, cost), byte)) in pairs.enumerate() {
         let value = value_at(*column, *cost, prices, scale);
-        two = two.with(place, value.wrapping_add(FAR.wrapping_mul(i64::from(*byte))));
+        two = two.with(
+            place,
+            value.wrapping_add(FAR.wrapping_mul(i64::from(*byte))),
+        );
     }
     two
 }
