@@ -18,10 +18,8 @@ impl Auction {
         let prices = state.prices.as_slice();
         if held == 0 {
             two_best(row, prices, scale)
-        } else if state.is_grouped {
-            two_best_open(row, self.groups.taken(row), prices, scale)
         } else {
-            two_best_open(row, state.chosen(row), prices, scale)
+            two_best_open(row, self.groups.closed(state, row), prices, scale)
         }
     }
 

@@ -1,7 +1,8 @@
 // Which groups rows take in an auction. The pairs of a row stand by groups.
 use super::problem::{Problem, Row};
+use super::state::State;
 use super::values::{byte_at, clear_bytes, count_at, set_byte};
-use sparse_search::place_at;
+use sparse_search::{NOBODY, place_at};
 use std::alloc::{AllocError, Global};
 
 /// For each pair whether a group begins with it in its row, and whether the row takes its group; empty
@@ -31,20 +32,27 @@ fn begins_of(alloc: Global, problem: &Problem<'_>, keys: &[u32]) -> Result<Vec<u
 }
 
 impl Groups {
-    /// No groups of two columns.
-    pub fn none(alloc: Global) -> Groups {
-        Groups {
-            begins: Vec::new(alloc),
-            taken: Vec::new(alloc),
+    /// The groups of a problem, of which no row takes any.
+    pub fn of(alloc: Global, problem: &Problem<'_>, state: &State) -> Result<Groups, AllocError> {
+        if !state.is_grouped {
+            return Ok(Groups {
+                begins: Vec::new(alloc),
+                taken: Vec::new(alloc),
+            });
         }
-    }
-
-    /// By the keys of the columns' groups.
-    pub fn of(alloc: Global, problem: &Problem<'_>, keys: &[u32]) -> Result<Groups, AllocError> {
         Ok(Groups {
-            begins: begins_of(alloc, problem, keys)?,
+            begins: begins_of(alloc, problem, state.keys.as_slice())?,
             taken: vec![in alloc; 0u8; problem.columns.len()]?,
         })
+    }
+
+    /// Rows take what a plan says.
+    pub fn take_plan(&mut self, plan: &[u8]) {
+        for (pair, byte) in plan.iter().enumerate() {
+            if *byte != 0 {
+                self.set(place_at(pair), 1);
+            }
+        }
     }
 
     /// No row takes anything.
@@ -64,9 +72,12 @@ impl Groups {
         }
     }
 
-    /// The row of a pair takes its group (1), or leaves it (0).
+    /// The row of a pair, if there is one, takes its group (1), or leaves it (0).
     #[inline(always)]
     pub fn set(&mut self, pair: u32, byte: u8) {
+        if pair == NOBODY {
+            return;
+        }
         self.set_back(pair as usize, byte);
         for place in (pair as usize).wrapping_add(1)..self.taken.len() {
             if byte_at(self.begins.as_slice(), place) != 0 {
@@ -87,6 +98,16 @@ impl Groups {
     #[inline(always)]
     pub fn begins(&self, pair: usize) -> bool {
         byte_at(self.begins.as_slice(), pair) != 0
+    }
+
+    /// For each pair of a row whether the row takes its group, or, without groups, the pair.
+    #[inline(always)]
+    pub fn closed<'a>(&'a self, state: &'a State, row: Row<'_>) -> &'a [u8] {
+        if state.is_grouped {
+            self.taken(row)
+        } else {
+            state.chosen(row)
+        }
     }
 
     /// Whether the row of a pair takes its group.

@@ -57,11 +57,7 @@ impl Auction {
         layout: Layout,
         looks: Looks,
     ) -> Result<Auction, AllocError> {
-        let groups = if state.is_grouped {
-            Groups::of(alloc, problem, state.keys.as_slice())?
-        } else {
-            Groups::none(alloc)
-        };
+        let groups = Groups::of(alloc, problem, state)?;
         Auction::new(alloc, layout.sizes, layout.terms, looks, groups)
     }
 

@@ -165,11 +165,10 @@ impl State {
         false
     }
 
-    /// Stamps the groups that a row takes, except that of one pair.
-    pub fn mark_taken(&mut self, row: Row<'_>, but: u32, stamp: u64) {
+    /// Stamps the groups that a row takes.
+    pub fn mark_taken(&mut self, row: Row<'_>, stamp: u64) {
         for (k, column) in row.columns.iter().enumerate() {
-            let pair = place_at(row.first.wrapping_add(k));
-            if pair != but && self.is_chosen(pair) {
+            if self.is_chosen(place_at(row.first.wrapping_add(k))) {
                 let _ = self.mark(*column, stamp);
             }
         }
