@@ -1,6 +1,6 @@
 // Bids of rows and of the dummy row.
 use super::auction::Auction;
-use super::offers::{NO_PLACE, Offer, Two, select, two_best, two_best_open, value_at};
+use super::offers::{NO_PLACE, Offer, Two, select, two_best_open, value_at};
 use super::problem::{Problem, Row};
 use super::slots::Slot;
 use super::state::State;
@@ -12,17 +12,6 @@ use std::alloc::AllocError;
 const OUT_OF_REACH: i64 = 1 << 60;
 
 impl Auction {
-    #[inline(always)]
-    fn two_of(&self, state: &State, row: Row<'_>, held: u32) -> Two {
-        let scale = self.terms.scale;
-        let prices = state.prices.as_slice();
-        if held == 0 {
-            two_best(row, prices, scale)
-        } else {
-            two_best_open(row, self.groups.closed(state, row), prices, scale)
-        }
-    }
-
     // One hand of a row bids.
     #[inline(always)]
     fn bid_once(
@@ -34,7 +23,8 @@ impl Auction {
         let pairs = problem.row(row);
         self.bids = self.bids.wrapping_add(1);
         self.looks.add(pairs.columns.len());
-        let mut two = self.two_of(state, pairs, state.held_of(row));
+        let closed = self.groups.closed(state, pairs);
+        let mut two = two_best_open(pairs, closed, state.prices.as_slice(), self.terms.scale);
         let outside = state.outside();
         if self.room_outside(state, row) > 0 {
             two = two.with(pairs.columns.len(), state.price(outside));
