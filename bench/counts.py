@@ -253,7 +253,8 @@ def time_million():
     before = resource.getrusage(resource.RUSAGE_SELF).ru_maxrss
     answer = Answer(problem)
     more = (resource.getrusage(resource.RUSAGE_SELF).ru_maxrss - before) / 1024
-    print(f"{named('a million rows of ten', problem):42} {answer.seconds:7.2f}  {more:.0f} MB, of which the answer 18")
+    name = named("a million rows of ten", problem)
+    print(f"{name:42} {answer.seconds:7.2f}  {more:.0f} MB, the answer's 18 with it")
 
 
 def time_ones():
@@ -269,7 +270,8 @@ def time_ones():
                                     *lent(persons), *lent(prices), info)
             own.append(time.thread_time() - begin)
         ours = min(Answer(problem).seconds for _ in range(3))
-        print(f"{named('one to one', problem):42} {ours:7.4f}  {min(own):7.4f} by nushbaret_dense  {ours / min(own):5.2f}")
+        name = named("one to one", problem)
+        print(f"{name:42} {ours:7.4f}  {min(own):7.4f} by nushbaret_dense  {ours / min(own):5.2f}")
 
 
 def changed(problem, dice, what):
@@ -300,8 +302,8 @@ def time_warm():
                 if cold.cost != warm.cost:
                     sys.exit(f"{draw.__name__}: {cold.cost}, from an answer {warm.cost}")
                 shares.append(warm.seconds / cold.seconds)
-            print(f"{named(draw.__name__ + ', a ' + what, problem):42} {min(shares):.2f} to {max(shares):.2f} of a fresh "
-                  "call", flush=True)
+            name = named(f"{draw.__name__}, a {what}", problem)
+            print(f"{name:42} {min(shares):.2f} to {max(shares):.2f} of a fresh call", flush=True)
 
 
 def drawn(dice):
