@@ -23,7 +23,7 @@ SOLVES = ("import sys; sys.path.insert(0, sys.argv[1]); import nushbaret; print(
 
 
 def backend():
-    spec = importlib.util.spec_from_file_location("nushbaret_build", PYTHON / "nushbaret_build.py")
+    spec = importlib.util.spec_from_file_location("nushbaret_build", PYTHON / "building" / "nushbaret_build.py")
     module = importlib.util.module_from_spec(spec)
     spec.loader.exec_module(module)
     return module
@@ -69,9 +69,11 @@ class Package(unittest.TestCase):
                              set(ran.get_all("Classifier")))
         self.assertEqual(ran["Description-Content-Type"], "text/markdown")
         self.assertEqual((ran.get_all("Provides-Extra"), ran.get_all("Requires-Dist")),
-                         (["rules", "dask"], ["scipy>=1.9; extra == 'rules'",
-                                              "dask[array,dataframe,distributed]; extra == 'dask'",
-                                              "numpy; extra == 'dask'"]))
+                         (["xlsx", "rules", "dask", "all"],
+                          ["openpyxl; extra == 'xlsx'", "scipy>=1.9; extra == 'rules'",
+                           "dask[array,dataframe,distributed]; extra == 'dask'", "numpy; extra == 'dask'",
+                           "openpyxl; extra == 'all'", "scipy>=1.9; extra == 'all'",
+                           "dask[array,dataframe,distributed]; extra == 'all'", "numpy; extra == 'all'"]))
         self.assertIn("For rosters with names see ROSTERS.md.", ran.get_payload())
         self.assertNotRegex(ran.get_payload(), r"\]\((?!https?:)")
 
@@ -80,8 +82,8 @@ class Package(unittest.TestCase):
         name = build.build_sdist(self.folder)
         subprocess.run(["tar", "-xzf", name], cwd=self.folder, check=True)
         again = subprocess.run([sys.executable, "-c",
-                                "import nushbaret_build; print(nushbaret_build.build_wheel('..'))"],
-                               cwd=self.folder / f"nushbaret-{build.VERSION}", capture_output=True, text=True,
+                                "import nushbaret_build; print(nushbaret_build.build_wheel('../..'))"],
+                               cwd=self.folder / f"nushbaret-{build.VERSION}" / "building", capture_output=True, text=True,
                                check=True)
         own, other = self.held(again.stdout.strip()), self.held(build.build_wheel(self.folder))
         self.assertEqual(own, other)
