@@ -42,7 +42,7 @@ def endless_call():
     def stops(*words):
         time.sleep(0.001)
         return library.CODES.index("STOPPED")
-    library._loaded()
+    library.loaded()
     return mock.patch.dict(library._calls, {name: stops for name in ("dense_from", "sparse_from")})
 
 
