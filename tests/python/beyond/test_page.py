@@ -29,8 +29,9 @@ class Examples(unittest.TestCase):
         self.assertEqual(doctest.testfile(str(PAGE), module_relative=False).failed, 0)
 
     def test_program(self):
-        ran = subprocess.run([sys.executable, str(TOP / "examples" / "beyond.py"), "300"],
-                             capture_output=True, text=True, env={**os.environ, "PYTHONPATH": os.pathsep.join(sys.path)})
+        path = {**os.environ, "PYTHONPATH": os.pathsep.join(sys.path)}
+        ran = subprocess.run([sys.executable, str(TOP / "examples" / "beyond.py"), "300"], capture_output=True, text=True,
+                             env=path)
         self.assertEqual(ran.returncode, 0, ran.stderr)
         self.assertIn("proved, gap 0, ", ran.stdout)
         self.assertIn("pass", ran.stderr)
