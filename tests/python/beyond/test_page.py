@@ -30,7 +30,7 @@ class Examples(unittest.TestCase):
 
     def test_program(self):
         path = {**os.environ, "PYTHONPATH": os.pathsep.join(sys.path)}
-        ran = subprocess.run([sys.executable, str(TOP / "examples" / "beyond.py"), "300"], capture_output=True, text=True,
+        ran = subprocess.run([sys.executable, str(TOP / "examples/beyond.py"), "300"], capture_output=True, text=True,
                              env=path)
         self.assertEqual(ran.returncode, 0, ran.stderr)
         self.assertIn("proved, gap 0, ", ran.stdout)
