@@ -19,12 +19,12 @@ OF_OTHER_FOLDERS = {
     "api.test_plans": "lap.paths lap.ranking",
     "api.test_solving": "lap.library",
     "api.test_time": "lap.levels lap.library",
+    "counts.test_counts": "lap.library",
     "roster.test_command": "lap.library",
     "rows.test_certificates": "lap.library",
     "roster.rules.test_command_rules": "rows.finding rows.model",
     # They compare or lower limits that aren't public.
     "api.test_refusals": "costs.limits lap.library lap.proved",
-    "roster.test_command_counts": "counts.nodes",
     # They make what the tested folder takes, or check what it makes.
     "counts.test_count_rows": "rows.certificate_check",
     "lap.test_levels": "costs.kinds costs.problem costs.reading",

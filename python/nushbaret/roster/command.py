@@ -247,7 +247,8 @@ def _refuse_without_groups(options: Options, roster: Roster) -> None:
 
 def _say_nobody(roster: Roster, path: str) -> None:
     """Says that no plan has to have anybody, where all that places take is nobody at least."""
-    if roster.least is not None and not any(roster.least[1].values()) and not roster.wanted:
+    takes_nobody = not any(roster.of_object(object_).least for object_ in range(len(roster.objects)))
+    if roster.has_bounds and takes_nobody and not roster.wanted:
         _say(f"{path}: each place may stay empty, and without --tasks nobody has to be placed")
 
 

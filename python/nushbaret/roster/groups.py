@@ -4,11 +4,11 @@ from collections import Counter
 from typing import Dict, Iterator, List, NamedTuple, Optional, Protocol, Sequence, Tuple
 
 from ..costs.limits import MOST_PERSONS
-from ..counts.nodes import Bounds
+from ..counts.counted import Bounds
 from .cells import is_plain
 from .dates import spellings
 from .names import quoted
-from .roster import TITLES, Earlier, Groups, PlanLine, Roster, Wanted, known, looks_like_number
+from .roster import TITLES, Earlier, Groups, PlanLine, Roster, Takes, Wanted, known, looks_like_number
 from .sheets import RosterFault, Sheet, item_of
 from .times_of_day import Times, columns_of, times_of
 
@@ -289,17 +289,16 @@ def with_rules(roster: Roster, tasks: Optional[Counts], capacities: Optional[Cou
                groups: Optional[Groups]) -> Roster:
     """The roster with counts and groups. Where any line has two numbers bounds alone decide: then an object without a
     line takes exactly one, and a person at most one."""
-    most = [None if counts is None else {number: bound.most for number, bound in counts.bounds.items()}
-            for counts in (tasks, capacities)]
-    least = None
-    if any(counts is not None and counts.are_ranges for counts in (tasks, capacities)):
-        of_persons, of_objects = ({number: bound.least for number, bound in counts.bounds.items()} if counts else {}
-                                  for counts in (tasks, capacities))
-        least = of_persons, {**dict.fromkeys(range(len(roster.objects)), 1), **of_objects}
-    titles = (_titled(roster.titles[0], TITLES[0], tasks.title if tasks else ""),
+    given = [counts for counts in (tasks, capacities) if counts is not None]
+    are_sums = not any(counts.are_ranges for counts in given)
+    of_persons, of_objects = ({number: Bounds(0, bound.most) if are_sums else bound
+                               for number, bound in counts.bounds.items()} if counts else {}
+                              for counts in (tasks, capacities))
+    titles = (_titled(roster.titles[0], TITLES[0], *(own.title for own in [tasks] if own)),
               _titled(roster.titles[1], TITLES[1], *(own.title for own in [capacities] if own),
                       *(own.of for own in [groups] if own)), roster.titles[2])
-    return roster._replace(titles=titles, tasks=most[0], capacities=most[1], least=least, groups=groups or roster.groups,
+    return roster._replace(titles=titles, takes=Takes(of_persons, of_objects, are_sums) if given else None,
+                           groups=groups or roster.groups,
                            wanted=capacities.wanted if capacities else {}, teams=tasks.teams if tasks else {})
 
 
@@ -366,12 +365,13 @@ class Missing(NamedTuple):
 
 def missing_of(roster: Roster, pairs: Sequence[Paired]) -> List[Missing]:
     """Which least counts are missed: of objects in the order of groups, then of persons. Without bounds none."""
-    if roster.least is None:
+    if not roster.has_bounds:
         return []
     ranks = order_of(roster)
     had, used = Counter(pair.person for pair in pairs), Counter(pair.object for pair in pairs)
-    of_persons, of_objects = roster.least
-    objects = sorted((number for number, least in of_objects.items() if used[number] < least), key=ranks.__getitem__)
-    persons = sorted(number for number, least in of_persons.items() if had[number] < least)
-    return ([Missing(1, roster.objects[number], number, used[number], of_objects[number]) for number in objects]
-            + [Missing(0, roster.persons[number], number, had[number], of_persons[number]) for number in persons])
+    found = [Missing(1, name, number, used[number], roster.of_object(number).least)
+             for number, name in enumerate(roster.objects)]
+    found.sort(key=lambda one: ranks[one.number])
+    found += [Missing(0, name, number, had[number], roster.of_person(number).least)
+              for number, name in enumerate(roster.persons)]
+    return [one for one in found if one.had < one.least]

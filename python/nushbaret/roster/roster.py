@@ -10,6 +10,7 @@ from operator import add, mul
 from typing import Dict, FrozenSet, List, Mapping, NamedTuple, Optional, Sequence, Set, Tuple, cast
 
 from ..costs.limits import MOST_PERSONS, Numbers
+from ..counts.counted import Bounds
 from .cells import is_plain
 from .dates import spellings
 from .names import quoted
@@ -117,12 +118,22 @@ class Wanted(NamedTuple):
     price: int
 
 
+ONE_AT_MOST = Bounds(0, 1)
+
+
+class Takes(NamedTuple):
+    """How many persons and objects take, by number. What isn't named takes at most one; an object exactly one, unless
+    `are_sums`: then only greatest counts are said, and the side whose sum is smaller takes all."""
+
+    persons: Mapping[int, Bounds]
+    objects: Mapping[int, Bounds]
+    are_sums: bool
+
+
 class Roster(NamedTuple):
     """A problem by names. Pair k is of `persons[of_persons[k]]` and `objects[of_objects[k]]`, no pair twice; `costs[k]`
-    is in units of 10^-decimals. `titles` are the words for a person, an object and a cost. `tasks` and `capacities` say
-    of persons and of objects how many they take at most, where it isn't one; None where nothing was said. Where bounds
-    alone decide, `least` says of persons and of objects how many they take at least, where it isn't 0. `rounded` says
-    whether any cost was changed by rounding, `has_bom` whether the file began with a BOM, `is_matrix` whether it is a
+    is in units of 10^-decimals. `titles` are the words for a person, an object and a cost. `takes` says how many each
+    name takes; where it is None, each takes one at most, and the fewer ones take one. `rounded` says whether any cost was changed by rounding, `has_bom` whether the file began with a BOM, `is_matrix` whether it is a
     matrix, and `by_persons` whether the pairs stand person by person. `encoding` is that of the file, and `reading` how
     other files are read. Of the objects in `past` nothing is planned, and of the persons in `gone` the past alone is
     known. `wanted` says of some objects how many persons they should take, and `teams` who is in a group, by its title
@@ -139,13 +150,11 @@ class Roster(NamedTuple):
     titles: Tuple[str, str, str]
     separator: str
     comma: bool
-    tasks: Optional[Dict[int, int]] = None
-    capacities: Optional[Dict[int, int]] = None
+    takes: Optional[Takes] = None
     rounded: bool = False
     has_bom: bool = False
     is_matrix: bool = False
     by_persons: bool = False
-    least: Optional[Tuple[Dict[int, int], Dict[int, int]]] = None
     groups: Optional[Groups] = None
     encoding: str = "utf-8"
     reading: Reading = Reading()
@@ -165,20 +174,29 @@ class Roster(NamedTuple):
     @property
     def ruled(self) -> bool:
         """Whether names may count several times, or there are groups."""
-        return self.counts or self.groups is not None
+        return self.takes is not None or self.groups is not None
 
     @property
-    def counts(self) -> bool:
-        """Whether names may count several times."""
-        return self.tasks is not None or self.capacities is not None
+    def has_bounds(self) -> bool:
+        """Whether bounds decide, and not sums of greatest counts."""
+        return self.takes is not None and not self.takes.are_sums
+
+    def of_person(self, person: int) -> Bounds:
+        """How many objects a person takes."""
+        return ONE_AT_MOST if self.takes is None else self.takes.persons.get(person, ONE_AT_MOST)
+
+    def of_object(self, object_: int) -> Bounds:
+        """How many persons an object takes."""
+        other = Bounds(1, 1) if self.has_bounds else ONE_AT_MOST
+        return other if self.takes is None else self.takes.objects.get(object_, other)
 
     def tasks_of(self, person: int) -> int:
-        """How many objects a person takes."""
-        return 1 if self.tasks is None else self.tasks.get(person, 1)
+        """How many objects a person takes at most."""
+        return self.of_person(person).most
 
     def capacity_of(self, object_: int) -> int:
-        """How many persons an object takes."""
-        return 1 if self.capacities is None else self.capacities.get(object_, 1)
+        """How many persons an object takes at most."""
+        return self.of_object(object_).most
 
     @property
     def is_full(self) -> bool:

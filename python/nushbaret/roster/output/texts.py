@@ -120,7 +120,7 @@ def _rule(roster: Roster) -> str:
     """Which rule decides, where names may count several times."""
     if not roster.ruled:
         return ""
-    return ("; single counts: the side with the smaller sum takes all" if roster.least is None
+    return ("; single counts: the side with the smaller sum takes all" if not roster.has_bounds
             else "; bounds: each name's counts are kept")
 
 
@@ -131,7 +131,7 @@ def forgotten_line(roster: Roster, counts: Counts, side: int) -> Optional[str]:
     numbers = [number for number in range(len(names)) if number not in counts.bounds]
     if not numbers:
         return None
-    bound = "" if roster.least is None else "exactly " if side else "at most "
+    bound = "" if not roster.has_bounds else "exactly " if side else "at most "
     takes = "takes" if len(numbers) == 1 else "each takes"
     return f"{shown_path(counts.path)}: no line for {named(numbers, roster.titles[side], names)}: {takes} {bound}one"
 
@@ -163,7 +163,7 @@ def _cost_line(report: Report, plan: NamedPlan) -> str:
     roster, options = report.roster, report.options
     which, title, own = "greatest" if options.max else "least", roster.titles[2], roster.shown(plan.cost)
     if report.answer.groups:
-        title += f" of {len(plan.pairs)} pairs" + ("" if roster.least is None else " that miss least")
+        title += f" of {len(plan.pairs)} pairs" + (" that miss least" if roster.has_bounds else "")
     title += _bound(report, report.fair) if report.fair else ""
     if options.change_cost is not None:
         return f"{title}: {own}, the {which} with changes at {options.change_cost} each"
@@ -179,7 +179,7 @@ def _rounding_line(report: Report, plan: NamedPlan) -> str:
         return "costs were rounded, and nothing is proved for the exact ones"
     with_changes = report.options.change_cost is not None
     fixed = sum(pair.fixed for pair in plan.pairs)
-    most = len(plan.pairs) if roster.least is None and proved is None else _most_pairs(roster, plan)
+    most = len(plan.pairs) if not roster.has_bounds and proved is None else _most_pairs(roster, plan)
     half_units = len(plan.pairs) + most - 2 * fixed + (better if with_changes else 2 * better)
     counted_in = " with changes" if with_changes else ""
     return (f"costs were rounded: another plan may be better for the exact ones{counted_in}, by "
@@ -279,7 +279,7 @@ def persons_at(roster: Roster, plan: NamedPlan) -> List[Tuple[int, List[str]]]:
 
 def _times(roster: Roster, count: int) -> str:
     """How often a name is used, where that isn't once and isn't what its count says."""
-    return f" ({count})" if count != 1 and (roster.least is not None or roster.groups is not None) else ""
+    return f" ({count})" if count != 1 and (roster.has_bounds or roster.groups is not None) else ""
 
 
 def pair_text(roster: Roster, pair: Pair) -> str:

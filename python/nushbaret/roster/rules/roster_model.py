@@ -2,7 +2,7 @@
 from collections import Counter
 from typing import Dict, List, NamedTuple, Optional, Sequence, Set, Tuple
 
-from ...counts.nodes import Bounds
+from ...counts.counted import Bounds
 from ..answer import Request, counted, several
 from ..by_counts import bounds_around
 from ..month import Month

@@ -3,7 +3,6 @@ import time
 from typing import Callable, Dict, List, NamedTuple, Optional, Sequence, Set, Tuple
 
 from ...counts.count_rows import certificate_of_best, certificate_of_lack, terms_of
-from ...counts.nodes import TooManyNodes
 from ...counts.planned import planned
 from ...rows.model import Certificate, Conflict, Finding, Row
 from ..answer import Answer, NamedPlan, Request, plan_of
@@ -178,18 +177,15 @@ def _by_counts(task: Task) -> Tuple[Optional[Tuple[Answer, Proved]], Set[Tuple[i
     if any(bounds.most < 0 for bounds in (*problem.row_bounds, *problem.column_bounds)):
         # Fixed pairs are more than a name may have: rows say so.
         return None, set()
-    try:
-        lacks, pairs, exchanges = planned(problem, False)
-    except TooManyNodes:
-        return None, set()
+    lacks, plans = planned(problem, False)
     if lacks:
         reasons = [Reason(line, []) for line in lines_of_lacks(roster, task.month, lacks)]
         certificate = certificate_of_lack(problem, terms_of(problem), lacks[0])
         return (Answer(None, []), Proved(IMPOSSIBLE, task.seconds, whys=[Why(reasons, by=BY_COUNTS)],
                                          is_around_past=_is_around_past(task), certificate=certificate)), set()
-    if pairs is None or exchanges is None:
+    if plans is None:
         return None, set()
-    plan = plan_of(roster, request.fixed, pairs)
+    plan = plan_of(roster, request.fixed, plans.pairs())
     own = {(pair.person, pair.object) for pair in plan.pairs}
     asks_for_more = request.kept is not None or request.others or request.plans > 1
     if asks_for_more or task.own or even_rules(task.rules.rules):
@@ -198,7 +194,7 @@ def _by_counts(task: Task) -> Tuple[Optional[Tuple[Answer, Proved]], Set[Tuple[i
     if broken_by(daily) or missed_by(daily):
         return None, own
     return (Answer(plan, []), Proved(BEST, task.seconds, 0, has_prices=_has_prices(task),
-                                     certificate=certificate_of_best(problem, [], exchanges))), own
+                                     certificate=certificate_of_best(problem, [], plans.shown()))), own
 
 
 def _has_prices(task: Task) -> bool:
