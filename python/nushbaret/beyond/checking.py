@@ -49,6 +49,8 @@ def check(costs: Any, columns: Any, prices: Any, client: Any = None, *, shape: O
     ValueError, TypeError
         Costs are out of range, or of another shape than columns and prices.
 
+    Examples
+    --------
     >>> import numpy
     >>> from nushbaret import beyond
     >>> costs = numpy.array([[4, 1], [2, 3]])

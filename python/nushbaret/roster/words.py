@@ -96,7 +96,13 @@ class Options(NamedTuple):
     @property
     def written(self) -> List[str]:
         """All files that are written, except those for each person."""
-        return [output.path for output in self.outputs] + list(filter(None, [self.certificate]))
+        return [output.path for output in self.outputs] + list(filter(None, [self.certificate])) + self.changes
+
+    @property
+    def changes(self) -> List[str]:
+        """The files of changes from a kept plan: one beside each plan in CSV."""
+        return [os.path.splitext(output.path)[0] + CHANGES for output in self.outputs
+                if self.keep is not None and output.kind == "csv" and not output.is_standard]
 
 
 def _output(path: str) -> Output:
@@ -130,6 +136,8 @@ def _encoding(word: str) -> str:
     return word
 
 
+# How the file of changes beside a plan ends.
+CHANGES = "-changes.csv"
 DECIMALS = tuple(map(str, range(MOST_UNIT_DECIMALS + 1)))
 COUNT_OF_DECIMALS = Value("K", choices=DECIMALS, read=_number(0, MOST_UNIT_DECIMALS))
 PLAN = Value("PLAN", True, (".csv", ".json", ".xlsx"))
@@ -324,9 +332,30 @@ def read_words(words: Optional[Sequence[str]]) -> Options:
     parser = parser_of()
     words = sys.argv[1:] if words is None else words
     _refuse_unknown(words, parser)
-    options = Options(**vars(parser.parse_args(words)))
+    options = with_sheets(Options(**vars(parser.parse_args(words))))
     _judge(options, parser.refuse)
     return options
+
+
+# Sheets of a workbook that are read with the roster, by the options that name them.
+_SHEETS = ("places", "tasks", "groups", "rules")
+
+
+def with_sheets(options: Options) -> Options:
+    """The options, where the roster is a workbook with sheets for places, tasks, groups or rules: these are read where
+    no option names another file, and the roster is the first other sheet."""
+    if os.path.splitext(options.roster)[1].lower() != ".xlsx" or not os.path.isfile(options.roster):
+        return options
+    from .read_workbook import sheets_of
+    names = sheets_of(options.roster)
+    titled = {name.strip().casefold(): name for name in reversed(names)}
+    own = {word: f"{options.roster}#{titled[word]}" for word in _SHEETS if word in titled}
+    rest = [name for name in names if name.strip().casefold() not in _SHEETS]
+    if not own or not rest:
+        return options
+    return options._replace(sheet=options.sheet or rest[0], places=options.places or own.get("places"),
+                            tasks=options.tasks or own.get("tasks"), groups=options.groups or own.get("groups"),
+                            rules=options.rules or own.get("rules"))
 
 
 def _refuse_unknown(words: Sequence[str], parser: argparse.ArgumentParser) -> None:
@@ -364,7 +393,7 @@ def _judge(options: Options, refuse: Callable[[str], NoReturn]) -> None:
     """Refuses options that don't go together."""
     if options.change_cost is not None and not options.keep:
         refuse("--change-cost needs --keep")
-    if options.past is not None and not (options.keep and options.groups):
+    if options.past is not None and not options.keep:
         refuse("--past needs --keep and --groups")
     if options.others and options.change_cost is not None:
         refuse("--others compares costs alone: not with --change-cost")
@@ -398,10 +427,7 @@ def _judge_rules(options: Options, refuse: Callable[[str], NoReturn]) -> None:
             if value is not None:
                 refuse(f"{word} needs --rules")
         return
-    if not options.groups:
-        refuse("--rules needs --groups, which says the day of each object")
-    for word, is_given in (("--others", options.others), ("--plans", options.plans > 1), ("--fair", options.fair),
-                           ("--rents", options.rents)):
+    for word, is_given in (("--fair", options.fair), ("--rents", options.rents)):
         if is_given:
             refuse(f"{word} is of plans without rules: not with --rules")
 

@@ -3,7 +3,7 @@ from collections import Counter
 from typing import Dict, List, NamedTuple, Optional, Sequence, Set, Tuple
 
 from ...counts.counted import Bounds
-from ..answer import Request, counted, plural
+from ..answer import Request, counted, several
 from ..by_counts import bounds_around
 from ..month import Month
 from ..roster import Roster
@@ -59,7 +59,8 @@ def built(roster: Roster, rules: Rules, month: Month, request: Request, own: Seq
     used = Counter(pair.object for pair in request.fixed)
     capacities = [Bounds(0 if may_miss else _with(bounds, used[object_]).least, _with(bounds, used[object_]).most)
                   for object_, bounds in enumerate(bounds_around(roster, request.fixed)[1])]
-    rows = Rows([cost for _, _, cost in listed], [person for person, _ in pairs])
+    days = [month.shifts[object_].day if object_ in month.shifts else None for _, object_ in pairs]
+    rows = Rows([cost for _, _, cost in listed], [person for person, _ in pairs], days)
     making = Making(roster, rules, work, rows, capacities)
     if not pairs:
         # A solver needs one.
@@ -147,7 +148,7 @@ def bounds_text(bounds: Bounds, word: str, limit: int) -> str:
     if not bounds.least:
         return f"at most {counted(bounds.most, word)}"
     return (f"at least {counted(bounds.least, word)}" if bounds.most >= limit
-            else f"{bounds.least}-{bounds.most} {plural(word)}")
+            else several(f"{bounds.least}-{bounds.most}", word))
 
 
 def _one_of_each(making: Making) -> None:
