@@ -23,8 +23,8 @@ from ..costs.kinds import AnyWholeNumbers, Costs, plain
 from ..costs.limits import GREATEST_COST
 from ..costs.numbers import Ratio, in_unit, unit_of
 from .exchanges import exact_numbers
-from .narrowed import Part, fixed, narrowed, reduced_costs
-from .counted import Counted, Marked, solved
+from .narrowed import Part, at, fixed, narrowed, reduced_costs
+from .counted import Counted, Marked, Pair, solved
 
 # Rounded costs have so many bits.
 _BITS = GREATEST_COST.bit_length() - 1
@@ -66,7 +66,7 @@ class Levelled(NamedTuple):
 class _Level(NamedTuple):
     """A level's rounded costs, the size of its unit, and the denominator of both."""
 
-    costs: List[int]
+    costs: Any
     unit: int
     denominator: int
 
@@ -87,30 +87,27 @@ def best_of(counted: Counted, given: Optional[Given] = None, is_part: bool = Fal
 
 def _by_levels(counted: Counted, given: Given, is_part: bool) -> Union[Tuple[Levelled, _Level], Marked]:
     numbers, shift = given.costs.rounded(_BITS)
-    costs = [given.sign * cost for cost in numbers.tolist()]
-    found = solved(counted._replace(costs=array("q", costs)), is_part)
+    costs = numbers * given.sign if given.costs.numpy else array("q", [given.sign * cost for cost in numbers])
+    found = solved(counted._replace(costs=costs), is_part)
     if isinstance(found, Marked):
         return found
-    counted, rows, columns = counted.listed(), list(found.row_numbers), list(found.column_numbers)
     most = counted.most_pairs()
     # A float may be that much further from the decimal that it prints as.
     paid = most + 2 + most // 4096
-    bounds = (fixed(counted.row_bounds, rows, _COUNT_SLACK * paid),
-              fixed(counted.column_bounds, columns, _COUNT_SLACK * paid))
-    part = narrowed(counted, reduced_costs(counted, costs, rows, columns), _PAIR_SLACK * paid, *bounds)
+    slack, duals = _COUNT_SLACK * paid, (list(found.row_numbers), list(found.column_numbers))
+    part = narrowed(counted, reduced_costs(counted, costs, *duals), _PAIR_SLACK * paid,
+                    fixed(counted.row_bounds, duals[0], slack), fixed(counted.column_bounds, duals[1], slack))
     ratios = given.ratios(part.places)
     common = unit_of({(1, denominator) for _, denominator in ratios}, True)
     denominator = common.denominator << max(0, shift)
     level = _Level(costs, denominator >> shift if shift >= 0 else denominator << -shift, denominator)
-    rows, columns = ([0 if abs(number) <= _COUNT_SLACK * paid else number * level.unit for number in numbers]
-                     for numbers in (rows, columns))
-    own = [(in_unit(ratio, common) << max(0, shift)) - rows[counted.rows[place]] - columns[counted.columns[place]]
-           for ratio, place in zip(ratios, part.places)]
+    rows, columns = ([0 if abs(number) <= slack else number * level.unit for number in own] for own in duals)
+    own = [(in_unit(ratio, common) << max(0, shift)) - rows[row] - columns[column]
+           for ratio, (row, column) in zip(ratios, part.named(zip(part.counted.rows, part.counted.columns)))]
     rest = _rest(part, own)
     added = part.numbers(rest.row_numbers, rest.column_numbers, counted)
-    plan = part.plan(rest.plan, len(costs))
     sums = [list(map(add, numbers, more)) for numbers, more in zip((rows, columns), added)]
-    return Levelled(plan, sums[0], sums[1], denominator), level
+    return Levelled(part.plan(rest.plan, len(costs)), sums[0], sums[1], denominator), level
 
 
 def _rest(part: Part, costs: List[int]) -> Levelled:
@@ -132,38 +129,39 @@ def _rest(part: Part, costs: List[int]) -> Levelled:
 def _is_proof(counted: Counted, given: Given, found: Levelled, level: _Level) -> bool:
     """Whether a plan and its numbers are as `Best` says, exactly. Of most pairs the rounded costs and numbers show it:
     e is from 3 units below to 1 unit above what these give."""
-    counted = counted.listed()
-    rows, columns = ([number // level.unit for number in numbers]
-                     for numbers in (found.row_numbers, found.column_numbers))
-    coarse = reduced_costs(counted, level.costs, rows, columns)
+    coarse = reduced_costs(counted, level.costs, *([number // level.unit for number in numbers] for numbers in (
+        found.row_numbers, found.column_numbers)))
+    chosen = list(compress(count(), found.plan))
+    # All others have e above 0.
+    near = [place for place in ((coarse < 5).nonzero()[0].tolist() if hasattr(coarse, "dtype") else
+                                [place for place, own in enumerate(coarse) if own < 5]) if not found.plan[place]]
+    pairs = {place: pair for places in (chosen, near)
+             for place, pair in zip(places, zip(at(counted.rows, places), at(counted.columns, places)))}
+    held = {(pairs[place][0], counted.group_of[pairs[place][1]]): place for place in chosen}
 
     def exact(place: int) -> Fraction:
         (ratio,) = given.ratios([place])
-        both = found.row_numbers[counted.rows[place]] + found.column_numbers[counted.columns[place]]
-        return Fraction(*ratio) - Fraction(both, found.denominator)
+        row, column = pairs[place]
+        return Fraction(*ratio) - Fraction(found.row_numbers[row] + found.column_numbers[column], found.denominator)
 
     def is_below(place: int, other: Optional[int]) -> bool:
         """Whether e at a place is below that at another one, or below 0."""
         apart = coarse[place] - (0 if other is None else coarse[other])
         if abs(apart) > 4:
-            return apart < 0
+            return bool(apart < 0)
         return exact(place) < (0 if other is None else exact(other))
 
-    row_groups = list(counted.row_groups())
-    held = {row_groups[place]: place for place in compress(count(), found.plan)}
-    if len(held) < sum(found.plan) or any(coarse[place] > -1 and exact(place) > 0 for place in held.values()):
-        return False
-    # All others have e above 0.
-    near = [place for place, own in enumerate(coarse) if own < 5]
-    return _keeps_counts(counted, found) and not any(is_below(place, held.get(row_groups[place])) for place in near
-                                                     if not found.plan[place])
+    return (len(held) == len(chosen) and _keeps_counts(counted, found, [pairs[place] for place in chosen])
+            and not any(coarse[place] > -1 and exact(place) > 0 for place in chosen)
+            and not any(is_below(place, held.get((pairs[place][0], counted.group_of[pairs[place][1]])))
+                        for place in near))
 
 
-def _keeps_counts(counted: Counted, found: Levelled) -> bool:
+def _keeps_counts(counted: Counted, found: Levelled, chosen: List[Pair]) -> bool:
     """Whether counts are in their bounds, and each number stands for the count that its row or column has."""
-    for numbers, bounds, duals in ((counted.rows, counted.row_bounds, found.row_numbers),
-                                   (counted.columns, counted.column_bounds, found.column_numbers)):
-        counts = Counter(compress(numbers, found.plan))
+    for side, bounds, duals in ((0, counted.row_bounds, found.row_numbers),
+                                (1, counted.column_bounds, found.column_numbers)):
+        counts = Counter(pair[side] for pair in chosen)
         if any(not bound.least <= counts[number] <= bound.most or dual > 0 and counts[number] > bound.least
                or dual < 0 and counts[number] < bound.most for number, (bound, dual) in enumerate(zip(bounds, duals))):
             return False
