@@ -22,9 +22,9 @@ from typing import Any, List, NamedTuple, Optional, Sequence, Tuple, Union
 from ..costs.kinds import AnyWholeNumbers, Costs, plain
 from ..costs.limits import GREATEST_COST
 from ..costs.numbers import Ratio, in_unit, unit_of
+from .counted import Counted, Marked, Pair, solved
 from .exchanges import exact_numbers
 from .narrowed import Part, at, fixed, narrowed, reduced_costs
-from .counted import Counted, Marked, Pair, solved
 
 # Rounded costs have so many bits.
 _BITS = GREATEST_COST.bit_length() - 1

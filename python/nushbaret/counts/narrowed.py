@@ -41,8 +41,8 @@ class Part(NamedTuple):
     def numbers(self, rows: Sequence[int], columns: Sequence[int], whole: Counted) -> Tuple[List[int], List[int]]:
         """The greater problem's numbers of rows and columns, by those of this one; 0 for what isn't here. Where a row
         is two rows it has the number of the one that isn't forced: in a group of which it must take one, only
-        differences of pairs count. What has more than its least count has no number above 0; it takes none of this
-        problem's pairs where it had one, so that a lower number proves as much."""
+        differences of pairs count. What is over its least count by what is taken must have no number above 0. Where it
+        has one here it takes none of this problem's pairs, and at 0 the e of these only grow."""
         of_rows, of_columns = [0] * len(whole.row_bounds), [0] * len(whole.column_bounds)
         for row, number in enumerate(rows):
             if row not in self.forced:

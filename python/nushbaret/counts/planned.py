@@ -3,12 +3,12 @@ from heapq import heappop, heappush
 from typing import Any, Collection, Dict, FrozenSet, Iterator, List, NamedTuple, Optional, Sequence, Set, Tuple
 
 from ..rows.certificate_check import shows
+from .count_levels import Given, Levelled, best_of
 from .count_rows import Shown, certificate_of_best, check_lacks
+from .counted import Bounds, Counted, Marked, Pair, show_progress
 from .exchanges import Exchanges, Other, exchanges_of, free_pairs, next_plan
 from .lack import Cut, Lack, cut_of, lacks_of
-from .count_levels import Given, Levelled, best_of
 from .narrowed import Part, fixed, narrowed, reduced_costs, settled, whole
-from .counted import Bounds, Counted, Marked, Pair, show_progress
 
 
 class Plans(NamedTuple):
