@@ -38,18 +38,18 @@ class Part(NamedTuple):
             found[place] = is_chosen
         return found
 
-    def numbers(self, rows: Sequence[int], columns: Sequence[int], whole: Counted) -> Tuple[List[int], List[int]]:
-        """The greater problem's numbers of rows and columns, by those of this one; 0 for what isn't here. Where a row
-        is two rows it has the number of the one that isn't forced: in a group of which it must take one, only
+    def numbers(self, rows: Sequence[int], columns: Sequence[int], others: Sequence[Sequence[int]]) -> List[List[int]]:
+        """The greater problem's numbers of rows and columns, by those of this one and `others` of them. Where a row is
+        two rows it has the number of the one that isn't forced: in a group of which it must take one, only
         differences of pairs count. What is over its least count by what is taken must have no number above 0. Where it
         has one here it takes none of this problem's pairs, and at 0 the e of these only grow."""
-        of_rows, of_columns = [0] * len(whole.row_bounds), [0] * len(whole.column_bounds)
+        of_rows, of_columns = list(others[0]), list(others[1])
         for row, number in enumerate(rows):
             if row not in self.forced:
                 of_rows[self.of_rows[row]] = min(number, 0) if row in self.over[0] else number
         for column, number in enumerate(columns):
             of_columns[self.of_columns[column]] = min(number, 0) if column in self.over[1] else number
-        return of_rows, of_columns
+        return [of_rows, of_columns]
 
 
 def whole(counted: Counted) -> Part:

@@ -40,8 +40,9 @@ class Plans(NamedTuple):
 
     def shown(self) -> Shown:
         """The best plan with its numbers, as a certificate shows it."""
-        best = self.best
-        return Shown(self.pairs(), *self.part.numbers(best.row_numbers, best.column_numbers, self.problem), self.cut)
+        others = [0] * len(self.problem.row_bounds), [0] * len(self.problem.column_bounds)
+        rows, columns = self.part.numbers(self.best.row_numbers, self.best.column_numbers, others)
+        return Shown(self.pairs(), rows, columns, self.cut)
 
 
 class Planned(NamedTuple):
