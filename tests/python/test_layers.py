@@ -12,7 +12,7 @@ OF_OTHER_FOLDERS = {
     # What several files of tests share.
     "commands": "roster.command",
     "drawn_rules": "roster.month roster.roster roster.rules.rule_file roster.times_of_day",
-    "row_models": "rows.certificates rows.finding rows.highs rows.model rows.prover rows.times rows.worker",
+    "row_models": "rows.certificates rows.finding rows.highs rows.model rows.prover rows.worker",
     "ways": "api.solve lap.direct lap.library",
     # They count or replace calls below the public one: of levels, checks, searches and the library.
     "api.test_forms": "costs.kinds costs.problem lap.levels",

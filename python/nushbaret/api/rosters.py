@@ -15,6 +15,7 @@ from ..roster.rules.roster_model import OwnRow
 from ..roster.rules.rule_file import RuleLine, Rules, rules_of
 from ..roster.rules.stages import Proved, Task, answer_by_rules
 from ..roster.rules.unruled import days_in_order, kinds_alike, left_out, other_holidays, without_day, without_kind
+from .shown import frame_of
 from ..rows.model import Certificate
 
 Named = Tuple[str, str]
@@ -46,6 +47,8 @@ class RosterPlan(NamedTuple):
     certificate : Certificate or None
         What proves the answer, for `write_certificate`.
 
+    Examples
+    --------
     >>> import nushbaret
     >>> nushbaret.RosterPlan._fields[:4]
     ('proved', 'pairs', 'cost', 'better')
@@ -59,6 +62,11 @@ class RosterPlan(NamedTuple):
     is_minimal: bool
     even: List[Tuple[str, int, int]]
     certificate: Optional[Certificate]
+
+    def to_frame(self) -> Any:
+        """The pairs as a DataFrame of pandas, which must be installed, with the columns row and column: persons and
+        objects. It has no rows where there is no plan."""
+        return frame_of(self.pairs or [], None)
 
     def write_certificate(self, path: str) -> None:
         """Writes what proves the answer; `nushbaret --check FILE` checks it alone.
@@ -128,6 +136,8 @@ def plan_roster(costs: Mapping[Named, Any], days: Mapping[str, Union[str, date]]
         without a cost or at a holiday on another day; kinds differ in case or spaces alone; or days that aren't dates
         have other days of the week than their order.
 
+    Examples
+    --------
     >>> import nushbaret
     >>> try:
     ...     nushbaret.plan_roster({("Ada", "Early Mon"): 1}, {"Early Mon": "Mon"}, [("rest", "Late > Early")])

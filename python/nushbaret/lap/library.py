@@ -33,6 +33,8 @@ PATHS = (_PACKAGE / NAME, _PACKAGE.parent.parent / "c" / "out" / _FOLDER / NAME)
 class LibraryNotFound(OSError):
     """The shared library is missing, or it is of another version; the text says which command builds it.
 
+    Examples
+    --------
     >>> import nushbaret
     >>> issubclass(nushbaret.LibraryNotFound, OSError)
     True

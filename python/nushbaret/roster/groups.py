@@ -30,7 +30,8 @@ def read_counts(path: str, roster: Roster, of_objects: bool) -> Counts:
 
     Raises `RosterFault` for the first name that the roster doesn't have or that stands twice, number that is none from
     0 to 4194304, or least number that is greater than the most. Objects whose titles say so also have how many they
-    should take, and a price for each that is missing.
+    should take, and a price for each that is missing. In a roster by days a line of a shift's kind is for each of its
+    days that has no line of its own.
     """
     sheet = Sheet(path, reading=roster.reading)
     line, title = sheet.title()
@@ -45,8 +46,13 @@ def read_counts(path: str, roster: Roster, of_objects: bool) -> Counts:
     limit = len(roster.persons if of_objects else roster.objects)
     teams: Dict[Tuple[str, str], List[int]] = {}
     first = len(title) if of_objects else _first_team(sheet, title)
+    of_kinds: Dict[str, Bounds] = {}
     for line, cells in _lines(sheet, len(title), first):
         others, cells = (cells[first:], cells[:first]) if first < len(title) else ([], cells)
+        if of_objects and _is_kind(roster, cells[0]) and cells[0] not in of_kinds:
+            of_kinds[cells[0]] = _bounds(sheet, cells[1:], limit, line)
+            are_ranges = are_ranges or len(cells) == 3
+            continue
         number = known(sheet, roster, cells[0], line, 2 if of_objects else 1, 1)
         if number in bounds:
             sheet.refuse(f"the name {quoted(cells[0])} a second time", line, 1)
@@ -55,7 +61,16 @@ def read_counts(path: str, roster: Roster, of_objects: bool) -> Counts:
         for column, name in zip(title[first:], others):
             if column and name:
                 teams.setdefault((column, name), []).append(number)
+    if roster.groups is not None:
+        for number, kind in roster.groups.kinds.items():
+            bounds.update({number: of_kinds[kind]} if kind in of_kinds and number not in bounds else {})
     return Counts(bounds, are_ranges, path, teams=teams)
+
+
+def _is_kind(roster: Roster, name: str) -> bool:
+    """Whether a name is a kind of a roster by days, and no object."""
+    return (roster.groups is not None and name not in roster.object_numbers
+            and name in roster.groups.kinds.values())
 
 
 def _first_team(sheet: Sheet, title: Sequence[str]) -> int:
@@ -276,7 +291,8 @@ def with_rules(roster: Roster, tasks: Optional[Counts], capacities: Optional[Cou
     of_persons, of_objects = ({number: Bounds(0, bound.most) if are_sums else bound
                                for number, bound in counts.bounds.items()} if counts else {}
                               for counts in (tasks, capacities))
-    return roster._replace(takes=Takes(of_persons, of_objects, are_sums) if given else None, groups=groups,
+    return roster._replace(takes=Takes(of_persons, of_objects, are_sums) if given else None,
+                           groups=groups or roster.groups,
                            wanted=capacities.wanted if capacities else {}, teams=tasks.teams if tasks else {})
 
 

@@ -14,6 +14,7 @@ from ..sheets import SEPARATORS
 from ..words import Options
 
 if TYPE_CHECKING:
+    from ..rules.ruling import Ruling
     from ..rules.stages import Proved
 
 
@@ -34,8 +35,8 @@ class Hand(NamedTuple):
 
 
 class Report(NamedTuple):
-    """All that is said of a run: what was asked for, the answer, the plans that were read, what fairness costs, and
-    what was proved of a roster with rules."""
+    """All that is said of a run: what was asked for, the answer, the plans that were read, what fairness costs, what
+    was proved of a roster with rules, and the rules."""
 
     options: Options
     roster: Roster
@@ -44,6 +45,7 @@ class Report(NamedTuple):
     hand: Optional[Hand] = None
     fair: Optional[Fair] = None
     proved: Optional["Proved"] = None
+    ruling: Optional["Ruling"] = None
 
     @property
     def alarms(self) -> int:
@@ -225,8 +227,8 @@ def notes_of(report: Report, plan: NamedPlan) -> List[Note]:
     """Other plans, the rents, and how the plan compares with plans that were read."""
     roster, options = report.roster, report.options
     notes = [fairness(report, report.fair)] if report.fair else []
-    notes += others(report, plan) if report.proved is None else _of_rules(report, report.proved)
-    if options.plans > 1:
+    notes += others(report, plan) if report.proved is None else _of_rules(report, plan, report.proved)
+    if options.plans > 1 and report.proved is None:
         notes += [_difference(report, plan, other, f"plan {number}") for number, other in enumerate(plan.following, 2)]
     if options.rents:
         notes += [Note(f"rent of {roster.objects[number]}: {roster.shown(rent)}")
@@ -235,14 +237,16 @@ def notes_of(report: Report, plan: NamedPlan) -> List[Note]:
     return notes + broken_rules(report.hand) + ([compared(report, plan, report.hand)] if report.hand else [])
 
 
-def _of_rules(report: Report, proved: "Proved") -> List[Note]:
-    """How even counts are, and whether fewer changes may be enough."""
-    from .rule_texts import even_lines, missed_lines
+def _of_rules(report: Report, plan: NamedPlan, proved: "Proved") -> List[Note]:
+    """How even counts are, whether fewer changes may be enough, and the next plans."""
+    from .rule_texts import even_lines, following_lines, missed_lines
     missed = missed_lines(report.roster, proved)
     fewer = ([Note(f"{shown_path(report.kept.path)}: fewer changes may be enough")]
              if report.kept and proved.fewer_changes else [])
     return [*([Note(missed[0], missed[1:])] if missed else []),
-            *map(Note, even_lines(report.roster, proved, report.options.max)), *fewer]
+            *map(Note, even_lines(report.roster, proved, report.options.max)), *fewer,
+            *(Note(line, there(report.roster, before, plan.pairs) if plan else ())
+              for line, before, plan in following_lines(report.roster, plan, proved, report.options))]
 
 
 def rows_of(roster: Roster, plan: NamedPlan) -> List[str]:
@@ -316,10 +320,10 @@ def _difference(report: Report, plan: NamedPlan, other: NamedPlan, name: str, ma
     more = abs(other.cost - plan.cost)
     cost = f"{roster.shown(other.cost)}, " + (f"{roster.shown(more)} {'less' if report.options.max else 'more'}" if more
                                               else "as good")
-    return Note(f"{name}{mark}{cost}", _there(roster, plan, other.pairs))
+    return Note(f"{name}{mark}{cost}", there(roster, plan, other.pairs))
 
 
-def _there(roster: Roster, plan: NamedPlan, pairs: Sequence[Pair]) -> List[str]:
+def there(roster: Roster, plan: NamedPlan, pairs: Sequence[Pair]) -> List[str]:
     """What each person has in another plan that it hasn't in the plan; that it has nothing there; and where names
     count, what it hasn't."""
     own, others = ({(pair.person, pair.object) for pair in those} for those in (plan.pairs, pairs))
