@@ -3,7 +3,7 @@ from typing import Any, List, NamedTuple, Optional, Tuple
 
 import numpy
 
-from ..api.verdicts import Verdict
+from ..api.results import Verdict
 from . import blocks, bounds
 from .calls import options_of, prices_of
 from .core import Duals, Form
