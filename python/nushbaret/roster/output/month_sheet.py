@@ -15,6 +15,8 @@ from .texts import Report
 # So many days make a month, and so many letters tell kinds apart.
 LEAST_DAYS, MOST_DAYS = 8, 62
 MOST_KINDS = 12
+# A sheet of paper has no more persons.
+MOST_PERSONS = 150
 _ALPHABET = "ABCDEFGHIJKLMNOPQRSTUVWXYZ"
 
 
@@ -67,6 +69,7 @@ def month_sheet(report: Report, plan: NamedPlan) -> Optional[MonthSheet]:
                if day.has_objects and day.group is not None]
     kinds = list(dict.fromkeys(row.label for block in blocks for row in block.objects))
     is_sheet = LEAST_DAYS <= len(columns) <= MOST_DAYS and len(kinds) <= MOST_KINDS
+    is_sheet = is_sheet and len(roster.persons) <= MOST_PERSONS
     if not is_sheet or any(day.group is None for block in blocks for day in block.days if day.has_objects):
         return None
     days = [_with_holiday(report.ruling, roster, block.days[column]) for block, column in columns]

@@ -113,8 +113,10 @@ def _write_legend(sheet: Any, looks: _Looks, found: MonthSheet, colours: Dict[st
 def _size(sheet: Any, found: MonthSheet) -> None:
     """Widths, and one page of A4 across."""
     sheet.column_dimensions["A"].width = _NAME_WIDTH
+    texts = [cell.text for _, staff in found.staff for cell in staff if cell is not None]
+    day_width = max(_DAY_WIDTH, _LETTER_WIDTH * max(map(len, texts), default=0))
     for column in range(2, len(found.days) + 2):
-        sheet.column_dimensions[letter(column)].width = _DAY_WIDTH
+        sheet.column_dimensions[letter(column)].width = day_width
     for column, own in enumerate(found.columns, len(found.days) + 2):
         width = max(map(len, [own.title, *own.texts]))
         sheet.column_dimensions[letter(column)].width = _DAY_WIDTH + _LETTER_WIDTH * max(0, width - 3)
