@@ -20,7 +20,7 @@ TASKS = dict.fromkeys(WISHES, (2, 4))
 REFUSED = (({"rules": [("resst", "Night > Early")]}, ValueError, "rules, line 1, column 1: 'resst' is no rule: did you "
             "mean 'rest'?"), ({"rules": [*RULES, ("apart", "", ["Ada", "Bne"])]}, ValueError,
                               "rules, line 3, column 3: the roster has no person 'Bne': did you mean 'Ben'?"),
-           ({"rules": ["rest"]}, ValueError, "rules: 'rest' is no rule, value and names"),
+           ({"rules": ["rest"]}, ValueError, "rules: 'rest' is no rule, value, names and price"),
            ({"seconds": "60"}, TypeError, "seconds is '60': it must be a number of seconds"),
            ({"seconds": -1}, ValueError, "seconds is -1: it must be a number of seconds, 0 or more"),
            ({"seconds": float("nan")}, ValueError, "seconds is nan: it must be a number of seconds, 0 or more"),

@@ -169,8 +169,8 @@ class Days(Runs):
         book.save("p.xlsx")
         self.assertEqual(self.run_words(*WORDS, "--keep", "p.xlsx")[2], "")
         self.assertIn("p.xlsx: no pair changes", self.run_words(*WORDS, "--keep", "p.xlsx")[1])
-        self.refused(3, "(in the sheet 'Month' of 'Month', 'Persons', 'Days', 'Left out', 'Matrix', 'Plan': p.xlsx#SHEET "
-                     "reads another)", "p.xlsx", "--lines")
+        self.refused(3, "(in the sheet 'Month' of 'Month', 'Persons', 'Days', 'Left out', 'Matrix', 'Plan': "
+                     "p.xlsx#SHEET reads another)", "p.xlsx", "--lines")
         self.assertEqual(self.run_words("p.xlsx#Left out")[0], 3)
 
     def test_without_groups(self):

@@ -80,8 +80,9 @@ def _write_cell(sheet: Any, looks: _Looks, row: int, column: int, found: MonthSh
     number = colours[cell.entries[0].label] if cell.entries else len(_KINDS)
     is_gone = not cell.entries and bool(cell.gone)
     text = " ".join(found.letters.get(label, label[:1]) for label in cell.gone) if is_gone else found.text(cell)
-    own = looks.put(sheet, row, column, text or ("\u00d7" if cell.is_off else ""), day.is_weekend, bold=bool(cell.entries),
-                    strike=is_gone, italic=day.is_past, color="FFFFFFFF" if number == _DARK else None,
+    own = looks.put(sheet, row, column, text or ("\u00d7" if cell.is_off else ""), day.is_weekend,
+                    bold=bool(cell.entries), strike=is_gone, italic=day.is_past,
+                    color="FFFFFFFF" if number == _DARK else None,
                     underline="single" if any(entry.is_fixed for entry in cell.entries) else None)
     if number < len(_KINDS):
         own.fill = looks.fill(_KINDS[number])
