@@ -109,8 +109,7 @@ def _wanted(roster: Roster, object_: int) -> Optional[int]:
     """How many are wanted, or needed at least; None where nothing says it."""
     if object_ in roster.wanted:
         return roster.wanted[object_].number
-    takes = roster.takes
-    return None if takes is None or takes.are_sums else takes.objects[object_].least if object_ in takes.objects else 1
+    return roster.of_object(object_).least if roster.has_bounds else None
 
 
 def _columns(report: Report, plan: NamedPlan, days: Sequence[Day], kinds: Sequence[str],
