@@ -38,11 +38,11 @@ class Plans(NamedTuple):
         for other in _plans_after(self.part.counted, self.best):
             yield Other(other.more, set(self.part.pairs(self.problem, other.pairs)))
 
-    def shown(self) -> Shown:
-        """The best plan with its numbers, as a certificate shows it."""
+    def shown(self, factor: int = 1) -> Shown:
+        """The best plan with its numbers, each times a factor, as a certificate shows it."""
         others = [0] * len(self.problem.row_bounds), [0] * len(self.problem.column_bounds)
         rows, columns = self.part.numbers(self.best.row_numbers, self.best.column_numbers, others)
-        return Shown(self.pairs(), rows, columns, self.cut)
+        return Shown(self.pairs(), [factor * row for row in rows], [factor * column for column in columns], self.cut)
 
 
 class Planned(NamedTuple):
@@ -74,7 +74,8 @@ def planned(counted: Counted, partial: bool, given: Optional[Given] = None) -> P
                            "problem")
     plans = Plans(counted, part, found, cut)
     show_progress(counted, part.plan(found.plan, len(counted.rows)))
-    if given is None and not shows(certificate_of_best(counted, lacks, plans.shown())):
+    costs, factor = (counted.costs, 1) if given is None else given.whole(found.denominator)
+    if not shows(certificate_of_best(counted._replace(costs=costs), lacks, plans.shown(factor))):
         raise RuntimeError("a plan was found to be the best by its counts, and the check of these doesn't show it: "
                            "please report this problem")
     return Planned(lacks, plans)
@@ -83,8 +84,9 @@ def planned(counted: Counted, partial: bool, given: Optional[Given] = None) -> P
 def with_fewest_changes(plans: Plans, kept: Collection[Pair]) -> Plans:
     """The same with a best plan of the fewest changes: pairs that aren't kept, and kept ones that it doesn't have."""
     counted, best = plans.part.counted.listed(), plans.best
-    face = narrowed(counted, reduced_costs(counted, counted.costs, best.row_numbers, best.column_numbers), 0,
-                    fixed(counted.row_bounds, best.row_numbers, 0), fixed(counted.column_bounds, best.column_numbers, 0))
+    rows, columns = best.row_numbers, best.column_numbers
+    face = narrowed(counted, reduced_costs(counted, counted.costs, rows, columns), 0,
+                    fixed(counted.row_bounds, rows, 0), fixed(counted.column_bounds, columns, 0))
     named = plans.part.named((counted.rows[place], counted.columns[place]) for place in face.places)
     found = best_of(face.counted._replace(costs=[-1 if pair in kept else 1 for pair in named]), None, True)
     if isinstance(found, Marked):

@@ -269,6 +269,8 @@ class Words(unittest.TestCase):
         self.assertEqual(repr(partial), "<nushbaret.CountsResult: cost 6, 3 pairs>")
         self.assertEqual(pickle.loads(pickle.dumps(partial)).pairs, partial.pairs)
         self.assertEqual((partial.row_numbers, partial.column_numbers), (None, None))
+        with self.assertRaisesRegex(pickle.UnpicklingError, "a release before 5.1 pickled this result"):
+            partial.__setstate__({"rows": [], "columns": [], "cost": 5, "_found": []})
         with self.assertRaises(AttributeError):
             partial.cost = 5
 
