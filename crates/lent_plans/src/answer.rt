@@ -7,7 +7,7 @@ ghost use Rattle.lent_plans.specs.Answers.{IsAnswer, IsOtherOptimum};
 use cost_lists::{CostLists, Object, Price};
 use exact_checker::{Verdict, check};
 use plan_checker::{Rank, are_ranked};
-use plan_search::{Found, search};
+use plan_search::{Found, find_other};
 use std::alloc::{AllocError, Global};
 
 /// Whether a plan is the only best one.
@@ -75,7 +75,7 @@ fn answer_of(
 }
 
 /// Whether the plan that these objects and prices are is the only best one.
-pub fn answer(
+pub fn decide(
     alloc: Global,
     lists: &CostLists<'_>,
     objects: &[Object],
@@ -87,6 +87,6 @@ pub fn answer(
     if verdict != Verdict::Yes {
         return Ok(Answer::Refused(verdict));
     }
-    let found = search(alloc, lists, objects, prices)?;
+    let found = find_other(alloc, lists, objects, prices)?;
     answer_of(alloc, lists, objects, prices, found)
 }

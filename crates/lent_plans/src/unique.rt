@@ -4,7 +4,7 @@ ghost use Rattle.lent_lists.specs.Given.{HasLengths};
 ghost use Rattle.lent_plans.specs.Answers.{IsAnswer};
 ghost use Rattle.lent_plans.specs.Unique.{IsUniqueShown, JudgesUnique};
 
-use super::answer::{Answer, answer};
+use super::answer::{Answer, decide};
 use cost_lists::{CostLists, Object, Price, exact_means_best};
 use lent_lists::{Fault, Given, Info, judge, lists_of, refuse, report_verdict};
 use plan_checker::{Rank, ranks_mean_only};
@@ -68,7 +68,7 @@ pub fn unique_on(
         Err(fault) => return refuse(fault, info),
     };
     let lists = lists_of(shape, given);
-    match answer(alloc, &lists, objects, prices) {
+    match decide(alloc, &lists, objects, prices) {
         Ok(found) => put_answer(&lists, objects, prices, &found, other, ranks, info),
         Err(_) => refuse(Fault::Memory, info),
     }

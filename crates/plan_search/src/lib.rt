@@ -3,9 +3,9 @@
 //! nothing: `plan_checker` checks it.
 #![tactic(auto)]
 
-mod core;
+mod arcs;
 mod search;
 mod values;
 mod walk;
 
-pub use search::{Found, search};
+pub use search::{Found, find_other};

@@ -1,7 +1,7 @@
 // The search for another plan.
 ghost use Rattle.std.specs.Prelude.{◌≡◌, length};
 
-use super::core::{Core, core_of};
+use super::arcs::{Arcs, arcs_of};
 use super::values::set_value;
 use super::walk::Walk;
 use cost_lists::{CostLists, Object, Price};
@@ -19,15 +19,15 @@ pub enum Found {
 // The plan after each person of the cycle that an object closes took the next object on the way.
 fn other_plan(
     alloc: Global,
-    core: &Core,
+    arcs: &Arcs,
     walk: &Walk,
     objects: &[Object],
     closing: Object,
 ) -> Result<Vec<Object>, AllocError> {
     let mut other = Vec::from_slice(alloc, objects)?;
-    let end = core.owner(closing);
+    let end = arcs.owner(closing);
     for node in walk.path().iter().rev() {
-        if let Some(object) = walk.taken(core, *node) {
+        if let Some(object) = walk.taken(arcs, *node) {
             set_value(other.as_mut_slice(), *node, object);
         }
         if *node == end {
@@ -38,13 +38,19 @@ fn other_plan(
 }
 
 // The rank of each object: how long its owner was left before the node of unowned objects.
-fn ranks_of(alloc: Global, core: &Core, walk: &Walk, n: usize, m: usize) -> Result<Vec<i32>, AllocError> {
+fn ranks_of(
+    alloc: Global,
+    arcs: &Arcs,
+    walk: &Walk,
+    n: usize,
+    m: usize,
+) -> Result<Vec<i32>, AllocError> {
     let mut ranks = Vec::new(alloc);
     let last = walk.left(n);
     let mut object: Object = 0;
     for _ in 0..m {
         object = object.wrapping_add(1);
-        ranks.push(last.wrapping_sub(walk.left(core.owner(object))))?;
+        ranks.push(last.wrapping_sub(walk.left(arcs.owner(object))))?;
     }
     Ok(ranks)
 }
@@ -56,7 +62,7 @@ fn ranks_of(alloc: Global, core: &Core, walk: &Walk, n: usize, m: usize) -> Resu
 ///
 /// # Errors
 /// `AllocError` if memory is refused.
-pub fn search(
+pub fn find_other(
     alloc: Global,
     lists: &CostLists<'_>,
     objects: &[Object],
@@ -65,14 +71,14 @@ pub fn search(
     requires { length objects.now ≡ length lists.now.rows }
 {
     let mut own = lists.own_costs(alloc, objects)?;
-    let core = core_of(alloc, lists, own.as_mut_slice(), objects, prices)?;
+    let arcs = arcs_of(alloc, lists, own.as_mut_slice(), objects, prices)?;
     let nodes = objects.len().wrapping_add(1);
     let mut walk = Walk::new(alloc, nodes)?;
     for node in 0..nodes {
-        if let Some(object) = walk.go(&core, node)? {
-            return Ok(Found::Other(other_plan(alloc, &core, &walk, objects, object)?));
+        if let Some(object) = walk.go(&arcs, node)? {
+            return Ok(Found::Other(other_plan(alloc, &arcs, &walk, objects, object)?));
         }
     }
     let (n, m) = (objects.len(), prices.len());
-    Ok(Found::Ranks(ranks_of(alloc, &core, &walk, n, m)?))
+    Ok(Found::Ranks(ranks_of(alloc, &arcs, &walk, n, m)?))
 }

@@ -1,5 +1,5 @@
-// A walk over the core, depth first, that stops at a cycle.
-use super::core::Core;
+// A walk over the arcs, depth first, that stops at a cycle.
+use super::arcs::Arcs;
 use super::values::{set_value, value_at};
 use cost_lists::Object;
 use std::alloc::{AllocError, Global};
@@ -40,15 +40,18 @@ impl Walk {
     }
 
     /// The object of the arc by which the path goes on from a node.
-    pub fn taken(&self, core: &Core, node: usize) -> Option<Object> {
-        core.object(node, value_at(self.next.as_slice(), node, 0).wrapping_sub(1))
+    pub fn taken(&self, arcs: &Arcs, node: usize) -> Option<Object> {
+        arcs.object(
+            node,
+            value_at(self.next.as_slice(), node, 0).wrapping_sub(1),
+        )
     }
 
     // Puts a node at the end of the path.
-    fn enter(&mut self, core: &Core, node: usize) -> Result<(), AllocError> {
+    fn enter(&mut self, arcs: &Arcs, node: usize) -> Result<(), AllocError> {
         self.path.push(node)?;
         set_value(self.is_on.as_mut_slice(), node, true);
-        set_value(self.next.as_mut_slice(), node, core.start(node));
+        set_value(self.next.as_mut_slice(), node, arcs.start(node));
         Ok(())
     }
 
@@ -61,34 +64,34 @@ impl Walk {
     }
 
     // The next arc of a node.
-    fn step(&mut self, core: &Core, node: usize) -> Option<Object> {
+    fn step(&mut self, arcs: &Arcs, node: usize) -> Option<Object> {
         let arc = value_at(self.next.as_slice(), node, 0);
-        let object = core.object(node, arc)?;
+        let object = arcs.object(node, arc)?;
         set_value(self.next.as_mut_slice(), node, arc.wrapping_add(1));
         Some(object)
     }
 
     /// Walks from a node until all that it reaches was left, or up to the first arc to a node of the path,
     /// and returns its object.
-    pub fn go(&mut self, core: &Core, from: usize) -> Result<Option<Object>, AllocError> {
+    pub fn go(&mut self, arcs: &Arcs, from: usize) -> Result<Option<Object>, AllocError> {
         if self.left(from) != 0 {
             return Ok(None);
         }
-        self.enter(core, from)?;
-        for _ in 0..core.size() {
+        self.enter(arcs, from)?;
+        for _ in 0..arcs.size() {
             let Some(last) = self.path.last() else {
                 return Ok(None);
             };
             let node = *last;
-            match self.step(core, node) {
+            match self.step(arcs, node) {
                 None => self.leave(node),
                 Some(object) => {
-                    let owner = core.owner(object);
+                    let owner = arcs.owner(object);
                     if value_at(self.is_on.as_slice(), owner, false) {
                         return Ok(Some(object));
                     }
                     if self.left(owner) == 0 {
-                        self.enter(core, owner)?;
+                        self.enter(arcs, owner)?;
                     }
                 }
             }

@@ -8,7 +8,7 @@ use std::alloc::{AllocError, Global};
 /// person arcs go to the owners of the other objects of its core; from the last node to each person whose
 /// object has price 0.
 #[derive(Drop)]
-pub struct Core {
+pub struct Arcs {
     /// Where the arcs of each node begin, and where the last ones end.
     starts: Vec<usize>,
     /// The object of each arc.
@@ -17,7 +17,7 @@ pub struct Core {
     owners: Vec<usize>,
 }
 
-impl Core {
+impl Arcs {
     /// How many arcs and nodes there are.
     pub fn size(&self) -> usize {
         self.objects.len().wrapping_add(self.starts.len())
@@ -87,7 +87,7 @@ fn add_row(
 
 // The arcs of all persons, of rows of costs.
 fn add_rows(
-    core: &mut Core,
+    arcs: &mut Arcs,
     sense: Sense,
     costs: &[Cost],
     sums: &[Cost],
@@ -98,8 +98,8 @@ fn add_rows(
     for (sum, own) in sums.iter().zip(objects.iter()) {
         let (row, others) = rest.split_at(prices.len().min(rest.len()));
         rest = others;
-        core.starts.push(core.objects.len())?;
-        add_row(&mut core.objects, sense, row, prices, *sum, *own)?;
+        arcs.starts.push(arcs.objects.len())?;
+        add_row(&mut arcs.objects, sense, row, prices, *sum, *own)?;
     }
     Ok(())
 }
@@ -137,53 +137,57 @@ fn counts_of(alloc: Global, good: &[(usize, Object)], n: usize) -> Result<Vec<us
 }
 
 // The arcs of all persons, of pairs by persons.
-fn add_pairs(core: &mut Core, counts: &[usize], good: &[(usize, Object)]) -> Result<(), AllocError> {
+fn add_pairs(
+    arcs: &mut Arcs,
+    counts: &[usize],
+    good: &[(usize, Object)],
+) -> Result<(), AllocError> {
     let mut start = 0usize;
     for count in counts {
-        core.starts.push(start)?;
+        arcs.starts.push(start)?;
         start = start.wrapping_add(*count);
     }
     for (_, object) in good {
-        core.objects.push(*object)?;
+        arcs.objects.push(*object)?;
     }
     Ok(())
 }
 
 // The arcs of the last node.
-fn add_last(core: &mut Core, objects: &[Object], prices: &[Price]) -> Result<(), AllocError> {
-    core.starts.push(core.objects.len())?;
+fn add_last(arcs: &mut Arcs, objects: &[Object], prices: &[Price]) -> Result<(), AllocError> {
+    arcs.starts.push(arcs.objects.len())?;
     for object in objects {
         if value_at(prices, place_of(*object), 1) == 0 {
-            core.objects.push(*object)?;
+            arcs.objects.push(*object)?;
         }
     }
-    core.starts.push(core.objects.len())?;
+    arcs.starts.push(arcs.objects.len())?;
     Ok(())
 }
 
-/// The core of a plan with these own costs, turned so that less is better.
-pub fn core_of(
+/// The arcs of a plan with these own costs, turned so that less is better.
+pub fn arcs_of(
     alloc: Global,
     lists: &CostLists<'_>,
     own: &mut [Cost],
     objects: &[Object],
     prices: &[Price],
-) -> Result<Core, AllocError> {
+) -> Result<Arcs, AllocError> {
     let sense = lists.sense();
     own_sums(own, objects, prices);
-    let mut core = Core {
+    let mut arcs = Arcs {
         starts: Vec::new(alloc),
         objects: Vec::new(alloc),
         owners: owners_of(alloc, objects, prices.len())?,
     };
     match lists.source() {
-        Source::Dense(costs) => add_rows(&mut core, sense, costs, own, objects, prices)?,
+        Source::Dense(costs) => add_rows(&mut arcs, sense, costs, own, objects, prices)?,
         Source::Listed(pairs) => {
             let good = good_pairs(alloc, sense, pairs, own, objects, prices)?;
             let counts = counts_of(alloc, good.as_slice(), objects.len())?;
-            add_pairs(&mut core, counts.as_slice(), good.as_slice())?;
+            add_pairs(&mut arcs, counts.as_slice(), good.as_slice())?;
         }
     }
-    add_last(&mut core, objects, prices)?;
-    Ok(core)
+    add_last(&mut arcs, objects, prices)?;
+    Ok(arcs)
 }
