@@ -92,7 +92,7 @@ done
 cc=cc
 [ -z "$tools" ] || cc=${tools}gcc
 type -P "$cc" > /dev/null || stop "$cc isn't here${tools:+: Debian has it in gcc-aarch64-linux-gnu}"
-type -P rt > /dev/null || stop "the Rattle kit isn't on the path (docs/RATTLE.md)"
+type -P rt > /dev/null || stop "the Rattle kit isn't on the path (docs/CONTRIBUTING.md)"
 kit=$(dirname "$(rt doc)")
 work=$(mktemp -d)
 log=$work/log

@@ -22,7 +22,7 @@ type -P "$cc" > /dev/null || stop "$cc isn't here"
 work=$(mktemp -d)
 trap 'rm -rf "$work"' EXIT
 mkdir -p "$out"
-cd "$top/python"
+cd "$top/python/building"
 "$python" -c 'import sys, nushbaret_build as build
 build.compile_extension(*sys.argv[1:]) or sys.exit("c/build_extension.sh: " + build.NO_EXTENSION)' "$cc" "$work/_extension.abi3.so"
 mv "$work/_extension.abi3.so" "$out/"

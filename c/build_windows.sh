@@ -27,7 +27,7 @@ exported() {
     "$gnu-objdump" -p "$out/nushbaret.dll" | sed -n '/ RVA$/d; s/^\t\[ *[0-9]*\].* \([^ ]*\)$/\1/p'
 }
 
-type -P rt > /dev/null || stop "the Rattle kit isn't on the path (docs/RATTLE.md)"
+type -P rt > /dev/null || stop "the Rattle kit isn't on the path (docs/CONTRIBUTING.md)"
 type -P "$gnu-gcc" > /dev/null || stop "$gnu-gcc isn't here: Debian has it in gcc-mingw-w64-x86-64"
 [ -e "$module" ] || stop "c/out/module.ll isn't there: run c/build.sh first"
 clang=$(dirname "$(rt doc)")/toolchain/bin/clang

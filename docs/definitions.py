@@ -1,95 +1,124 @@
 #!/usr/bin/env python3
-"""Writes docs/DEFINITIONS.md from the comments above the definitions in crates/*/specs: docs/definitions.py.
+"""Prints a definition that a contract names, and those that it cites: docs/definitions.py [--deep] NAME [NAME ..].
 
-A page has a part for each crate in the order of crates.txt and a section for each public file of its specs. An item
-has the definitions that stand below one comment, and that comment. tests/pages.py compares the page with the sources.
+A definition stands in crates/*/specs with a comment above it. Each definition that it cites follows with its comment;
+with --deep its text too, and so on down to numbers and lists. Status 1: there is no definition of that name.
 """
+import glob
 import os
 import re
+import sys
+from typing import Dict, Iterator, List, NamedTuple, Optional, Tuple
 
 TOP = os.path.dirname(os.path.dirname(os.path.abspath(__file__)))
-PAGE = "docs/DEFINITIONS.md"
-WIDEST = 100
-DECLARED = re.compile(r"(?:abbrev |fn |law )?pub (?:record |data |abbrev )?(?P<name>[^\s:(]+)")
-START = """# Definitions
-
-This page lists every definition that the contract of a public call may name.
-`docs/definitions.py` makes it of the comments in `crates/*/specs`.
-
-Persons and objects are numbered from 1. Numbers are whole and unbounded. A *table* is a list of
-prices, that of object 1 first. Names with a capital letter are facts, relations or records of data;
-the others are functions.
-"""
+DECLARED = re.compile(r"(?:abbrev |fn |law )?pub (?!mod )(?:record |data |abbrev )?(?P<name>[^\s:(]+)")
+USE = re.compile(r"use Rattle\.(\w+)\.specs\.([\w.]+)\.\{([^}]*)\}")
+# What parts names within a definition.
+PARTS = re.compile(r"[\s(){}\[\],.;]+")
 
 
-def read(name):
-    with open(os.path.join(TOP, name), encoding="utf-8") as file:
-        return file.read().splitlines()
+class Definition(NamedTuple):
+    name: str
+    path: str
+    comment: str
+    text: str
 
 
-def crates():
-    lines = (line for line in read("crates.txt") if line and not line.startswith("#"))
-    return [line.split(":")[0].split()[0] for line in lines]
+class Specs(NamedTuple):
+    """One file: what it defines, and the file of each name that it takes from another one."""
+    definitions: Dict[str, Definition]
+    imported: Dict[str, str]
 
 
-def modules(crate):
-    """The public files of a crate's specs in the order of their list; the private definitions lie in `inside`."""
-    path = f"crates/{crate}/specs/Lib.antt"
-    if not os.path.exists(os.path.join(TOP, path)):
-        return []
-    names = [line.split()[2] for line in read(path) if line.startswith("pub mod ")]
-    return [name for name in names if name != "inside"]
+def paragraphs(lines: List[str]) -> Iterator[List[str]]:
+    held: List[str] = []
+    for line in [*lines, ""]:
+        if line.strip():
+            held.append(line)
+        elif held:
+            yield held
+            held = []
 
 
-def items(lines):
-    """Each comment of a file with the names that are declared below it; the first comment is the file's."""
-    found, comment = [], []
-    for line in lines:
-        if line.startswith("--"):
-            comment.append(line[2:].strip())
-            continue
-        declared = DECLARED.match(line)
-        if comment:
-            found.append((" ".join(comment), []))
-            comment = []
-        if declared and found:
-            found[-1][1].append(declared.group("name"))
+def defined(path: str, lines: List[str]) -> Dict[str, Definition]:
+    """Definitions by name. What follows a comment without one of its own shares it."""
+    found: Dict[str, Definition] = {}
+    comment = ""
+    for part in paragraphs(lines):
+        above = [line[2:].strip() for line in part if line.startswith("--")]
+        comment = " ".join(above) or comment
+        for line in part:
+            declared = DECLARED.match(line)
+            if declared:
+                code = "\n".join(line for line in part if not line.startswith("--"))
+                found[declared["name"]] = Definition(declared["name"], path, comment, code)
     return found
 
 
-def wrapped(text, indent):
-    """The text in lines that are narrow enough; names of code stay whole."""
-    lines, line = [], ""
-    for word in text.split():
-        if line and len(line) + 1 + len(word) > WIDEST:
-            lines.append(line)
-            line = indent + word
-        else:
-            line = f"{line} {word}" if line else word
-    return lines + [line]
+def imports(text: str) -> Dict[str, str]:
+    found = {}
+    for crate, module, names in USE.findall(text):
+        path = f"crates/{crate}/specs/{module.replace('.', '/')}.antt"
+        found.update({name.strip(): path for name in names.split(",") if os.path.exists(os.path.join(TOP, path))})
+    return found
 
 
-def section(crate, module):
-    """A file's section; a line without a link where it has no public definition."""
-    path = f"crates/{crate}/specs/{module}.antt"
-    found = items(read(path))
-    title = found[0][0] if found and not found[0][1] else ""
-    out = ["", *wrapped(f"**[{module}](../{path})** {title}".rstrip(), ""), ""]
-    for comment, names in found:
-        if names:
-            out += wrapped("- " + ", ".join(f"`{name}`" for name in names) + ": " + comment, "  ")
-    return out
+def read(path: str) -> Specs:
+    with open(os.path.join(TOP, path), encoding="utf-8") as file:
+        text = file.read()
+    return Specs(defined(path, text.splitlines()), imports(text))
 
 
-def page():
-    out = START.splitlines()
-    for crate in crates():
-        sections = [section(crate, module) for module in modules(crate)]
-        if sections:
-            out += ["", f"## `{crate}`"] + [line for part in sections for line in part]
-    return "\n".join(out) + "\n"
+def all_specs() -> Dict[str, Specs]:
+    paths = glob.glob(os.path.join(TOP, "crates/*/specs/**/*.antt"), recursive=True)
+    return {name: read(name) for name in sorted(os.path.relpath(path, TOP) for path in paths)}
+
+
+def cited(definition: Definition, specs: Dict[str, Specs]) -> List[Definition]:
+    """The house's definitions that the text names, in its order."""
+    here = specs[definition.path]
+    found = []
+    for word in dict.fromkeys(PARTS.split(definition.text)):
+        path: Optional[str] = definition.path if word in here.definitions else here.imported.get(word)
+        other = specs[path].definitions.get(word) if path in specs else None
+        if other and other != definition:
+            found.append(other)
+    return found
+
+
+def shown(definition: Definition) -> str:
+    return f"{definition.path}\n-- {definition.comment}\n{definition.text}\n"
+
+
+def with_cited(begin: List[Definition], specs: Dict[str, Specs]) -> Iterator[Tuple[Definition, List[Definition]]]:
+    """Each definition once, those cited after those that cite them."""
+    waiting, seen = list(begin), set()
+    while waiting:
+        definition = waiting.pop(0)
+        if definition not in seen:
+            seen.add(definition)
+            names = cited(definition, specs)
+            yield definition, names
+            waiting += names
+
+
+def main(words: List[str]) -> int:
+    names = [word for word in words if word != "--deep"]
+    specs = all_specs()
+    for name in names:
+        found = [held.definitions[name] for held in specs.values() if name in held.definitions]
+        if not found:
+            print(f"docs/definitions.py: no definition is named {name}", file=sys.stderr)
+            return 1
+        if "--deep" in words:
+            print("\n".join(shown(definition) for definition, _ in with_cited(found, specs)))
+            continue
+        for definition in found:
+            print(shown(definition))
+            for other in cited(definition, specs):
+                print(f"    {other.name}: {other.comment} ({other.path})")
+    return 0 if names else 2
 
 
 if __name__ == "__main__":
-    with open(os.path.join(TOP, PAGE), "w", encoding="utf-8") as file:
-        file.write(page())
+    sys.exit(main(sys.argv[1:]))

@@ -16,7 +16,7 @@ stop() {
     exit 1
 }
 
-type -P rt > /dev/null || stop "the Rattle kit isn't on the path (docs/RATTLE.md)"
+type -P rt > /dev/null || stop "the Rattle kit isn't on the path (docs/CONTRIBUTING.md)"
 [ -e "$module" ] || stop "c/out/module.ll isn't there: run c/build.sh first"
 clang=$(dirname "$(rt doc)")/toolchain/bin/clang
 work=$(mktemp -d)

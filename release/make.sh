@@ -210,7 +210,7 @@ package() {
 # wheel PLATFORM LIBRARY: the wheel, by the package's own backend, and what it holds in a folder.
 wheel() {
     local name=nushbaret-$version-py3-none-$1.whl
-    (cd "$top/python" && python3 -c 'import sys, nushbaret_build as build
+    (cd "$top/python/building" && python3 -c 'import sys, nushbaret_build as build
 if build.VERSION != sys.argv[2]:
     sys.exit("release/make.sh: python/pyproject.toml is of version %s, and VERSION is %s" % (build.VERSION, sys.argv[2]))
 build.PLATFORM = sys.argv[3]

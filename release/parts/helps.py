@@ -5,7 +5,8 @@ import subprocess
 import sys
 from typing import List, NamedTuple
 
-sys.path.insert(0, str(pathlib.Path(__file__).resolve().parents[2] / "python"))
+PYTHON = pathlib.Path(__file__).resolve().parents[2] / "python"
+sys.path[:0] = [str(PYTHON), str(PYTHON / "building")]
 import nushbaret_manual as manual
 from nushbaret_manual import Entry
 

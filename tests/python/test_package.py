@@ -23,7 +23,7 @@ SOLVES = ("import sys; sys.path.insert(0, sys.argv[1]); import nushbaret; print(
 
 
 def backend():
-    spec = importlib.util.spec_from_file_location("nushbaret_build", PYTHON / "nushbaret_build.py")
+    spec = importlib.util.spec_from_file_location("nushbaret_build", PYTHON / "building" / "nushbaret_build.py")
     module = importlib.util.module_from_spec(spec)
     spec.loader.exec_module(module)
     return module
@@ -80,8 +80,8 @@ class Package(unittest.TestCase):
         name = build.build_sdist(self.folder)
         subprocess.run(["tar", "-xzf", name], cwd=self.folder, check=True)
         again = subprocess.run([sys.executable, "-c",
-                                "import nushbaret_build; print(nushbaret_build.build_wheel('..'))"],
-                               cwd=self.folder / f"nushbaret-{build.VERSION}", capture_output=True, text=True,
+                                "import nushbaret_build; print(nushbaret_build.build_wheel('../..'))"],
+                               cwd=self.folder / f"nushbaret-{build.VERSION}" / "building", capture_output=True, text=True,
                                check=True)
         own, other = self.held(again.stdout.strip()), self.held(build.build_wheel(self.folder))
         self.assertEqual(own, other)

@@ -55,7 +55,7 @@ without_kit() {
     local script
     for script in prove page/build.sh c/build_windows.sh $(if has cc; then echo c/build.sh; fi); do
         "$top/$script" > "$work/log" 2>&1 && fail "$script succeeds without the kit"
-        [ "$(cat "$work/log")" = "$script: the Rattle kit isn't on the path (docs/RATTLE.md)" ] || fail "$script without the kit: $(cat "$work/log")"
+        [ "$(cat "$work/log")" = "$script: the Rattle kit isn't on the path (docs/CONTRIBUTING.md)" ] || fail "$script without the kit: $(cat "$work/log")"
     done
 }
 

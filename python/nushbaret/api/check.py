@@ -6,7 +6,7 @@ from ..costs import naming, reading as exact, source as sources
 from ..costs.numbers import exactly_less
 from ..costs.problem import AssignmentProblem, costs_of_pairs
 from ..costs.source import Source
-from ..lap.checking import counted
+from ..lap.plan_check import counted
 from ..lap.proved import read_prices
 from .results import Result
 from .solve import solve_problem

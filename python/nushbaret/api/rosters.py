@@ -8,13 +8,13 @@ from ..costs.numbers import Number, Ratio, in_unit, unit_of
 from ..costs.reading import exact_ratio
 from ..counts.nodes import Bounds
 from ..roster.answer import Request
-from ..roster.by_rules import Proved, Task, answer_by_rules
 from ..roster.month import Before, Month, month_of
 from ..roster.output.rule_texts import sentence_of
 from ..roster.roster import Earlier, Groups, PlanLine, Roster
-from ..roster.roster_rows import OwnRow
-from ..roster.rule_file import RuleLine, Rules, rules_of
-from ..roster.unruled import days_in_order, kinds_alike, left_out, other_holidays, without_day, without_kind
+from ..roster.rules.roster_model import OwnRow
+from ..roster.rules.rule_file import RuleLine, Rules, rules_of
+from ..roster.rules.stages import Proved, Task, answer_by_rules
+from ..roster.rules.unruled import days_in_order, kinds_alike, left_out, other_holidays, without_day, without_kind
 from ..rows.model import Certificate
 
 Named = Tuple[str, str]

@@ -3,7 +3,7 @@ from fractions import Fraction
 from typing import List, Optional, Sequence
 
 from ..costs.problem import AssignmentProblem
-from ..lap.checking import check_wholly
+from ..lap.plan_check import check_wholly
 
 
 class Verdict:

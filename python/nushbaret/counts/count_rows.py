@@ -8,7 +8,7 @@ from collections import Counter
 from itertools import chain
 from typing import Dict, List, NamedTuple, Sequence, Tuple
 
-from ..rows.check import shows
+from ..rows.certificate_check import shows
 from ..rows.model import Certificate, Leaf, Limits, Terms, flat
 from .exchanges import Exchanges
 from .lack import Lack

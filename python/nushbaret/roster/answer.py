@@ -11,9 +11,9 @@ from ..lap.ranking import plans_in_order
 from ..lap.solving import BestPlan, best_plan
 from .groups import missing_of, order_of
 from .names import NamesShown, joined, numbered
-from .nodes import (Edges, RosterNodes, Swap, changed, face_of, fewest_changes, is_only_one, least_costs,
-    nodes_without, problem_of, swaps_of)
 from .roster import PlanLine, Roster
+from .single_nodes import (Edges, RosterNodes, Swap, changed, face_of, fewest_changes, is_only_one, least_costs,
+    nodes_without, problem_of, swaps_of)
 
 MOST_NAMES_SHOWN = 20
 

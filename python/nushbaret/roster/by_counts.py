@@ -10,9 +10,9 @@ from ..counts.nodes import Bounds, Counted, TooManyNodes
 from ..counts.planned import planned
 from ..counts.ranked import plans_after
 from .answer import Answer, Request, ShortGroup, plan_of, plural, with_following
-from .nodes import Swap
 from .roster import PlanLine, Roster
 from .sentences import sentence_of
+from .single_nodes import Swap
 
 
 def answer_by_counts(roster: Roster, request: Request) -> Answer:

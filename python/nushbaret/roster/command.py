@@ -25,9 +25,9 @@ from .sheets import Reading, RosterFault, heading_of
 from .words import Options, WordsFault, read_words
 
 if TYPE_CHECKING:
-    from .by_rules import Proved
+    from .rules.stages import Proved
     from .past import Past
-    from .ruling import Ruling
+    from .rules.ruling import Ruling
 
 PLANNED, NONE, WORDS, REFUSED, DEVICE = range(5)
 UNDECIDED = 6
@@ -150,14 +150,14 @@ def _report(options: Options, roster: Roster) -> Report:
     proved: Optional["Proved"] = None
     try:
         if ruling is not None:
-            from .ruling import answered_by
+            from .rules.ruling import answered_by
             answer, proved = answered_by(ruling, roster, request, options)
         else:
             answer, fair = _answered(roster, request, options.fair)
     except TooLarge as fault:
         raise RosterFault(options.roster, str(fault)) from fault
     if hand is not None and answer.plan is not None:
-        from .rules import lack_of
+        from .rules.broken_rules import lack_of
         hand = hand._replace(best_lack=lack_of(roster, answer.plan.pairs, fixed))
     return Report(options, roster, answer, kept, hand, fair, proved)
 
@@ -166,18 +166,18 @@ def _read_rules(options: Options, roster: Roster) -> Optional["Ruling"]:
     """The rules of a file, if there is one."""
     if options.rules is None:
         return None
-    from .ruling import read_ruling
+    from .rules.ruling import read_ruling
     return read_ruling(options, roster, _say)
 
 
 def _read_hand(path: str, roster: Roster, fixed: List[PlanLine], ruling: Optional["Ruling"]) -> Hand:
     """The plan that is to be compared, and the rules that it breaks."""
-    from .rules import broken_rules, lack_of
+    from .rules.broken_rules import broken_rules, lack_of
     plan, repeated = read_hand_plan(path, roster)
     broken = broken_rules(roster, plan, repeated, fixed)
     missed = 0
     if ruling is not None:
-        from .ruling import broken_rules_of, missed_cost_of
+        from .rules.ruling import broken_rules_of, missed_cost_of
         pairs = [*plan.known, *(PlanLine(*pair, 0) for pair in plan.forbidden)]
         broken += broken_rules_of(ruling, roster, pairs)
         missed = missed_cost_of(ruling, roster, pairs)

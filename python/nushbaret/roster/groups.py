@@ -9,7 +9,7 @@ from .dates import spellings
 from .names import quoted
 from .roster import Earlier, Groups, PlanLine, Roster, Wanted, known, looks_like_number
 from .sheets import RosterFault, Sheet, item_of
-from .times import Times, columns_of, times_of
+from .times_of_day import Times, columns_of, times_of
 
 
 class Counts(NamedTuple):

@@ -17,7 +17,7 @@ from .dates import spellings
 from .names import quoted
 from .plan_json import NamedPair, plan_of_json
 from .sheets import Reading, RosterFault, Sheet, is_json, item_of
-from .times import Times
+from .times_of_day import Times
 
 LINES, MATRIX = "lines", "matrix"
 TITLES = ("person", "object", "cost")

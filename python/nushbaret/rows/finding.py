@@ -8,7 +8,7 @@ import sys
 import time
 from typing import Any, Callable, Dict, List, Optional, Sequence, Tuple
 
-from .check import meets, shows
+from .certificate_check import meets, shows
 from .model import Certificate, Conflict, Finding, Leaf, Limits, Model, Shortage, flat
 from .process import Worker
 from .times import Times

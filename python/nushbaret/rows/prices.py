@@ -9,9 +9,9 @@ import math
 import time
 from typing import Any, Callable, Dict, Iterator, List, NamedTuple, Optional, Sequence, Tuple
 
-from .blocks import PersonBlock, blocks_of, limits_of, matrix_of, side_of
 from .diagrams import TOO_MUCH, Diagram, cheapest, cheapest_with, diagram_of
 from .model import Limits, Model
+from .persons import PersonBlock, blocks_of, limits_of, matrix_of, side_of
 
 np: Any = importlib.import_module("numpy")
 optimize: Any = importlib.import_module("scipy.optimize")

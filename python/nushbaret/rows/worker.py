@@ -15,9 +15,9 @@ def main() -> None:
     channel.listen()
     model = unpacked(told["model"])
     if told["role"] == "plans":
-        from .plans import look_for_plans
+        from .highs import look_for_plans
         look_for_plans(model, channel, Times(time.monotonic(), told["seconds"], told["without"]))
     else:
-        from .bounds import look_for_bounds
+        from .prover import look_for_bounds
         look_for_bounds(model, channel, told["seconds"], told["sums"])
     channel.say(done=told["role"])

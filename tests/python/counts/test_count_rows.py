@@ -7,7 +7,7 @@ from unittest import mock
 import nushbaret
 from nushbaret.counts import count_rows as rows, planned as counts
 from nushbaret.counts.exchanges import exchanges_of
-from nushbaret.rows.check import shows, shows_here
+from nushbaret.rows.certificate_check import shows, shows_here
 import drawn
 import row_models as models
 from counts.test_counts import rosters

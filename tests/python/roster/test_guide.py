@@ -16,7 +16,7 @@ EXAMPLES = sorted(file.name for file in (TOP / "examples").glob("*.csv"))
 
 
 def module():
-    spec = importlib.util.spec_from_file_location("nushbaret_guide", TOP / "python" / "nushbaret_guide.py")
+    spec = importlib.util.spec_from_file_location("nushbaret_guide", TOP / "python" / "building" / "nushbaret_guide.py")
     found = importlib.util.module_from_spec(spec)
     spec.loader.exec_module(found)
     return found

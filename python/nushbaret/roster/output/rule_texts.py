@@ -2,11 +2,11 @@
 from typing import Callable, Dict, List, Optional
 
 from ..answer import NamedPlan
-from ..by_rules import BEST, BY_COUNTS, Proved, Reason, Why
 from ..names import MOST_NAMES, joined
 from ..roster import Roster, decimal_text
-from ..rules_kept import Missed
-from ..shortages import MOST_LINES
+from ..rules.rules_kept import Missed
+from ..rules.short_sums import MOST_LINES
+from ..rules.stages import BEST, BY_COUNTS, Proved, Reason, Why
 
 Content = Dict[str, object]
 

@@ -14,7 +14,7 @@ from ..sheets import SEPARATORS
 from ..words import Options
 
 if TYPE_CHECKING:
-    from ..by_rules import Proved
+    from ..rules.stages import Proved
 
 
 class Hand(NamedTuple):

@@ -2,20 +2,20 @@
 import time
 from typing import Callable, Dict, List, NamedTuple, Optional, Sequence, Tuple
 
-from ..counts.count_rows import certificate_of_best, certificate_of_lack, terms_of
-from ..counts.nodes import TooManyNodes
-from ..counts.planned import planned
-from ..rows.model import Certificate, Conflict, Finding, Row
-from .answer import Answer, NamedPlan, Request, plan_of
-from .by_counts import counted_of
-from .changes import full_pairs
-from .month import Month
-from .roster import Roster
-from .roster_rows import Built, OwnRow, built
-from .rule_even import even_counted, even_rules, start_of
+from ...counts.count_rows import certificate_of_best, certificate_of_lack, terms_of
+from ...counts.nodes import TooManyNodes
+from ...counts.planned import planned
+from ...rows.model import Certificate, Conflict, Finding, Row
+from ..answer import Answer, NamedPlan, Request, plan_of
+from ..by_counts import counted_of
+from ..changes import full_pairs
+from ..month import Month
+from ..roster import Roster
+from .evenness import even_counted, even_rules, start_of
+from .roster_model import Built, OwnRow, built
 from .rule_file import Rules
 from .rules_kept import Missed, broken_by, missed_by, plan_of as daily_plan_of
-from .shortages import MOST_LINES, PlacesSum, line_of, lines_of_lacks, shorts_of, sums_of
+from .short_sums import MOST_LINES, PlacesSum, line_of, lines_of_lacks, shorts_of, sums_of
 
 BEST, WITHIN, IMPOSSIBLE, UNDECIDED = "best", "within", "impossible", "undecided"
 # How sums are short: by counts alone, or with rules.
@@ -252,7 +252,7 @@ class _Stages:
         return max(0.1, (self._end - time.monotonic()) * share)
 
     def _find(self, goal: str, costs: Sequence[int], seconds: float) -> Finding:
-        from ..rows.finding import find
+        from ...rows.finding import find
         show = self.task.progress
 
         def named(done: str, cost: Optional[int], bound: Optional[int]) -> None:

@@ -12,8 +12,8 @@ from itertools import compress
 from operator import add
 from typing import Any, Collection, Dict, Iterator, List, NamedTuple, Optional, Sequence, Set, Tuple
 
-from ..costs.limits import GREATEST_COST, Numbers
 from ..costs.kinds import WholeNumbers
+from ..costs.limits import GREATEST_COST, Numbers
 from ..costs.problem import AssignmentProblem, TooLarge, of_whole_numbers
 from ..counts.graphs import strong_parts
 from ..lap.solving import BestPlan, best_plan

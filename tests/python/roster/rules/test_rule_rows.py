@@ -5,9 +5,9 @@ import unittest
 from collections import Counter
 
 from nushbaret.roster.roster import PlanLine
-from nushbaret.roster.rule_rows import Making, add_rules
-from nushbaret.roster.rules_kept import broken_by, missed_by, plan_of
-from nushbaret.roster.sums import Rows, Work
+from nushbaret.roster.rules.rule_rows import Making, add_rules
+from nushbaret.roster.rules.rules_kept import broken_by, missed_by, plan_of
+from nushbaret.roster.rules.sums import Rows, Work
 from drawn_rules import SHAPES, drawn_case
 
 

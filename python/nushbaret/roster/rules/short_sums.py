@@ -1,13 +1,13 @@
 """What is short in sums: how many places are needed in some days, and how many persons may take at most."""
 from typing import Dict, List, NamedTuple, Sequence, Set, Tuple
 
-from ..counts.lack import Lack
-from ..rows.model import Shortage
-from .answer import counted, plural
-from .month import Month
-from .names import MOST_NAMES, joined
-from .roster import Roster
-from .roster_rows import Built
+from ...counts.lack import Lack
+from ...rows.model import Shortage
+from ..answer import counted, plural
+from ..month import Month
+from ..names import MOST_NAMES, joined
+from ..roster import Roster
+from .roster_model import Built
 
 # So many lines are the answer at most, and so many rules are named in one.
 MOST_LINES = 6

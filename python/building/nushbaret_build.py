@@ -15,7 +15,8 @@ import tarfile
 import tempfile
 import zipfile
 
-TOP = pathlib.Path(__file__).resolve().parent
+HERE = pathlib.Path(__file__).resolve().parent
+TOP = HERE.parent
 PACKAGE = TOP / "nushbaret"
 BUILT = TOP.parent / "c" / "out"
 # The library for each kind of machine: where it is, after the package itself, and what makes it.
@@ -147,8 +148,7 @@ def _description():
 
 def _modules_here():
     """Lets modules next to this one be imported."""
-    if str(TOP) not in sys.path:
-        sys.path.insert(0, str(TOP))
+    sys.path[:0] = [str(folder) for folder in (HERE, TOP) if str(folder) not in sys.path]
 
 
 def _examples():
@@ -255,8 +255,8 @@ def build_editable(wheel_directory, config_settings=None, metadata_directory=Non
 def build_sdist(sdist_directory, config_settings=None):
     """The sources with the library next to them, so that a wheel can be made of them alone."""
     front = f"nushbaret-{VERSION}"
-    files = {name: TOP / name for name in ("pyproject.toml", "nushbaret_build.py", "nushbaret_guide.py",
-                                           "nushbaret_manual.py")}
+    files = {"pyproject.toml": TOP / "pyproject.toml"}
+    files.update({f"building/{file.name}": file for file in sorted(HERE.glob("*.py"))})
     files.update({f"extension/{file.name}": file for file in SOURCES})
     files.update({file.name: file for file in (*DESCRIPTIONS, *GUIDES, *RULES) if file.exists()})
     files.update({f"examples/{file.name}": file for file in _examples()})

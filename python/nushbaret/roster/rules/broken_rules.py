@@ -2,14 +2,14 @@
 from collections import Counter
 from typing import Dict, Iterator, List, Sequence, Tuple
 
-from .answer import counted
-from .by_counts import bounds_around
-from .changes import pairs_of
-from .groups import Broken, Missing, Paired, missing_of, order_of
-from .names import joined
-from .plan_json import NamedPair
-from .roster import OldPlan, PlanLine, Roster
-from .sheets import item_of
+from ..answer import counted
+from ..by_counts import bounds_around
+from ..changes import pairs_of
+from ..groups import Broken, Missing, Paired, missing_of, order_of
+from ..names import joined
+from ..plan_json import NamedPair
+from ..roster import OldPlan, PlanLine, Roster
+from ..sheets import item_of
 
 
 def broken_rules(roster: Roster, hand: OldPlan, repeated: Sequence[NamedPair],

@@ -7,7 +7,7 @@ from fractions import Fraction
 
 from nushbaret.roster.month import Before, month_of
 from nushbaret.roster.roster import Earlier, Groups
-from nushbaret.roster.rule_file import RuleLine, Rule, rules_of
+from nushbaret.roster.rules.rule_file import RuleLine, Rule, rules_of
 from nushbaret.roster.sheets import RosterFault
 from drawn_rules import roster_of
 

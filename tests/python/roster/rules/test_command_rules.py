@@ -4,11 +4,11 @@ import time
 import unittest
 from unittest import mock
 
-from nushbaret.roster import ruling
 from nushbaret.roster.answer import NamedPlan
-from nushbaret.roster.by_rules import Proved
 from nushbaret.roster.output import rule_texts
 from nushbaret.roster.roster import read_roster
+from nushbaret.roster.rules import ruling
+from nushbaret.roster.rules.stages import Proved
 from nushbaret.rows import finding
 from nushbaret.rows.model import Conflict, Finding
 from commands import Runs

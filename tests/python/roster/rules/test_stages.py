@@ -5,14 +5,14 @@ import random
 import unittest
 
 from nushbaret.roster.answer import Request
-from nushbaret.roster.by_rules import Task, answer_by_rules
 from nushbaret.roster.month import month_of
 from nushbaret.roster.roster import PlanLine, Wanted
-from nushbaret.roster.roster_rows import built
-from nushbaret.roster.rule_file import RuleLine, rules_of
-from nushbaret.roster.rules_kept import broken_by, missed_by, plan_of
-from nushbaret.roster.shortages import shorts_of, sums_of
-from nushbaret.rows.check import shows
+from nushbaret.roster.rules.roster_model import built
+from nushbaret.roster.rules.rule_file import RuleLine, rules_of
+from nushbaret.roster.rules.rules_kept import broken_by, missed_by, plan_of
+from nushbaret.roster.rules.short_sums import shorts_of, sums_of
+from nushbaret.roster.rules.stages import Task, answer_by_rules
+from nushbaret.rows.certificate_check import shows
 from nushbaret.rows.finding import find
 from nushbaret.rows.model import Model, Row
 from drawn_rules import SHAPES, drawn_lines, roster_of, with_earlier, with_past

@@ -3,16 +3,16 @@ import contextlib
 import sys
 from typing import Callable, Iterator, List, NamedTuple, Optional, Sequence, Tuple
 
-from .answer import Answer, Request
-from .by_rules import COSTS, Progress, Proved, Task, answer_by_rules
-from .groups import Broken, Paired
-from .interrupts import interrupts_raise
-from .month import Before, Month, month_of
-from .roster import Roster, named_pairs
+from ..answer import Answer, Request
+from ..groups import Broken, Paired
+from ..interrupts import interrupts_raise
+from ..month import Before, Month, month_of
+from ..roster import Roster, named_pairs
+from ..words import Options, WordsFault
 from .rule_file import Rules, read_rules
 from .rules_kept import broken_by, missed_by, plan_of
+from .stages import COSTS, Progress, Proved, Task, answer_by_rules
 from .unruled import days_in_order, kinds_alike, left_out, other_holidays, without_day, without_kind
-from .words import Options, WordsFault
 
 DEFAULT_SECONDS = 60
 

@@ -2,9 +2,9 @@
 from fractions import Fraction
 from typing import Callable, Dict, FrozenSet, Iterator, List, NamedTuple, Optional, Sequence, Set, Tuple
 
-from ..counts.nodes import Bounds
-from .month import NO_KIND, Month, Shift
-from .roster import Roster
+from ...counts.nodes import Bounds
+from ..month import NO_KIND, Month, Shift
+from ..roster import Roster
 from .rule_file import (AFTER, APART, COUNT, EVEN, FREE, HOURS, OFF, PAUSE, REST, RUN, STAFF, TOGETHER, WEEKEND_RUN,
     WEEKLY, WHOLE, WINDOW, Rule, Rules)
 from .sums import Number, Rows, Said, Sum, Work

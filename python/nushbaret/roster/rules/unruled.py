@@ -2,11 +2,11 @@
 roster or its groups don't have, kinds that are hardly two, holidays on other days, and words for days of the week."""
 from typing import Iterator, Optional
 
-from .answer import counted, listed, named
-from .dates import weekdays_among
-from .month import WEEK, Before, Month, undated
-from .names import quoted, shown_path
-from .roster import Roster, alike
+from ..answer import counted, listed, named
+from ..dates import weekdays_among
+from ..month import WEEK, Before, Month, undated
+from ..names import quoted, shown_path
+from ..roster import Roster, alike
 from .rule_file import WEEKLY, Rules
 
 

@@ -2,10 +2,10 @@
 import importlib
 from typing import Any, List, NamedTuple, Optional, Sequence
 
-from .blocks import cost_row, limits_of, matrix_of, side_of
+from .certificate_check import meets
 from .channel import Channel
-from .check import meets
 from .model import Limits, Model
+from .persons import cost_row, limits_of, matrix_of, side_of
 from .times import Times
 
 np: Any = importlib.import_module("numpy")

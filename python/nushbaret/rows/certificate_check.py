@@ -2,8 +2,8 @@
 from typing import Dict, Iterator, List, NamedTuple, Optional, Sequence, Tuple
 
 from .certificates import Lists, certificate_of, refuse_unfit
-from .library import lists_shown_by_library, shown_by_library
 from .model import Certificate, Limits, Terms, bounds_costs
+from .row_checker import lists_shown_by_library, shown_by_library
 
 MOST_DEPTH = 1000
 

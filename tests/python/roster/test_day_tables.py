@@ -5,7 +5,7 @@ from collections import Counter
 from datetime import date, timedelta
 
 from nushbaret.roster.answer import Pair, NamedPlan
-from nushbaret.roster.blocks import blocks_of
+from nushbaret.roster.day_tables import blocks_of
 from nushbaret.roster.roster import Groups, OldPlan
 from roster.test_planners import roster_of
 

@@ -9,7 +9,7 @@ import unittest
 
 from optional import np, optimize
 
-TOP = pathlib.Path(__file__).resolve().parents[3]
+TOP = pathlib.Path(__file__).resolve().parents[4]
 
 
 def sessions():

@@ -1,13 +1,13 @@
-"""The rows that a roster has without rules: fixed pairs, counts, and one of each group."""
+"""The model of a roster: the rows of its fixed pairs, counts and groups, and those of its rules."""
 from collections import Counter
 from typing import Dict, List, NamedTuple, Optional, Sequence, Set, Tuple
 
-from ..counts.nodes import Bounds
-from .answer import Request, counted, plural
-from .by_counts import bounds_around
-from .month import Month
-from .roster import Roster
-from .rule_even import EvennessRows, add_evenness
+from ...counts.nodes import Bounds
+from ..answer import Request, counted, plural
+from ..by_counts import bounds_around
+from ..month import Month
+from ..roster import Roster
+from .evenness import EvennessRows, add_evenness
 from .rule_file import Rules
 from .rule_rows import Making, add_rules
 from .sums import Rows, Said, Sum, Work

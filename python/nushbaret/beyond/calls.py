@@ -7,7 +7,7 @@ from typing import Any, List, Optional, Set, Tuple
 import numpy
 
 from .core import Form
-from .doubles import DoublesSearch
+from .doubles_search import DoublesSearch
 from .engines import Engine, engine_of
 from .frames import Partitions
 from .result import BeyondResult

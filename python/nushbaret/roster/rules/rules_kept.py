@@ -4,10 +4,10 @@ from fractions import Fraction
 from math import ceil
 from typing import Callable, Dict, Iterable, Iterator, List, NamedTuple, Optional, Sequence, Set, Tuple
 
-from .groups import Broken, Paired
-from .month import WEEK, Month, Shift
-from .names import joined
-from .roster import Roster
+from ..groups import Broken, Paired
+from ..month import WEEK, Month, Shift
+from ..names import joined
+from ..roster import Roster
 from .rule_file import (AFTER, APART, COUNT, EVEN, FREE, HOURS, OFF, PAUSE, REST, RUN, STAFF, TOGETHER, WEEKEND_RUN,
     WEEKLY, WHOLE, WINDOW, Rule, Rules)
 from .rule_rows import MINUTES, begins, ends, hours_of, weekends_with_shifts

@@ -4,13 +4,13 @@ import importlib
 import time
 from typing import Any, Iterator, List, Optional, Sequence
 
-from .blocks import PersonBlock, blocks_of, cost_of, cost_row, limits_of
+from .certificate_check import meets
 from .chains import Closing, chain
 from .channel import Channel
-from .check import meets
+from .highs import tried
 from .model import Model, Proof, flat
-from .parts import Part, renamed
-from .plans import tried
+from .model_parts import Part, renamed
+from .persons import PersonBlock, blocks_of, cost_of, cost_row, limits_of
 from .prices import SCALE, Bound, Pricing, TooWide
 from .reasons import conflicts
 from .shortages import shortages

@@ -3,8 +3,8 @@ from fractions import Fraction
 from math import ceil, floor, gcd
 from typing import Callable, Dict, FrozenSet, Iterable, Iterator, List, NamedTuple, Optional, Sequence, Tuple, Union
 
-from ..rows.model import Model, Row
-from .month import Month, Shift
+from ...rows.model import Model, Row
+from ..month import Month, Shift
 
 Number = Union[int, Fraction]
 Kinds = Optional[FrozenSet[str]]

@@ -6,12 +6,12 @@ from fractions import Fraction
 from math import ceil
 from typing import Callable, Dict, FrozenSet, List, Mapping, Match, NamedTuple, NoReturn, Optional, Sequence, Tuple
 
-from .dates import dates_of, spellings
-from .groups import price_of
-from .month import NO_KIND, Month
-from .names import quoted
-from .roster import Roster, like
-from .sheets import RosterFault, Sheet
+from ..dates import dates_of, spellings
+from ..groups import price_of
+from ..month import NO_KIND, Month
+from ..names import quoted
+from ..roster import Roster, like
+from ..sheets import RosterFault, Sheet
 
 # Which rule a line is.
 REST, RUN, COUNT, HOURS, FREE, WHOLE, STAFF, APART, TOGETHER, EVEN = (
