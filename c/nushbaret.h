@@ -249,7 +249,7 @@ int32_t nushbaret_check_hall(size_t n, size_t m,
    code                  written
    NUSHBARET_BEST        ranks: it is the only best one
    NUSHBARET_TIED        other: another one as good, which the same prices prove
-   NUSHBARET_UNDECIDED   nothing: it is a best one, and the search found neither ranks nor another one. This wasn't seen
+   NUSHBARET_UNDECIDED   nothing: it is a best one, no more is shown (never seen)
    any other             as in nushbaret_check
 
    other has n values, ranks has m. Ranks show that there is no other plan as good: where another object is as good for a

@@ -224,7 +224,7 @@ static void refused(int is_sparse, int is_tied) {
     WANT(k > 5);
 }
 
-/* A ring of persons, each of whom could take the next one's object as well: its path is as long as all persons. */
+/* A ring in which each person could take the next one's object as well: its path has all persons. */
 static void ring(size_t n, int is_closed) {
     static uint32_t of_persons[200000], of_objects[200000], objects[100000], other[100000];
     static int64_t costs[200000], prices[100000];

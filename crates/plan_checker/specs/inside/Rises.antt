@@ -1,4 +1,4 @@
--- An optimum as it is read, and pairs beside their persons' own.
+-- An optimum as it is read, and pairs compared with the own ones of their persons.
 use Rattle.std.specs.Prelude.{◌≡◌, ◌≢◌, ◌⊎◌, ◌-◌, ◌+◌, ℕ, ℤ, pos, ◌+ℤ◌, ◌≤ℤ◌, ◌<◌, List, Bool, length, slice_index_or, All}
 use Rattle.assign_core.specs.Numbered.{IsMarked, IsNumber}
 use Rattle.assign_core.specs.Rows.{IsCost}
