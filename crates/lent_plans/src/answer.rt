@@ -48,17 +48,17 @@ fn is_other(
     Ok(verdict == Verdict::Yes)
 }
 
-// Checks what a search found.
+// Searches for another optimum than this one, and checks what was found.
 fn answer_of(
     alloc: Global,
     lists: &CostLists<'_>,
     objects: &[Object],
     prices: &[Price],
-    found: Found,
 ) -> Result<Answer, AllocError>
     requires { IsOptimum lists.now objects.now prices.now }
     ensures { IfOk result (IsAnswer lists.now objects.now prices.now) }
 {
+    let found = find_other(alloc, lists, objects, prices)?;
     match found {
         Found::Ranks(ranks) => {
             if are_ranked(alloc, lists, objects, prices, ranks.as_slice(), true)? {
@@ -87,6 +87,5 @@ pub fn decide(
     if verdict != Verdict::Yes {
         return Ok(Answer::Refused(verdict));
     }
-    let found = find_other(alloc, lists, objects, prices)?;
-    answer_of(alloc, lists, objects, prices, found)
+    answer_of(alloc, lists, objects, prices)
 }
