@@ -210,7 +210,8 @@ static void refused(int is_sparse, int is_tied) {
     struct asked a = worked();
     long k;
     a.is_sparse = is_sparse;
-    if (is_tied) a.costs[4] = -1, WANT(solve_plan(&a) == NUSHBARET_BEST);
+    if (is_tied) a.costs[4] = -1;
+    WANT(solve_plan(&a) == NUSHBARET_BEST);
     for (k = 1;; k++) {
         struct asked now = a;
         int32_t code;
