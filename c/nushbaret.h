@@ -255,7 +255,7 @@ int32_t nushbaret_check_hall(size_t n, size_t m,
    other has n values, ranks has m. Ranks show that there is no other plan as good: where another object is as good for a
    person, at these prices, as its own, its rank is higher; the rank is 0 where nobody has the object, and from 0 where its
    price is 0.
-   The time is that of nushbaret_check, two to four times; over listed pairs those as good as their persons' own are sorted. */
+   The time is that of nushbaret_check, two to four times. Listed pairs that are as good as their persons' own are sorted. */
 int32_t nushbaret_unique(uint32_t sense, size_t n, size_t m,
     const uint32_t *of_persons, size_t of_persons_count,
     const uint32_t *of_objects, size_t of_objects_count,

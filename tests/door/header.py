@@ -17,7 +17,7 @@ COUNTS = TOP / "crates/lent_counts/src"
 PLANS = TOP / "crates/lent_plans/src"
 SEARCH = TOP / "crates/count_search/src"
 HEADER = re.sub(r"/\*.*?\*/", "", (TOP / "c/nushbaret.h").read_text(), flags=re.S)
-NUMBERS = {"u8": "uint8_t", "u32": "uint32_t", "u64": "uint64_t", "usize": "size_t", "i32": "int32_t", "Rank": "int32_t",
+NUMBERS = {"u8": "uint8_t", "u32": "uint32_t", "u64": "uint64_t", "usize": "size_t", "i32": "int32_t",
            "i64": "int64_t", "f64": "double",
            "Person": "uint32_t", "Object": "uint32_t", "Cost": "int64_t", "Price": "int64_t",
            "Record": "struct nushbaret_record", "Info": "struct nushbaret_info",

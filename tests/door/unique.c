@@ -80,7 +80,8 @@ static int is_best(const struct asked *a, const struct all *all, const uint32_t 
     int64_t sum = 0;
     size_t i;
     for (i = 0; i < a->n; i++) {
-        if (objects[i] < 1 || objects[i] > a->m || used >> objects[i] & 1 || all->table[i][objects[i] - 1] == INT64_MAX) return 0;
+        if (objects[i] < 1 || objects[i] > a->m || used >> objects[i] & 1) return 0;
+        if (all->table[i][objects[i] - 1] == INT64_MAX) return 0;
         used |= 1u << objects[i];
         sum += all->table[i][objects[i] - 1];
     }
@@ -238,8 +239,8 @@ static void ring(size_t n, int is_closed) {
         of_persons[2 * i + 1] = (uint32_t)i + 1, of_objects[2 * i + 1] = (uint32_t)((i + 1) % n) + 1;
     }
     memset(&info, 0, sizeof info);
-    WANT(nushbaret_unique(NUSHBARET_MIN, n, n, of_persons, pairs, of_objects, pairs, costs, pairs, objects, n, prices, n, other, n,
-        ranks, n, &info) == (is_closed ? NUSHBARET_TIED : NUSHBARET_BEST));
+    WANT(nushbaret_unique(NUSHBARET_MIN, n, n, of_persons, pairs, of_objects, pairs, costs, pairs, objects, n, prices, n,
+        other, n, ranks, n, &info) == (is_closed ? NUSHBARET_TIED : NUSHBARET_BEST));
     for (i = 0; i < n; i++) WANT(is_closed ? other[i] == (i + 1) % n + 1 : i == 0 || ranks[i] > ranks[i - 1]);
 }
 
