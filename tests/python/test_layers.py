@@ -12,19 +12,19 @@ OF_OTHER_FOLDERS = {
     # What several files of tests share.
     "commands": "roster.command",
     "drawn_rules": "roster.month roster.roster roster.rules.rule_file roster.times_of_day",
-    "row_models": "rows.certificates rows.finding rows.highs rows.model rows.prover rows.times rows.worker",
+    "row_models": "rows.certificates rows.finding rows.highs rows.model rows.prover rows.worker",
     "ways": "api.solve lap.direct lap.library",
     # They count or replace calls below the public one: of levels, checks, searches and the library.
     "api.test_forms": "costs.kinds costs.problem lap.levels",
     "api.test_plans": "lap.paths lap.ranking",
     "api.test_solving": "lap.library",
     "api.test_time": "lap.levels lap.library",
+    "counts.test_counts": "lap.library",
     "roster.test_command": "lap.library",
     "rows.test_certificates": "lap.library",
     "roster.rules.test_command_rules": "rows.finding rows.model",
     # They compare or lower limits that aren't public.
     "api.test_refusals": "costs.limits lap.library lap.proved",
-    "roster.test_command_counts": "counts.nodes",
     # They make what the tested folder takes, or check what it makes.
     "counts.test_count_rows": "rows.certificate_check",
     "lap.test_levels": "costs.kinds costs.problem costs.reading",

@@ -1,8 +1,8 @@
 -- What a call on a plan leaves where memory was refused.
 use Rattle.std.proofs.Common.{◌≡◌, ℤ, pos, refl}
-use Rattle.lent_lists.specs.declared.fault.Fault.TheVariants.{Memory}
-use Rattle.lent_lists.specs.Faults.{IsWhole}
-use Rattle.lent_lists.specs.Given.{GivenLists}
+use Rattle.c_calls.specs.declared.fault.Fault.TheVariants.{Memory}
+use Rattle.c_calls.specs.lists.Faults.{IsWhole}
+use Rattle.c_calls.specs.lists.Given.{GivenLists}
 use Rattle.lent_plans.specs.Unique.{IsUniqueRefused, UniqueBuffers}
 
 -- buffers that are the same, part by part

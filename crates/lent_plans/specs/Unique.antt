@@ -8,12 +8,12 @@ use Rattle.exact_checker.specs.declared.verdict.Verdict.{Verdict}
 use Rattle.exact_checker.specs.declared.verdict.Verdict.TheVariants.{Yes}
 use Rattle.plan_checker.specs.Only.{IsOnlyBest}
 use Rattle.plan_checker.specs.Ranks.{AreRanked}
-use Rattle.lent_lists.specs.declared.fault.Fault.{Fault}
-use Rattle.lent_lists.specs.declared.info.Info.{Info}
-use Rattle.lent_lists.specs.Checks.{verdict_code, with_verdict}
-use Rattle.lent_lists.specs.Ends.{fault_code, fault_place}
-use Rattle.lent_lists.specs.Faults.{HasFault, IsOfGiven}
-use Rattle.lent_lists.specs.Given.{GivenLists, either_form}
+use Rattle.c_calls.specs.declared.fault.Fault.{Fault}
+use Rattle.c_calls.specs.declared.lists.info.Info.{Info}
+use Rattle.c_calls.specs.lists.Checks.{verdict_code, with_verdict}
+use Rattle.c_calls.specs.Codes.{fault_code, fault_place}
+use Rattle.c_calls.specs.lists.Faults.{HasFault, IsOfGiven}
+use Rattle.c_calls.specs.lists.Given.{GivenLists, either_form}
 
 -- what a call writes
 pub record UniqueBuffers : Type 0 where

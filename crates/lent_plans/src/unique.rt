@@ -1,12 +1,13 @@
 // Whether a lent plan is the only best one.
 ghost use Rattle.std.specs.Prelude.{◌≡◌, ◌⊎◌, length};
-ghost use Rattle.lent_lists.specs.Given.{HasLengths};
+ghost use Rattle.c_calls.specs.lists.Given.{HasLengths};
 ghost use Rattle.lent_plans.specs.Answers.{IsAnswer};
 ghost use Rattle.lent_plans.specs.Unique.{IsUniqueShown, JudgesUnique};
 
 use super::answer::{Answer, decide};
 use cost_lists::{CostLists, Object, Price, exact_means_best};
-use lent_lists::{Fault, Given, Info, judge, lists_of, refuse, report_verdict};
+use c_calls::Fault;
+use c_calls::lists::{Given, Info, judge, lists_of, refuse, report_verdict};
 use plan_checker::{Rank, ranks_mean_only};
 use std::alloc::Global;
 

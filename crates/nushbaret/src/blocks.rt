@@ -4,7 +4,7 @@ ghost use Rattle.lent_blocks.specs.Blocks.{BlockBuffers, JudgesBlock, block_give
 use assign_core::Cost;
 use cost_lists::{Object, Person, Price};
 use lent_blocks::{block_on, one_length};
-use lent_lists::{Given, Info, form_of};
+use c_calls::lists::{Given, Info, form_of};
 use std::alloc::Global;
 
 /// Looks at `n` persons of a greater problem, or at some of their pairs, whose other pairs lie elsewhere:

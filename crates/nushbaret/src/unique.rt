@@ -2,7 +2,7 @@
 ghost use Rattle.lent_plans.specs.Unique.{JudgesUnique, UniqueBuffers, unique_given};
 
 use cost_lists::{Object, Person, Price};
-use lent_lists::{Given, Info, form_of};
+use c_calls::lists::{Given, Info, form_of};
 use lent_plans::unique_on;
 use std::alloc::Global;
 

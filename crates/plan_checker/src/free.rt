@@ -1,22 +1,10 @@
 // Ranks of objects that nobody owns, and of those whose price is 0.
-ghost use Rattle.std.specs.Prelude.{◌≡◌, ◌↔◌, ◌⊎◌, ◌≤ℤ◌, ◌<◌, ℕ, pos, IsTrue, length, All, Contains};
-ghost use Rattle.assign_core.specs.Numbered.{IsNumber};
-ghost use Rattle.dual_checker.specs.HallMarks.{AddsMarks};
+ghost use Rattle.std.specs.Prelude.{◌≡◌, ◌↔◌, ◌⊎◌, ◌≤ℤ◌, ◌<◌, ℕ, pos, IsTrue, length};
 ghost use Rattle.plan_checker.specs.Ranks.{IsRank};
 ghost use Rattle.plan_checker.specs.inside.Rises.{IsFreeAt};
 
 use super::rank::Rank;
-use cost_lists::{Object, Price};
-
-// Marks the owned objects.
-pub fn mark_owned(owned: &mut [bool], objects: &[Object])
-    requires { All (IsNumber (length owned.old)) objects.now }
-    ensures { AddsMarks owned.old (Contains objects.now) owned.new }
-{
-    for object in objects {
-        owned[*object as usize - 1] = true;
-    }
-}
+use cost_lists::Price;
 
 // Whether the rank of an object may stand with this price.
 fn is_free(owned: bool, price: Price, rank: Rank) -> bool

@@ -5,13 +5,14 @@ ghost use Rattle.cost_lists.specs.Own.{AreOwnCosts};
 ghost use Rattle.plan_checker.specs.Ranks.{AreRanked, RanksRise};
 ghost use Rattle.plan_checker.specs.inside.Rises.{IsPlan};
 
-use super::free::{are_free, mark_owned};
+use super::free::are_free;
 use super::pairs::pairs_rise;
 use super::rank::Rank;
 use super::rises::Plan;
 use super::rows::rows_rise;
 use assign_core::Cost;
 use cost_lists::{CostLists, Object, Price, Source};
+use dual_checker::mark_numbers;
 use std::alloc::{AllocError, Global};
 
 // Whether no other object that is as good for a person as its own has a rank that doesn't rise.
@@ -51,7 +52,7 @@ fn ranked_by(
 {
     // This call shows the prover that the costs are in range.
     let _persons = lists.persons();
-    mark_owned(owned, objects);
+    mark_numbers(owned, objects);
     if !are_free(owned, prices, ranks) {
         return false;
     }

@@ -19,6 +19,8 @@ class Verdict:
     row, column : int or None
         Which row and column these are, from 0, if any.
 
+    Examples
+    --------
     >>> import nushbaret
     >>> verdict = nushbaret.check([[1, 2], [3, 5]], columns=[0, 1], prices=[1, 0])
     >>> bool(verdict), verdict.row, verdict.column

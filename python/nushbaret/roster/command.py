@@ -16,11 +16,12 @@ from ..costs.reading import MOST_UNIT_DECIMALS
 from .answer import Answer, Fair, Request, answer_of
 from .files import (STANDARD_OUTPUT, Output, OutputFault, is_device, make_folder, print_content, refuse_existing,
     write_files)
+from .forms import read_roster
 from .groups import read_counts, read_groups, refuse_two_of_a_group, with_rules
 from .names import quoted, shown_path, without_marks
 from .output.texts import (Hand, Report, as_csv, first_lines, forgotten_line, gone_line, in_encoding_of, printed,
     read_lines)
-from .roster import OldPlan, PlanLine, Roster, read_hand_plan, read_old_plan, read_plan, read_roster
+from .roster import OldPlan, PlanLine, Roster, read_hand_plan, read_old_plan, read_plan
 from .sheets import Reading, RosterFault, heading_of
 from .words import Options, WordsFault, read_words
 
@@ -151,7 +152,7 @@ def _report(options: Options, roster: Roster) -> Report:
     try:
         if ruling is not None:
             from .rules.ruling import answered_by
-            answer, proved = answered_by(ruling, roster, request, options)
+            answer, proved = answered_by(ruling, roster, request, options, hand.plan if hand else None)
         else:
             answer, fair = _answered(roster, request, options.fair)
     except TooLarge as fault:
@@ -159,7 +160,7 @@ def _report(options: Options, roster: Roster) -> Report:
     if hand is not None and answer.plan is not None:
         from .rules.broken_rules import lack_of
         hand = hand._replace(best_lack=lack_of(roster, answer.plan.pairs, fixed))
-    return Report(options, roster, answer, kept, hand, fair, proved)
+    return Report(options, roster, answer, kept, hand, fair, proved, ruling)
 
 
 def _read_rules(options: Options, roster: Roster) -> Optional["Ruling"]:
@@ -221,6 +222,7 @@ def _read(options: Options) -> Roster:
         if capacities is not None and capacities.wanted and options.rules is None:
             raise RosterFault(capacities.path, "what is wanted has a price, which a plan by --rules weighs; a rules' "
                               "file may have its title line alone")
+        _refuse_without_groups(options, roster)
         roster = with_rules(roster, tasks, capacities, read_groups(options.groups, roster, options.before is not None)
                             if options.groups else None)
         if capacities is not None and tasks is None and not any(bounds.least for bounds in capacities.bounds.values()):
@@ -234,9 +236,19 @@ def _read(options: Options) -> Roster:
     return roster
 
 
+def _refuse_without_groups(options: Options, roster: Roster) -> None:
+    """Refuses what needs the day of each object, where no file says it."""
+    if not options.groups and roster.groups is None:
+        if options.rules is not None:
+            raise WordsFault("nushbaret: --rules needs --groups, which says the day of each object")
+        if options.past is not None:
+            raise WordsFault("nushbaret: --past needs --keep and --groups")
+
+
 def _say_nobody(roster: Roster, path: str) -> None:
     """Says that no plan has to have anybody, where all that places take is nobody at least."""
-    if roster.least is not None and not any(roster.least[1].values()) and not roster.wanted:
+    takes_nobody = not any(roster.of_object(object_).least for object_ in range(len(roster.objects)))
+    if roster.has_bounds and takes_nobody and not roster.wanted:
         _say(f"{path}: each place may stay empty, and without --tasks nobody has to be placed")
 
 
@@ -286,6 +298,9 @@ def _write(report: Report, lines: List[str]) -> bool:
     if report.proved is not None and report.proved.certificate is not None and options.certificate is not None:
         from ..rows.certificates import certificate_text
         files.append((options.certificate, certificate_text(report.proved.certificate).encode()))
+        stem, end = os.path.splitext(options.certificate)
+        files += [(f"{stem}-{number}{end}", certificate_text(found.certificate).encode())
+                  for number, found in enumerate(report.proved.following, 2) if found.certificate is not None]
     if options.each and report.answer.plan is not None:
         from .output.each import files_of
         files += files_of(report.roster, report.answer.plan, report.kept, options.each)

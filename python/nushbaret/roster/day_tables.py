@@ -63,10 +63,11 @@ class PersonRow(NamedTuple):
 
 
 class Staff(NamedTuple):
-    """Who is at an object on a day, and how many are of how many where these are too few."""
+    """Who is at an object on a day, how many are of how many where these are too few, and the object."""
 
     persons: List[str]
     missing: Optional[Tuple[int, int]]
+    object: int = 0
 
 
 class ObjectRow(NamedTuple):
@@ -246,5 +247,5 @@ def _objects(roster: Roster, labels: List[str], table: _DayTable, days: List[Day
         column = columns.get(group_of(roster, number))
         if column is not None:
             staff = rows.setdefault(labels[number], [None] * len(days))
-            staff[column] = Staff(table.who.get(number, []), table.missing.get(number))
+            staff[column] = Staff(table.who.get(number, []), table.missing.get(number), number)
     return [ObjectRow(label, staff) for label, staff in rows.items()]

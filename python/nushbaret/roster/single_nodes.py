@@ -15,7 +15,7 @@ from typing import Any, Collection, Dict, Iterator, List, NamedTuple, Optional, 
 from ..costs.kinds import WholeNumbers
 from ..costs.limits import GREATEST_COST, Numbers
 from ..costs.problem import AssignmentProblem, TooLarge, of_whole_numbers
-from ..counts.graphs import strong_parts
+from ..counts.exchanges import strong_parts
 from ..lap.solving import BestPlan, best_plan
 
 Pair = Tuple[int, int]

@@ -6,7 +6,7 @@ from datetime import date, timedelta
 
 from nushbaret.roster.answer import Pair, NamedPlan
 from nushbaret.roster.day_tables import blocks_of
-from nushbaret.roster.roster import Groups, OldPlan
+from nushbaret.roster.roster import Bounds, Groups, OldPlan, Takes
 from roster.test_planners import roster_of
 
 
@@ -121,7 +121,9 @@ class Cells(unittest.TestCase):
                          [(True, date(2027, 3, 1)), (False, date(2027, 3, 2))])
 
     def test_missing(self):
-        roster = roster_by_days(["Mon"])._replace(capacities={0: 3}, least=({}, {0: 2}))
+        roster = roster_by_days(["Mon"])
+        others = dict.fromkeys(range(len(roster.objects)), Bounds(0, 1))
+        roster = roster._replace(takes=Takes({}, {**others, 0: Bounds(2, 3)}, False))
         week, = blocks_of(roster, plan_of([(0, 0)]))
         self.assertEqual([row.staff[0] for row in week.objects if row.label == "early"], [(["p0"], (1, 2))])
 

@@ -69,7 +69,7 @@ def _too_many(roster: Roster, pairs: Sequence[Paired]) -> Iterator[Broken]:
 def lacking(roster: Roster, pairs: Sequence[Paired], fixed: Sequence[PlanLine]) -> List[Missing]:
     """Which least counts pairs miss. With single numbers the side with the smaller sum must have all, and both where
     the sums are one."""
-    if roster.least is not None:
+    if roster.has_bounds:
         return missing_of(roster, pairs)
     most = [[bound.most for bound in bounds] for bounds in bounds_around(roster, fixed)]
     sums = [sum(own) for own in most]

@@ -1,7 +1,7 @@
 """Rows of a model that say rules of evenness: counts of some persons differ by so much at most."""
 from typing import Dict, List, NamedTuple, Optional, Sequence
 
-from ...counts.nodes import Bounds
+from ...counts.counted import Bounds
 from ..month import Month
 from .rule_file import EVEN, Rule
 from .rule_rows import Making

@@ -2,7 +2,7 @@
 from collections import Counter
 from typing import Dict, List, NamedTuple, Optional, Sequence, Set, Tuple
 
-from ...counts.nodes import Bounds
+from ...counts.counted import Bounds
 from ..answer import Request, counted, plural
 from ..by_counts import bounds_around
 from ..month import Month
@@ -59,7 +59,8 @@ def built(roster: Roster, rules: Rules, month: Month, request: Request, own: Seq
     used = Counter(pair.object for pair in request.fixed)
     capacities = [Bounds(0 if may_miss else _with(bounds, used[object_]).least, _with(bounds, used[object_]).most)
                   for object_, bounds in enumerate(bounds_around(roster, request.fixed)[1])]
-    rows = Rows([cost for _, _, cost in listed], [person for person, _ in pairs])
+    days = [month.shifts[object_].day if object_ in month.shifts else None for _, object_ in pairs]
+    rows = Rows([cost for _, _, cost in listed], [person for person, _ in pairs], days)
     making = Making(roster, rules, work, rows, capacities)
     if not pairs:
         # A solver needs one.

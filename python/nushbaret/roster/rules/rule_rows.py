@@ -2,7 +2,7 @@
 from fractions import Fraction
 from typing import Callable, Dict, FrozenSet, Iterator, List, NamedTuple, Optional, Sequence, Set, Tuple
 
-from ...counts.nodes import Bounds
+from ...counts.counted import Bounds
 from ..month import NO_KIND, Month, Shift
 from ..roster import Roster
 from .rule_file import (AFTER, APART, COUNT, EVEN, FREE, HOURS, OFF, PAUSE, REST, RUN, STAFF, TOGETHER, WEEKEND_RUN,

@@ -7,7 +7,7 @@ from ..answer import Answer, Request
 from ..groups import Broken, Paired
 from ..interrupts import interrupts_raise
 from ..month import Before, Month, month_of
-from ..roster import Roster, named_pairs
+from ..roster import OldPlan, Roster, named_pairs
 from ..words import Options, WordsFault
 from .rule_file import Rules, read_rules
 from .rules_kept import broken_by, missed_by, plan_of
@@ -26,20 +26,21 @@ class Ruling(NamedTuple):
 
 def read_ruling(options: Options, roster: Roster, say: Callable[[str], object]) -> Optional[Ruling]:
     """The rules that are asked for, if any are."""
-    if options.rules is None or roster.groups is None or options.groups is None:
+    if options.rules is None or roster.groups is None:
         return None
+    path = options.groups or options.roster
     before = None
     if options.before is not None:
         before = Before(options.before, [(pair.person, pair.object, pair.line)
                                          for pair in named_pairs(options.before, roster)])
-    for line in (*without_day(roster, f"{options.groups}: no line for"),
-                 *without_kind(roster, f"{options.groups}: no kind of"), *left_out(roster, before)):
+    for line in (*without_day(roster, f"{path}: no line for"),
+                 *without_kind(roster, f"{path}: no kind of"), *left_out(roster, before)):
         say(line)
-    month = month_of(roster, roster.groups, options.groups, before)
-    for line in kinds_alike(options.groups, month):
+    month = month_of(roster, roster.groups, path, before)
+    for line in kinds_alike(path, month):
         say(line)
     rules = read_rules(options.rules, roster, month)
-    for line in (*other_holidays(rules, month), *days_in_order(options.groups, rules, month)):
+    for line in (*other_holidays(rules, month), *days_in_order(path, rules, month)):
         say(line)
     return Ruling(month._replace(holidays=rules.holidays), rules)
 
@@ -54,15 +55,17 @@ def missed_cost_of(ruling: Ruling, roster: Roster, pairs: Sequence[Paired]) -> i
     return sum(one.cost for one in missed_by(plan_of(roster, ruling.rules, ruling.month, pairs)))
 
 
-def answered_by(ruling: Ruling, roster: Roster, request: Request, options: Options) -> Tuple[Answer, Proved]:
-    """The answer, with progress on a terminal.
+def answered_by(ruling: Ruling, roster: Roster, request: Request, options: Options,
+                compared: Optional[OldPlan]) -> Tuple[Answer, Proved]:
+    """The answer, with progress on a terminal. A compared plan is one that is known before.
 
     Raises `WordsFault` where SciPy isn't installed.
     """
     seconds = DEFAULT_SECONDS if options.time is None else options.time
     with interrupts_raise(), _shown(roster, options) as progress:
         try:
-            return answer_by_rules(Task(roster, ruling.month, ruling.rules, request, seconds, (), progress))
+            known = [] if compared is None else [{(pair.person, pair.object) for pair in compared.known}]
+            return answer_by_rules(Task(roster, ruling.month, ruling.rules, request, seconds, (), progress, known))
         except ImportError as fault:
             raise WordsFault(str(fault)) from fault
 

@@ -167,9 +167,8 @@ def _where(roster: Roster, month: Month, short: Short) -> str:
 
 def _needed(roster: Roster, month: Month) -> Set[int]:
     """The objects that need anybody."""
-    least = roster.least[1] if roster.least is not None else {}
     return {object_ for object_ in range(len(roster.objects))
-            if object_ not in roster.past and (least.get(object_, 0) > 0 or roster.least is None)}
+            if object_ not in roster.past and (roster.of_object(object_).least > 0 or not roster.has_bounds)}
 
 
 def _span(month: Month, days: Set[int]) -> str:

@@ -1,9 +1,8 @@
 """Answers to rosters with rules: stages of finding, and what was proved of each."""
 import time
-from typing import Callable, Dict, List, NamedTuple, Optional, Sequence, Tuple
+from typing import Callable, Dict, List, NamedTuple, Optional, Sequence, Set, Tuple
 
 from ...counts.count_rows import certificate_of_best, certificate_of_lack, terms_of
-from ...counts.nodes import TooManyNodes
 from ...counts.planned import planned
 from ...rows.model import Certificate, Conflict, Finding, Row
 from ..answer import Answer, NamedPlan, Request, plan_of
@@ -25,10 +24,16 @@ BY_COUNTS, BY_RULES = "counts", "rules"
 Progress = Callable[[str, str, Optional[int], Optional[int]], None]
 # The share of the time that a stage before the costs gets, and that is left for one after them.
 SHARE = 0.25
-# The share of the time in which a plan that misses nothing has to be found, where one that misses something is of use.
-UNMISSED = 0.5
+# The share of the time in which as little as can be is to be missed.
+MISSING_SHARE = 0.4
+# The share of the time in which it is looked for why something is missing, of what is left then.
+WHY_SHARE = 0.35
+# The share of the time that the plan that misses the least has by itself, where it wasn't asked for.
+FULLEST = 0.5
 # The goals, as progress shows them.
 MISSING, UNEVEN, COSTS, CHANGES = "missing", "evenness", "costs", "changes"
+# The text of the row that forbids a plan.
+ANOTHER = "another plan"
 
 
 class Task(NamedTuple):
@@ -41,6 +46,8 @@ class Task(NamedTuple):
     seconds: float
     own: Sequence[OwnRow] = ()
     progress: Optional[Progress] = None
+    # Plans known before, which may break rules, the most telling first: it is looked for plans near them.
+    known: Sequence[Set[Tuple[int, int]]] = ()
 
 
 class Reason(NamedTuple):
@@ -65,6 +72,18 @@ class Evenness(NamedTuple):
     sentence: str
     least: int
     most: int
+
+
+class Next(NamedTuple):
+    """What was found of plans that differ from those before: the next one, None where none was; what it pays for what
+    it misses; by how much another of them may be better at most, None where nothing is known; and whether it is proved
+    that there is none at all."""
+
+    plan: Optional[NamedPlan]
+    missed_cost: int
+    better: Optional[int]
+    is_none: bool
+    certificate: Optional[Certificate]
 
 
 class Proved(NamedTuple):
@@ -97,6 +116,8 @@ class Proved(NamedTuple):
     has_prices: bool = False
     missed: Sequence[Missed] = ()
     certificate: Optional[Certificate] = None
+    # The next plans, as many as were asked for, and the least cost with what is missed of those that follow.
+    following: Sequence[Next] = ()
 
     @property
     def is_impossible(self) -> bool:
@@ -126,43 +147,54 @@ def answer_by_rules(task: Task) -> Tuple[Answer, Proved]:
     """
     begin, is_fullest = time.monotonic(), task.request.fullest
     end = begin + task.seconds
-    by_counts = _by_counts(task)
+    by_counts, of_counts = _by_counts(task)
     if by_counts is not None:
         answer, proved = by_counts
         return _fullest(task, proved, end) if answer.plan is None and is_fullest else by_counts
-    stages = _Stages(task, end, found_by=begin + UNMISSED * task.seconds if is_fullest else None)
+    kept = task.request.kept
+    task = task._replace(known=[*([kept] if kept else []), *task.known, *([of_counts] if of_counts else [])])
+    return _fullest(task, None, end) if is_fullest else _by_costs(task, end)
+
+
+def _by_costs(task: Task, end: float) -> Tuple[Answer, Proved]:
+    """The plan of least cost, or why there is none; where that takes many sentences, the one that misses the least."""
+    stages = _Stages(task, end)
     finding = stages.costs()
     if finding.plan is not None:
         return stages.answer(finding)
     proved = _why(task, stages, finding)
     is_long = bool(proved.whys) and len(proved.whys[0].reasons) > MOST_LINES
-    return _fullest(task, proved, end) if is_fullest or is_long else (Answer(None, []), proved)
+    # The plan that misses the least has a time of its own.
+    own_end = max(end, time.monotonic() + FULLEST * task.seconds)
+    return _fullest(task, proved, own_end) if is_long else (Answer(None, []), proved)
 
 
-def _by_counts(task: Task) -> Optional[Tuple[Answer, Proved]]:
-    """The answer, where counts and groups alone decide: they are short, or the best plan by them keeps all rules."""
+def _by_counts(task: Task) -> Tuple[Optional[Tuple[Answer, Proved]], Set[Tuple[int, int]]]:
+    """The answer, where counts and groups alone decide: they are short, or the best plan by them keeps all rules. And
+    the pairs of that plan."""
     roster, request = task.roster, task.request
     problem = counted_of(roster, request._replace(kept=None, change=None))
     if any(bounds.most < 0 for bounds in (*problem.row_bounds, *problem.column_bounds)):
         # Fixed pairs are more than a name may have: rows say so.
-        return None
-    try:
-        lacks, pairs, exchanges = planned(problem, False)
-    except TooManyNodes:
-        return None
+        return None, set()
+    lacks, plans = planned(problem, False)
     if lacks:
         reasons = [Reason(line, []) for line in lines_of_lacks(roster, task.month, lacks)]
         certificate = certificate_of_lack(problem, terms_of(problem), lacks[0])
-        return Answer(None, []), Proved(IMPOSSIBLE, task.seconds, whys=[Why(reasons, by=BY_COUNTS)],
-                                        is_around_past=_is_around_past(task), certificate=certificate)
-    if pairs is None or exchanges is None or request.kept is not None or task.own or even_rules(task.rules.rules):
-        return None
-    plan = plan_of(roster, request.fixed, pairs)
+        return (Answer(None, []), Proved(IMPOSSIBLE, task.seconds, whys=[Why(reasons, by=BY_COUNTS)],
+                                         is_around_past=_is_around_past(task), certificate=certificate)), set()
+    if plans is None:
+        return None, set()
+    plan = plan_of(roster, request.fixed, plans.pairs())
+    own = {(pair.person, pair.object) for pair in plan.pairs}
+    asks_for_more = request.kept is not None or request.others or request.plans > 1
+    if asks_for_more or task.own or even_rules(task.rules.rules):
+        return None, own
     daily = daily_plan_of(roster, task.rules, task.month, plan.pairs)
     if broken_by(daily) or missed_by(daily):
-        return None
-    return Answer(plan, []), Proved(BEST, task.seconds, 0, has_prices=_has_prices(task),
-                                    certificate=certificate_of_best(problem, [], exchanges))
+        return None, own
+    return (Answer(plan, []), Proved(BEST, task.seconds, 0, has_prices=_has_prices(task),
+                                     certificate=certificate_of_best(problem, [], plans.shown()))), own
 
 
 def _has_prices(task: Task) -> bool:
@@ -202,17 +234,37 @@ def _is_around_past(task: Task) -> bool:
     return bool(task.roster.past) or bool(task.month.worked)
 
 
-def _fullest(task: Task, why: Proved, end: float) -> Tuple[Answer, Proved]:
+def _fullest(task: Task, why: Optional[Proved], end: float) -> Tuple[Answer, Proved]:
     """The plan that misses as few least counts as can be, and costs the least then, or is as good as was found until
-    the end."""
+    the end. Where it isn't known why any are missed, that is looked for between."""
     stages = _Stages(task, end, True)
-    finding = stages.costs()
+    if not stages.built.missing:
+        return _by_costs(task, end)
+    finding = stages.least_missing()
+    if finding.plan is not None and not finding.cost:
+        return _unmissed(task, stages, finding, end)
+    if why is None:
+        first = _Stages(task, time.monotonic() + WHY_SHARE * max(0.1, end - time.monotonic()))
+        of_all = first.costs()
+        if of_all.plan is not None:
+            return first.answer(of_all)
+        why = _why(task, first, of_all)
     if finding.plan is None:
         # Rules are never missed, so there may be no plan.
         return Answer(None, []), (_why(task, stages, finding) if finding.kind == IMPOSSIBLE
                                   else why._replace(is_fullest_open=True))
+    finding = stages.costs()
+    if finding.plan is None:
+        return Answer(None, []), why._replace(is_fullest_open=True)
     answer, proved = stages.answer(finding)
     return answer, proved._replace(whys=why.whys, is_around_past=why.is_around_past)
+
+
+def _unmissed(task: Task, stages: "_Stages", finding: Finding, end: float) -> Tuple[Answer, Proved]:
+    """The plan of least cost, where one that misses nothing is known."""
+    known = {pair for pair, value in zip(stages.built.pairs, finding.plan or ()) if value}
+    whole = _Stages(task._replace(known=[known, *task.known]), end)
+    return whole.answer(whole.costs())
 
 
 def _reasons(found: Built, texts: Sequence[str]) -> List[Reason]:
@@ -227,12 +279,10 @@ def _reasons(found: Built, texts: Sequence[str]) -> List[Reason]:
 
 class _Stages:
     """One goal after the other: what is missing, evenness rule by rule, costs, changes. What one has reached bounds the
-    next. All ends at a time of the monotonic clock; where no plan is known, at `found_by`."""
+    next. All ends at a time of the monotonic clock."""
 
-    def __init__(self, task: Task, end: float, may_miss: bool = False, is_even: bool = True,
-                 found_by: Optional[float] = None):
+    def __init__(self, task: Task, end: float, may_miss: bool = False, is_even: bool = True):
         self.task, self._end, self._may_miss = task, end, may_miss
-        self._found_by = end if found_by is None else found_by
         self.is_even = is_even and bool(even_rules(task.rules.rules))
         self._spreads: List[int] = []
         self.built = self._build(False)
@@ -259,12 +309,16 @@ class _Stages:
             if show is not None:
                 show(goal, done, cost, bound)
 
-        without = max(0.1, self._found_by - time.monotonic())
         self.sums = sums_of(self.built, self.task.month)
-        finding = find(self.built.rows.model(costs, self._rows), seconds, named, self._start, without,
-                       [own.rows for own in self.sums])
+        finding = find(self.built.rows.model(costs, self._rows), seconds, named, self._start,
+                       [own.rows for own in self.sums], self._known())
         self._start = finding.plan if finding.plan is not None else self._start
         return finding
+
+    def _known(self) -> List[List[int]]:
+        """The values of the pairs' variables in plans known before."""
+        fixed = {(pair.person, pair.object) for pair in self.task.request.fixed}
+        return [[int(pair in own or pair in fixed) for pair in self.built.pairs] for own in self.task.known]
 
     def _weighed(self, factors: Dict[int, int]) -> List[int]:
         """Costs that are factors of some variables alone."""
@@ -282,17 +336,22 @@ class _Stages:
     def costs(self) -> Finding:
         """The plan of least cost, of those that miss the least and are the most even; or why an earlier goal has
         none."""
-        if self.built.missing:
-            self._missing = self._find(MISSING, self._weighed(self.built.missing), self._left(SHARE))
-            if self._missing.plan is None:
-                return self._missing
-            self._rows.append(Row(None, tuple(sorted(self.built.missing.items())), self._missing.cost, MISSING))
+        if self._may_miss and self._missing is None:
+            self.least_missing()
+        if self._missing is not None and self._missing.plan is None:
+            return self._missing
         for _ in even_rules(self.task.rules.rules) if self.is_even else ():
             finding = self._more_even()
             if finding.plan is None:
                 return finding
         needs_more = self.is_even or self._counts_changes
         return self._find(COSTS, self._pair_costs(), self._left(1 - SHARE if needs_more else 1.0))
+
+    def least_missing(self) -> Finding:
+        """A plan that misses as few least counts as can be."""
+        self._missing = self._find(MISSING, self._weighed(self.built.missing), self._left(MISSING_SHARE))
+        self._rows.append(Row(None, tuple(sorted(self.built.missing.items())), self._missing.cost, MISSING))
+        return self._missing
 
     def _more_even(self) -> Finding:
         """Makes the counts of the next rule of evenness differ as little as can be, and keeps it so."""
@@ -334,7 +393,41 @@ class _Stages:
                         even=self._even(plan) if self.is_even else (),
                         fewer_changes=changed is not finding and changed.kind != BEST,
                         has_prices=_has_prices(self.task), missed=missed, certificate=finding.certificate)
-        return Answer(plan, []), self._with_otherwise(proved)
+        return Answer(plan, []), self._with_otherwise(proved._replace(following=self._following(plan)))
+
+    def _following(self, plan: NamedPlan) -> List[Next]:
+        """The next plans, each with its proof: a row forbids each one before. The rows stand where costs are weighed
+        alone."""
+        request, found, before = self.task.request, [], plan
+        count = max(request.plans - 1, int(request.others))
+        rows = [row for row in self._rows if row.text != COSTS]
+        costs = self._pair_costs()
+        for number in range(count):
+            rows.append(self._another(before))
+            self._rows, self._start = list(rows), None
+            finding = self._find(COSTS, costs, self._left(1 / (count - number)))
+            found.append(self._next(finding))
+            if finding.plan is None:
+                return found
+            before = self._plan(finding.plan)
+        return found
+
+    def _another(self, plan: NamedPlan) -> Row:
+        """The row that a plan differs from this one in some pair."""
+        own = {(pair.person, pair.object) for pair in plan.pairs}
+        terms = tuple((variable, 1 if pair in own else -1) for variable, pair in enumerate(self.built.pairs))
+        return Row(None, terms, sum(factor > 0 for _, factor in terms) - 1, ANOTHER)
+
+    def _next(self, finding: Finding) -> Next:
+        """What a finding says of the next plan."""
+        if finding.plan is None:
+            return Next(None, 0, None, finding.kind == IMPOSSIBLE, finding.certificate)
+        plan = self._plan(finding.plan)
+        missed = sum(one.cost for one in missed_by(daily_plan_of(self.task.roster, self.task.rules, self.task.month,
+                                                                 plan.pairs)))
+        cost = (finding.cost or 0) - self._paid_above(finding.plan, missed)
+        better = None if finding.bound is None else cost - finding.bound
+        return Next(plan, missed, better, False, finding.certificate)
 
     def _paid_above(self, values: Sequence[int], missed: int) -> int:
         """What values pay for more than the plan misses, in units of their costs: a plan that isn't proved best may

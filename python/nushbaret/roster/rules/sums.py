@@ -39,8 +39,11 @@ class Sum:
 class Rows:
     """The variables and the rows of a model, as they are made."""
 
-    def __init__(self, costs: Sequence[int], persons: Sequence[Optional[int]]):
+    def __init__(self, costs: Sequence[int], persons: Sequence[Optional[int]],
+                 days: Sequence[Optional[int]] = ()):
         self.costs, self.persons = list(costs), list(persons)
+        # The days of the first variables; helpers have none.
+        self.days = list(days)
         self.rows: List[Row] = []
         self.said: Dict[str, Said] = {}
 
@@ -102,8 +105,9 @@ class Rows:
 
     def model(self, costs: Optional[Sequence[int]] = None, more: Sequence[Row] = ()) -> Model:
         """The model, with its own costs or others, and maybe more rows."""
+        days = (*self.days, *[None] * (len(self.costs) - len(self.days))) if self.days else ()
         return Model(len(self.costs), tuple(self.costs if costs is None else costs), (*self.rows, *more),
-                     tuple(self.persons))
+                     tuple(self.persons), days)
 
 
 def _scale_of(own: Sum) -> int:

@@ -6,7 +6,7 @@ from unittest import mock
 
 from nushbaret.roster.answer import NamedPlan
 from nushbaret.roster.output import rule_texts
-from nushbaret.roster.roster import read_roster
+from nushbaret.roster.forms import read_roster
 from nushbaret.roster.rules import ruling
 from nushbaret.roster.rules.stages import Proved
 from nushbaret.rows import finding
@@ -34,8 +34,6 @@ REFUSED = (
     (("s.csv", "--time", "5"), "--time needs --rules"),
     (("s.csv", "--before", "b.csv"), "--before needs --rules"),
     (("s.csv", "--certificate", "c"), "--certificate needs --rules"),
-    ((*WORDS, "--plans", "3"), "--plans is of plans without rules: not with --rules"),
-    ((*WORDS, "--others"), "--others is of plans without rules: not with --rules"),
     ((*WORDS, "--fair"), "--fair is of plans without rules: not with --rules"),
     (("s.csv", "--groups", "d.csv", "--rules", "r.csv", "--rents"), "--rents"),
     ((*WORDS, "--time", "0"), "'0' is no number from 1 to 1000000"),
@@ -353,30 +351,42 @@ class Words(Files):
                         "(NUSHBARET_DEBUG=1 shows where)\n", *WORDS)
 
     def test_the_fullest_plan_has_its_own_time(self):
-        """Half of the time is left for it, however long reasons are looked for; that none was found is no proof."""
-        def found(model, seconds, progress=None, start=None, without=None, sums=()):
-            times.append(without)
-            time.sleep(without if len(times) == 1 else 0)
+        """Time is left for reasons, and after them; that no plan was found is no proof."""
+        def found(model, seconds, progress=None, start=None, sums=(), known=()):
+            times.append(seconds)
             return answers.pop(0)
         reasons = Finding("impossible", conflicts=(Conflict(("one",), False, None),))
         none = ("no plan that misses some was found in 2 s: it wasn't looked for long enough, and --time gives more\n"
                 "o.csv isn't written: no plan was found\n")
         why = "no plan keeps these rules, proved: together they can't hold, and maybe fewer of them can't:\n  one\n"
-        for first, status, said in ((reasons, 1, why + none), (Finding("undecided"), 6, none)):
-            times, answers = [], [first, Finding("undecided")]
+        for second, status, said in ((reasons, 1, why + none), (Finding("undecided"), 6, none)):
+            times, answers = [], [Finding("undecided"), second]
             with mock.patch.object(finding, "find", side_effect=found):
                 self.expect(status, said, "", *WORDS, "--time", "2", "--as-many-as-can", "--output", "o.csv")
-            self.assertLessEqual(times[0], 1)
-            self.assertGreater(times[1], 0.8)
+            self.assertLess(times[0], 1)
+            self.assertGreater(times[1], 0.3)
+
+    def test_long_reasons_are_never_the_answer(self):
+        """Where they are over six, the plan that misses the least follows, with at least half of the time."""
+        def found(model, seconds, progress=None, start=None, sums=(), known=()):
+            times.append(seconds)
+            time.sleep(seconds if len(times) == 1 else 0)
+            return answers.pop(0)
+        many = tuple(map(str, range(7)))
+        times, answers = [], [Finding("impossible", conflicts=(Conflict(many, False, None),)), Finding("undecided")]
+        with mock.patch.object(finding, "find", side_effect=found):
+            status, out, _ = self.run_words(*WORDS, "--time", "2")
+        self.assertEqual((status, len(times)), (1, 2))
+        self.assertIn("no plan that misses some was found", out)
+        self.assertGreater(times[1], 0.3)
 
     def test_a_plan_that_misses_some(self):
         """Where no more is proved than that it misses some, it isn't decided whether a plan misses none."""
-        plan = (1,) * 24
         for bound, status in ((1, 1), (0, 6), (None, 6)):
-            def found(model, seconds, progress=None, start=None, without=None, sums=()):
-                if without < 1.5:
-                    return Finding("undecided")
-                return Finding("within", plan + (0,) * (model.variables - 24), 3, bound)
+            def found(model, seconds, progress=None, start=None, sums=(), known=()):
+                if "missing" in {row.text for row in model.rows} or not any(model.costs[:24]):
+                    return Finding("within", (1,) * 24 + (0,) * (model.variables - 24), 3, bound)
+                return Finding("undecided")
             with self.subTest(bound), mock.patch.object(finding, "find", side_effect=found):
                 self.assertEqual(self.run_words(*WORDS, "--time", "2", "--as-many-as-can")[0], status)
 

@@ -6,7 +6,7 @@ import unittest
 
 from nushbaret.roster.answer import Request
 from nushbaret.roster.month import month_of
-from nushbaret.roster.roster import PlanLine, Wanted
+from nushbaret.roster.roster import Bounds, PlanLine, Takes, Wanted
 from nushbaret.roster.rules.roster_model import built
 from nushbaret.roster.rules.rule_file import RuleLine, rules_of
 from nushbaret.roster.rules.rules_kept import broken_by, missed_by, plan_of
@@ -34,9 +34,10 @@ def drawn(seed):
         roster, past = with_past(r, roster)
     persons, objects = range(len(roster.persons)), range(len(roster.objects))
     least = {object_: int(r.random() < 0.25) for object_ in objects if object_ not in roster.past}
-    roster = roster._replace(tasks={person: r.randint(2, 5) for person in persons},
-                             capacities={object_: r.randint(1, 2) for object_ in objects},
-                             least=({person: r.choice((0, 0, 1, 2)) for person in persons}, least))
+    most = [r.randint(2, 5) for _ in persons], [r.randint(1, 2) for _ in objects]
+    roster = roster._replace(takes=Takes(
+        {person: Bounds(r.choice((0, 0, 1, 2)), most[0][person]) for person in persons},
+        {object_: Bounds(least.get(object_, 0), most[1][object_]) for object_ in objects}, False))
     shapes = SHAPES if len(persons) > 1 else [shape for shape in SHAPES if not shape[2]]
     month = month_of(roster, roster.groups, "g.csv", before)
     rules = rules_of("r.csv", drawn_lines(r, roster.persons, r.randint(1, 3), shapes), roster, month)
@@ -59,15 +60,21 @@ def options_of(roster):
 
 def keeps_counts(roster, plan):
     """Whether the counts are kept; what the past alone exceeds can't be kept."""
-    for side, most_of, least_of, names in ((0, roster.tasks, roster.least[0], roster.persons),
-                                           (1, roster.capacities, roster.least[1], roster.objects)):
-        for number in range(len(names)):
+    for side, bounds_of in enumerate(roster.takes[:2]):
+        for number, bounds in bounds_of.items():
             own = [pair for pair in plan if pair[side] == number]
             past = sum(pair.object in roster.past for pair in own)
-            if len(own) < least_of.get(number, 0) or len(own) > max(most_of[number],
-                                                                    past) and (side == 0 or number not in roster.past):
+            if len(own) < bounds.least or len(own) > max(bounds.most, past) and (side == 0
+                                                                                 or number not in roster.past):
                 return False
     return True
+
+
+def without_least(roster, side):
+    """The roster in which no person (side 0), or no object, has a least count."""
+    sides = list(roster.takes[:2])
+    sides[side] = {number: Bounds(0, bounds.most) for number, bounds in sides[side].items()}
+    return roster._replace(takes=Takes(*sides, False))
 
 
 def searched(roster, month, rules, past, options):
@@ -180,13 +187,13 @@ class Reasons(unittest.TestCase):
             sums = sums_of(found, month)
             finding = find(found.rows.model(), SECONDS, sums=[own.rows for own in sums])
             self.assertTrue(finding.conflicts or finding.shortages)
-            loose = roster._replace(least=(roster.least[0], {}))
+            loose = without_least(roster, 1)
             plans = [plan for plan in ([*past, *filter(None, choice)] for choice in itertools.product(*options))
                      if keeps_counts(loose, plan) and not broken_by(plan_of(loose, rules, month, plan))]
             for short in shorts_of(found, sums, finding.shortages):
                 had = [sum(pair.object in short.objects for pair in plan) for plan in plans]
                 self.assertLessEqual(max(had, default=0), short.had)
-                self.assertEqual(short.wanted, sum(roster.least[1][object_] for object_ in short.objects))
+                self.assertEqual(short.wanted, sum(roster.of_object(object_).least for object_ in short.objects))
                 self.assertLess(short.had, short.wanted)
                 tried, exact = tried + 1, exact + (max(had, default=0) == short.had)
             for one in finding.shortages:
@@ -221,10 +228,9 @@ class Reasons(unittest.TestCase):
             plan = [*past, *filter(None, choice)]
             own = [sum(pair[side] == number for pair in plan) for side in range(2)
                    for number in range(len((roster.persons, roster.objects)[side]))]
-            least = [roster.least[side].get(number, 0) for side in range(2)
-                     for number in range(len((roster.persons, roster.objects)[side]))]
+            least = [bounds.least for bounds_of in roster.takes[:2] for _, bounds in sorted(bounds_of.items())]
             judged = sum(max(0, wanted - had) for wanted, had in zip(least, own)), sum(pair.cost for pair in plan)
-            loose = roster._replace(least=({}, {}))
+            loose = without_least(without_least(roster, 0), 1)
             if (best is None or judged < best) and keeps_counts(loose,
                                                                 plan) and not broken_by(plan_of(roster, rules, month,
                                                                                                 plan)):
@@ -242,8 +248,9 @@ class Prices(unittest.TestCase):
         roster, month, rules, past, options = drawn(seed)
         r = random.Random(seed)
         rules = rules._replace(rules=[rule._replace(price=r.choice((None, 1, 3, 7))) for rule in rules.rules])
-        wanted = {object_: Wanted(r.randint(least, roster.capacities[object_]), r.randint(1, 5))
-                  for object_, least in roster.least[1].items() if r.random() < 0.5}
+        wanted = {object_: Wanted(r.randint(bounds.least, bounds.most), r.randint(1, 5))
+                  for object_, bounds in roster.takes.objects.items() if object_ not in roster.past
+                  and r.random() < 0.5}
         return roster._replace(wanted=wanted), month, rules, past, options
 
     def test_best(self):

@@ -10,8 +10,8 @@ use Rattle.dual_checker.proofs.HallMarking.{just_added}
 use Rattle.plan_checker.proofs.Reading.{free_same, listed_long}
 use Rattle.plan_checker.proofs.ranked.ranked_by.Goals as goal
 
-pub mark_owned-requires : goal.mark_owned-requires
-mark_owned-requires c =
+pub mark_numbers-requires : goal.mark_numbers-requires
+mark_numbers-requires c =
     let l = c.args.lists.now in
     let xs = c.args.objects.now in
     let long = ap length c.requires.owned ∙ length-replicate l.m _ in
@@ -21,9 +21,9 @@ mark_owned-requires c =
 pub returns-then-not-are_free : goal.returns-then-not-are_free
 returns-then-not-are_free c =
     let l = c.args.lists.now in
-    let owned = c.mark_owned.new.owned in
-    let long = c.mark_owned.auto.owned ∙ ap length c.requires.owned ∙ length-replicate l.m _ in
-    let marks = just_added l.m c.args.owned.now owned _ c.requires.owned c.mark_owned.ensures in
+    let owned = c.mark_numbers.new.marks in
+    let long = c.mark_numbers.auto.marks ∙ ap length c.requires.owned ∙ length-replicate l.m _ in
+    let marks = just_added l.m c.args.owned.now owned _ c.requires.owned c.mark_numbers.ensures in
     let same = free_same l.m c.args.objects.now owned c.args.prices.now c.args.ranks.now long c.requires.optimum.priced c.requires.ranks marks in (
       (λ e. absurd (true≢false (sym e))),
       (λ r. absurd (true≢false (sym (c.are_free.ensures.1 (same.1 (record { in_range = r.in_range; unowned = r.unowned; free = r.free }))) ∙ c.if-not-are_free.true))),
@@ -46,9 +46,9 @@ all_rise-requires-clause-plan c =
 pub returns : goal.returns
 returns c =
     let l = c.args.lists.now in
-    let owned = c.mark_owned.new.owned in
-    let long = c.mark_owned.auto.owned ∙ ap length c.requires.owned ∙ length-replicate l.m _ in
-    let marks = just_added l.m c.args.owned.now owned _ c.requires.owned c.mark_owned.ensures in
+    let owned = c.mark_numbers.new.marks in
+    let long = c.mark_numbers.auto.marks ∙ ap length c.requires.owned ∙ length-replicate l.m _ in
+    let marks = just_added l.m c.args.owned.now owned _ c.requires.owned c.mark_numbers.ensures in
     let same = free_same l.m c.args.objects.now owned c.args.prices.now c.args.ranks.now long c.requires.optimum.priced c.requires.ranks marks in
     let free = same.0 (c.are_free.ensures.0 c.if-not-are_free.false) in (
       (λ yes. record { long = c.requires.ranks; in_range = free.in_range; rise = c.all_rise.ensures.0 yes; unowned = free.unowned; free = free.free }),
