@@ -2,9 +2,9 @@
 ghost use Rattle.lent_blocks.specs.Blocks.{BlockBuffers, JudgesBlock, block_given};
 
 use assign_core::Cost;
+use c_calls::lists::{Given, Info, form_of};
 use cost_lists::{Object, Person, Price};
 use lent_blocks::{block_on, one_length};
-use c_calls::lists::{Given, Info, form_of};
 use std::alloc::Global;
 
 /// Looks at `n` persons of a greater problem, or at some of their pairs, whose other pairs lie elsewhere:
