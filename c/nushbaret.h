@@ -148,7 +148,8 @@ enum nushbaret_code {
 
     NUSHBARET_STOPPED = 21,      /* the budget is spent: the same call goes on */
 
-    NUSHBARET_UNDECIDED = 23     /* over doubles: nothing is proved, as where plans differ by less than rounding */
+    NUSHBARET_UNDECIDED = 23,    /* the question stays open; over doubles where plans differ by less than rounding */
+    NUSHBARET_TIED = 24          /* from nushbaret_unique: another plan is as good */
 };
 
 /* Where a search stands that a budget stopped. All 0: it begins. What the fields mean is the library's own affair, and may
@@ -241,6 +242,28 @@ int32_t nushbaret_check_hall(size_t n, size_t m,
     const int64_t *costs, size_t costs_count,
     const uint32_t *persons, size_t persons_count,
     const uint32_t *objects, size_t objects_count,
+    struct nushbaret_info *info);
+
+/* Whether an assignment is the only best one. The problem, its objects and their prices are given as for nushbaret_check.
+
+   code                  written
+   NUSHBARET_BEST        ranks: it is the only best one
+   NUSHBARET_TIED        other: another one as good, which the same prices prove
+   NUSHBARET_UNDECIDED   nothing: it is a best one, no more is shown (never seen)
+   any other             as in nushbaret_check
+
+   other has n values, ranks has m. Ranks show that there is no other plan as good: where another object is as good for a
+   person, at these prices, as its own, its rank is higher; the rank is 0 where nobody has the object, and from 0 where its
+   price is 0.
+   The time is that of nushbaret_check, two to four times. Listed pairs that are as good as their persons' own are sorted. */
+int32_t nushbaret_unique(uint32_t sense, size_t n, size_t m,
+    const uint32_t *of_persons, size_t of_persons_count,
+    const uint32_t *of_objects, size_t of_objects_count,
+    const int64_t *costs, size_t costs_count,
+    const uint32_t *objects, size_t objects_count,
+    const int64_t *prices, size_t prices_count,
+    uint32_t *other, size_t other_count,
+    int32_t *ranks, size_t ranks_count,
     struct nushbaret_info *info);
 
 /* BLOCKS. A problem of which no machine holds all pairs: blocks have its pairs, each at least once. A row may lie in several

@@ -15,6 +15,7 @@ SOLVER = TOP / "crates/list_solver/src"
 ROWS = TOP / "crates/lent_rows/src/info.rt"
 DOUBLES = LENT / "doubles"
 COUNTS = TOP / "crates/lent_counts/src"
+PLANS = TOP / "crates/lent_plans/src"
 SEARCH = TOP / "crates/count_search/src"
 HEADER = re.sub(r"/\*.*?\*/", "", (TOP / "c/nushbaret.h").read_text(), flags=re.S)
 NUMBERS = {"u8": "uint8_t", "u32": "uint32_t", "u64": "uint64_t", "usize": "size_t", "i32": "int32_t",
@@ -94,6 +95,15 @@ def count_codes():
     yield "SIDE", int(re.search(r"return (\d+);", (COUNTS / "checking.rt").read_text())[1])
 
 
+def plan_codes():
+    """The codes of answers about a plan that no other call has."""
+    called = {"Other": "TIED", "Open": "UNDECIDED"}
+    for variant, number in re.findall(r"Answer::(\w+)(?:\(\w+\))? => (?:\{[^}]*?\n\s*)?(\d+)[,\n]",
+                                      (PLANS / "unique.rt").read_text()):
+        if variant in called:
+            yield called[variant], int(number)
+
+
 def double_codes():
     """The codes of calls over doubles: most of them are those of other calls."""
     called = {"Verdict::Price": "PRICE_RANGE"}
@@ -121,7 +131,7 @@ for name in sorted(calls.keys() & declared.keys()):
     compare(name, declared[name], calls[name])
 compare("codes", dict(sorted((name, int(code)) for name, code in re.findall(r"NUSHBARET_(?!ROWS_|COUNTS_)(\w+) = (\d+)",
                                                                             HEADER))),
-        dict(sorted({**dict(crate_codes()), **dict(double_codes())}.items())))
+        dict(sorted({**dict(crate_codes()), **dict(double_codes()), **dict(plan_codes())}.items())))
 compare("codes over doubles", {name: code for name, code in crate_codes() if name in dict(double_codes())},
         {name: code for name, code in double_codes() if name in dict(crate_codes())})
 compare("codes of rows", dict(sorted((name, int(code))

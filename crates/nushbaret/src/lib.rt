@@ -9,6 +9,7 @@ mod dense;
 mod doubles;
 mod rows;
 mod sparse;
+mod unique;
 mod version;
 
 pub use blocks::nushbaret_block;
@@ -20,4 +21,5 @@ pub use dense::{nushbaret_dense, nushbaret_dense_from};
 pub use doubles::{nushbaret_check_doubles, nushbaret_doubles, nushbaret_doubles_from};
 pub use rows::nushbaret_rows;
 pub use sparse::{nushbaret_sparse, nushbaret_sparse_from};
+pub use unique::nushbaret_unique;
 pub use version::nushbaret_version;

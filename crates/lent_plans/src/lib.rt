@@ -1,0 +1,8 @@
+//! Questions about a plan that a caller in C lends: the lists are judged, the plan is checked, and the
+//! proved answer is written into the buffers. A code says which answer.
+#![tactic(auto)]
+
+mod answer;
+mod unique;
+
+pub use unique::unique_on;

@@ -1,0 +1,46 @@
+// The call that asks whether a plan is the only best one, as `c/nushbaret.h` declares it.
+ghost use Rattle.lent_plans.specs.Unique.{JudgesUnique, UniqueBuffers, unique_given};
+
+use cost_lists::{Object, Person, Price};
+use c_calls::lists::{Given, Info, form_of};
+use lent_plans::unique_on;
+use std::alloc::Global;
+
+/// Whether an assignment with prices that prove it is the only best one of a problem, which is dense or
+/// sparse as in `nushbaret_check`.
+#[unsafe(no_mangle)]
+pub extern "C" fn nushbaret_unique(
+    alloc: Global,
+    sense: u32,
+    n: usize,
+    m: usize,
+    of_persons: &[Person],
+    of_objects: &[Object],
+    costs: &[i64],
+    objects: &[Object],
+    prices: &[Price],
+    other: &mut [Object],
+    ranks: &mut [i32],
+    info: &mut Info,
+) -> i32
+    ensures { let before : UniqueBuffers = record { other = other.old; ranks = ranks.old; info = info.old } in
+        let after : UniqueBuffers = record { other = other.new; ranks = ranks.new; info = info.new } in
+        JudgesUnique (unique_given sense n m of_persons.now of_objects.now costs.now before)
+        objects.now prices.now before after result }
+{
+    let by_person = [other.len()];
+    let by_object = [ranks.len()];
+    let given = Given {
+        form: form_of(of_persons, of_objects, costs),
+        sense,
+        n,
+        m,
+        by_person: &by_person,
+        by_object: &by_object,
+        persons: of_persons,
+        objects: of_objects,
+        costs,
+        first: &[],
+    };
+    unique_on(alloc, &given, objects, prices, other, ranks, info)
+}

@@ -1,0 +1,4 @@
+pub mod Covered
+pub mod RankSums
+pub mod RankLaws
+pub mod Reading

@@ -1,0 +1,62 @@
+-- An optimum as it is read, and pairs compared with the own ones of their persons.
+use Rattle.std.specs.Prelude.{◌≡◌, ◌≢◌, ◌⊎◌, ◌-◌, ◌+◌, ℕ, ℤ, pos, ◌+ℤ◌, ◌≤ℤ◌, ◌<◌, List, Bool, length, slice_index_or, All}
+use Rattle.assign_core.specs.Numbered.{IsMarked, IsNumber}
+use Rattle.assign_core.specs.Rows.{IsCost}
+use Rattle.cost_lists.specs.declared.source.Pairs.{Pairs}
+use Rattle.cost_lists.specs.Exact.{IsPriceInLimits}
+use Rattle.cost_lists.specs.Own.{minimised}
+use Rattle.cost_lists.specs.Source.{part_of}
+use Rattle.plan_checker.specs.declared.rises.Plan.{Plan}
+use Rattle.plan_checker.specs.Ranks.{IsRank, step_of}
+
+-- n persons' objects and costs, and prices and ranks of m objects
+pub record IsPlan (n m : ℕ) (p : Plan) : Type 0 where
+  pub own_long : length p.own.now ≡ n
+  pub objects_long : length p.objects.now ≡ n
+  pub prices_long : length p.prices.now ≡ m
+  pub ranks_long : length p.ranks.now ≡ m
+  pub own_in : All IsCost p.own.now
+  pub objects_in : All (IsNumber m) p.objects.now
+  pub prices_in : All IsPriceInLimits p.prices.now
+
+-- the object of person i
+abbrev pub object_at : Plan → ℕ → ℕ
+object_at p i = slice_index_or p.objects.now (i - 1) 0
+
+-- the price and the rank of object j
+abbrev pub price_at : Plan → ℕ → ℤ
+price_at p j = slice_index_or p.prices.now (j - 1) (pos 0)
+
+abbrev pub rank_at : Plan → ℕ → ℤ
+rank_at p j = slice_index_or p.ranks.now (j - 1) (pos 0)
+
+-- the sum of person i's own cost and price
+abbrev pub sum_at : Plan → ℕ → ℤ
+sum_at p i = slice_index_or p.own.now (i - 1) (pos 0) +ℤ price_at p (object_at p i)
+
+-- if object k, not the own one, is as good for person i at this cost, its rank is higher; where ranks
+-- aren't strict it may be the same
+abbrev pub Rises : Plan → ℕ → ℕ → ℤ → Type 0
+Rises p i k cost =
+    (minimised p.sense cost +ℤ price_at p k) ≤ℤ sum_at p i → k ≢ object_at p i →
+    (rank_at p (object_at p i) +ℤ step_of p.is_strict) ≤ℤ rank_at p k
+
+-- the objects of a row of costs, of person i
+abbrev pub RowRises : Plan → ℕ → List ℤ → Type 0
+RowRises p i row = (j : ℕ) → j < length row → Rises p i (j + 1) (slice_index_or row j (pos 0))
+
+-- all rows
+abbrev pub RowsRise : Plan → List ℤ → Type 0
+RowsRise p costs = (i : ℕ) → i < length p.own.now → RowRises p (i + 1) (part_of (length p.prices.now) i costs)
+
+-- the listed pairs
+abbrev pub PairsRise : Plan → Pairs → Type 0
+PairsRise p pairs =
+    (q : ℕ) → q < length pairs.persons.now →
+    Rises p (slice_index_or pairs.persons.now q 0) (slice_index_or pairs.objects.now q 0) (slice_index_or pairs.costs.now q (pos 0))
+
+-- by its mark, price and rank: an object that isn't owned has rank 0, and one of price 0 a rank from 0
+pub record IsFreeAt (owned : List Bool) (prices ranks : List ℤ) (j : ℕ) : Type 0 where
+  pub in_range : IsRank (slice_index_or ranks j (pos 0))
+  pub unowned : IsMarked owned (j + 1) ⊎ (slice_index_or ranks j (pos 0) ≡ pos 0)
+  pub free : slice_index_or prices j (pos 0) ≡ pos 0 → pos 0 ≤ℤ slice_index_or ranks j (pos 0)

@@ -1,0 +1,15 @@
+//! Checks what is said about a best plan: that it is the only one, and which persons' objects can change
+//! in another one as good. Ranks of objects prove both.
+#![tactic(auto)]
+
+mod free;
+mod law;
+mod pairs;
+mod rank;
+mod ranked;
+mod rises;
+mod rows;
+
+pub use law::{ranks_mean_kept, ranks_mean_only};
+pub use rank::Rank;
+pub use ranked::are_ranked;

@@ -1,0 +1,4 @@
+// Ranks.
+
+/// The rank of an object.
+pub type Rank = i32;

@@ -1,0 +1,50 @@
+// Whether ranks rise from a person's own object to another one that is as good.
+ghost use Rattle.std.specs.Prelude.{◌≡◌, ◌↔◌, ◌+ℤ◌, ◌≤ℤ◌, ℕ, IsTrue};
+ghost use Rattle.assign_core.specs.Numbered.{IsNumber};
+ghost use Rattle.assign_core.specs.Rows.{IsCost};
+ghost use Rattle.plan_checker.specs.Ranks.{step_of};
+ghost use Rattle.plan_checker.specs.inside.Rises.{IsPlan, Rises};
+
+use super::rank::Rank;
+use assign_core::{Cost, Sense};
+use cost_lists::{Object, Person, Price};
+use exact_checker::sum_of;
+
+// An optimum with ranks. The own costs are turned, so that less is better.
+#[derive(Clone, Copy)]
+pub struct Plan<'a> {
+    pub sense: Sense,
+    pub own: &'a [Cost],
+    pub objects: &'a [Object],
+    pub prices: &'a [Price],
+    pub ranks: &'a [Rank],
+    pub is_strict: bool,
+}
+
+// Whether a rank is above another one, or, if ranks aren't strict, the same.
+fn is_above(own: Rank, other: Rank, is_strict: bool) -> bool
+    ensures { IsTrue result ↔ ((own +ℤ step_of is_strict) ≤ℤ other) }
+{
+    if is_strict { own < other } else { own <= other }
+}
+
+// Whether a pair costs its person more than its own, or the object is its own, or the object's rank
+// rises.
+pub fn pair_rises(plan: Plan<'_>, person: Person, object: Object, cost: Cost) -> bool
+    requires plan { (n m : ℕ) × IsPlan n m plan × IsNumber n person × IsNumber m object }
+    requires cost { IsCost cost }
+    ensures { IsTrue result ↔ Rises plan.entry person object cost }
+{
+    let place = person as usize - 1;
+    let own = plan.objects[place];
+    let sum = sum_of(plan.sense, cost, plan.prices[object as usize - 1]);
+    let own_sum = sum_of(Sense::Min, plan.own[place], plan.prices[own as usize - 1]);
+    if own_sum < sum || object == own {
+        return true;
+    }
+    let (from, to) = (
+        plan.ranks[own as usize - 1],
+        plan.ranks[object as usize - 1],
+    );
+    is_above(from, to, plan.is_strict)
+}

@@ -1,0 +1,101 @@
+// A walk over the arcs, depth first, that stops at a cycle.
+use super::arcs::Arcs;
+use super::values::{set_value, value_at};
+use cost_lists::Object;
+use std::alloc::{AllocError, Global};
+
+/// Where a walk stands. Its path is a list, so that the stack stays small.
+#[derive(Drop)]
+pub struct Walk {
+    /// The next arc of each node that was entered.
+    next: Vec<usize>,
+    /// For each node 0, or how many nodes had been left when it was left, itself included.
+    left: Vec<i32>,
+    /// Which nodes are on the path.
+    is_on: Vec<bool>,
+    /// The nodes from the first to the last one entered that wasn't left.
+    path: Vec<usize>,
+    count: i32,
+}
+
+impl Walk {
+    pub fn new(alloc: Global, nodes: usize) -> Result<Walk, AllocError> {
+        Ok(Walk {
+            next: vec![in alloc; 0usize; nodes]?,
+            left: vec![in alloc; 0i32; nodes]?,
+            is_on: vec![in alloc; false; nodes]?,
+            path: Vec::new(alloc),
+            count: 0,
+        })
+    }
+
+    /// When a node was left.
+    pub fn left(&self, node: usize) -> i32 {
+        value_at(self.left.as_slice(), node, 0)
+    }
+
+    /// The nodes of the path.
+    pub fn path(&self) -> &[usize] {
+        self.path.as_slice()
+    }
+
+    /// The object of the arc by which the path goes on from a node.
+    pub fn taken(&self, arcs: &Arcs, node: usize) -> Option<Object> {
+        arcs.object(
+            node,
+            value_at(self.next.as_slice(), node, 0).wrapping_sub(1),
+        )
+    }
+
+    // Puts a node at the end of the path.
+    fn enter(&mut self, arcs: &Arcs, node: usize) -> Result<(), AllocError> {
+        self.path.push(node)?;
+        set_value(self.is_on.as_mut_slice(), node, true);
+        set_value(self.next.as_mut_slice(), node, arcs.start(node));
+        Ok(())
+    }
+
+    // Takes the last node off the path.
+    fn leave(&mut self, node: usize) {
+        let _last = self.path.pop();
+        self.count = self.count.wrapping_add(1);
+        set_value(self.is_on.as_mut_slice(), node, false);
+        set_value(self.left.as_mut_slice(), node, self.count);
+    }
+
+    // The next arc of a node.
+    fn step(&mut self, arcs: &Arcs, node: usize) -> Option<Object> {
+        let arc = value_at(self.next.as_slice(), node, 0);
+        let object = arcs.object(node, arc)?;
+        set_value(self.next.as_mut_slice(), node, arc.wrapping_add(1));
+        Some(object)
+    }
+
+    /// Walks from a node until all that it reaches was left, or up to the first arc to a node of the path,
+    /// and returns its object.
+    pub fn go(&mut self, arcs: &Arcs, from: usize) -> Result<Option<Object>, AllocError> {
+        if self.left(from) != 0 {
+            return Ok(None);
+        }
+        self.enter(arcs, from)?;
+        for _ in 0..arcs.size() {
+            let Some(last) = self.path.last() else {
+                return Ok(None);
+            };
+            let node = *last;
+            match self.step(arcs, node) {
+                None => self.leave(node),
+                Some(object) => {
+                    let owner = arcs.owner(object);
+                    if value_at(self.is_on.as_slice(), owner, false) {
+                        return Ok(Some(object));
+                    }
+                    if self.left(owner) == 0 {
+                        self.enter(arcs, owner)?;
+                    }
+                }
+            }
+        }
+        Ok(None)
+    }
+}

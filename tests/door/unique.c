@@ -1,0 +1,258 @@
+/* Whether a plan is the only best one: what the call says is what a search of all plans finds, each fault leaves the lists
+   as they were, and so does each refused growth. */
+#include "calls.h"
+
+enum { ROWS = 6, COLUMNS = 7, ROOM = 60 };
+
+/* What the call reads and writes. */
+struct asked {
+    uint32_t sense;
+    size_t n, m, pairs;
+    int is_sparse;
+    int64_t costs[ROOM], prices[COLUMNS + 1];
+    uint32_t of_persons[ROOM], of_objects[ROOM], objects[ROWS + 1], other[ROWS + 1], persons[ROWS + 1];
+    int32_t ranks[COLUMNS + 1];
+    struct nushbaret_info info;
+};
+
+static int32_t ask(struct asked *a) {
+    const size_t pairs = a->is_sparse ? a->pairs : 0;
+    int32_t code = nushbaret_unique(a->sense, a->n, a->m, a->of_persons, pairs, a->of_objects, pairs, a->costs, a->pairs,
+        a->objects, a->n, a->prices, a->m, a->other, a->n, a->ranks, a->m, &a->info);
+    return blocks == 0 ? code : -1;
+}
+
+static int32_t check_plan(struct asked *a) {
+    const size_t pairs = a->is_sparse ? a->pairs : 0;
+    return nushbaret_check(a->sense, a->n, a->m, a->of_persons, pairs, a->of_objects, pairs, a->costs, a->pairs,
+        a->objects, a->n, a->prices, a->m, &a->info);
+}
+
+static int32_t solve_plan(struct asked *a) {
+    return a->is_sparse
+        ? nushbaret_sparse(a->sense, a->n, a->m, a->of_persons, a->pairs, a->of_objects, a->pairs, a->costs, a->pairs,
+            a->objects, a->n, a->persons, a->n, a->prices, a->m, &a->info)
+        : nushbaret_dense(a->sense, a->n, a->m, a->costs, a->pairs, a->objects, a->n, a->persons, a->n, a->prices, a->m,
+            &a->info);
+}
+
+/* The least cost of a pair, turned under NUSHBARET_MAX; INT64_MAX if it isn't listed. */
+static int64_t cost_of(const struct asked *a, size_t i, size_t j) {
+    int64_t least = INT64_MAX;
+    size_t k;
+    for (k = 0; k < a->pairs; k++) {
+        const int64_t cost = a->sense == NUSHBARET_MIN ? a->costs[k] : -a->costs[k];
+        if (a->of_persons[k] == i + 1 && a->of_objects[k] == j + 1 && cost < least) least = cost;
+    }
+    return least;
+}
+
+/* All plans: the least sum, and how many have it. */
+struct all {
+    int64_t table[ROWS][COLUMNS], least;
+    size_t count;
+};
+
+static void look(const struct asked *a, struct all *all, size_t i, unsigned used, int64_t sum) {
+    size_t j;
+    if (i == a->n) {
+        if (all->count == 0 || sum < all->least) all->least = sum, all->count = 0;
+        if (sum == all->least) all->count++;
+        return;
+    }
+    for (j = 0; j < a->m; j++)
+        if (!(used >> j & 1) && all->table[i][j] != INT64_MAX) look(a, all, i + 1, used | 1u << j, sum + all->table[i][j]);
+}
+
+static struct all look_at_all(const struct asked *a) {
+    struct all all;
+    size_t i, j;
+    memset(&all, 0, sizeof all);
+    for (i = 0; i < a->n; i++)
+        for (j = 0; j < a->m; j++) all.table[i][j] = cost_of(a, i, j);
+    look(a, &all, 0, 0, 0);
+    return all;
+}
+
+/* Whether these objects are a plan of the least sum. */
+static int is_best(const struct asked *a, const struct all *all, const uint32_t *objects) {
+    unsigned used = 0;
+    int64_t sum = 0;
+    size_t i;
+    for (i = 0; i < a->n; i++) {
+        if (objects[i] < 1 || objects[i] > a->m || used >> objects[i] & 1) return 0;
+        if (all->table[i][objects[i] - 1] == INT64_MAX) return 0;
+        used |= 1u << objects[i];
+        sum += all->table[i][objects[i] - 1];
+    }
+    return sum == all->least;
+}
+
+/* Whether the ranks show what the header says. */
+static int are_ranks(const struct asked *a, const struct all *all) {
+    size_t i, j;
+    for (j = 0; j < a->m; j++) {
+        int is_owned = 0;
+        for (i = 0; i < a->n; i++) is_owned |= a->objects[i] == j + 1;
+        if ((!is_owned && a->ranks[j] != 0) || (a->prices[j] == 0 && a->ranks[j] < 0)) return 0;
+    }
+    for (i = 0; i < a->n; i++) {
+        const size_t own = a->objects[i] - 1;
+        for (j = 0; j < a->m; j++)
+            if (j != own && all->table[i][j] != INT64_MAX
+                && all->table[i][j] + a->prices[j] == all->table[i][own] + a->prices[own] && a->ranks[j] <= a->ranks[own])
+                return 0;
+    }
+    return 1;
+}
+
+/* A drawn problem of listed pairs, some of them twice, or dense. */
+static struct asked draw(unsigned *seed) {
+    struct asked a;
+    const unsigned values = 1 + drawn(seed) % 12;
+    size_t k;
+    memset(&a, 0, sizeof a);
+    a.n = 1 + drawn(seed) % ROWS, a.m = a.n + drawn(seed) % (COLUMNS - a.n + 1);
+    a.is_sparse = drawn(seed) % 2, a.sense = drawn(seed) % 2;
+    a.pairs = a.is_sparse ? 1 + drawn(seed) % ROOM : a.n * a.m;
+    for (k = 0; k < a.pairs; k++) {
+        a.costs[k] = (int64_t)(drawn(seed) % values) - 5;
+        a.of_persons[k] = (uint32_t)(a.is_sparse ? drawn(seed) % a.n : k / a.m) + 1;
+        a.of_objects[k] = (uint32_t)(a.is_sparse ? drawn(seed) % a.m : k % a.m) + 1;
+    }
+    return a;
+}
+
+/* The answer on a drawn problem; then the verdict where a price or an object is another one. */
+static void compare(unsigned *seed, size_t *only, size_t *tied) {
+    struct asked a = draw(seed), before;
+    int32_t end = solve_plan(&a);
+    const struct all all = look_at_all(&a);
+    int32_t code;
+    WANT((end == NUSHBARET_BEST) == (all.count > 0));
+    if (end != NUSHBARET_BEST) return;
+    before = a;
+    code = ask(&a);
+    WANT(code == (all.count == 1 ? NUSHBARET_BEST : NUSHBARET_TIED));
+    if (code == NUSHBARET_BEST) {
+        WANT(are_ranks(&a, &all));
+        memcpy(before.ranks, a.ranks, sizeof a.ranks);
+        ++*only;
+    } else {
+        WANT(is_best(&a, &all, a.other) && memcmp(a.other, a.objects, a.n * sizeof *a.other) != 0);
+        memcpy(before.other, a.other, sizeof a.other);
+        ++*tied;
+    }
+    WANT(memcmp(&a, &before, sizeof a) == 0);
+    if (drawn(seed) % 2) a.prices[drawn(seed) % a.m] += (int64_t)(drawn(seed) % 5) - 2;
+    else a.objects[drawn(seed) % a.n] = drawn(seed) % (a.m + 2);
+    before = a;
+    end = check_plan(&before);
+    code = ask(&a);
+    if (end != NUSHBARET_BEST) WANT(code == end && memcmp(&a, &before, sizeof a) == 0);
+    else WANT(code == (all.count == 1 ? NUSHBARET_BEST : NUSHBARET_TIED));
+}
+
+/* Two persons and three objects: the plan 2, 1 is the only one of its sum; with another cost there are two. */
+static struct asked worked(void) {
+    static const int64_t costs[] = {4, 1, 9, 2, 3, 9};
+    struct asked a;
+    size_t k;
+    memset(&a, 0, sizeof a);
+    a.n = 2, a.m = 3, a.pairs = 6;
+    memcpy(a.costs, costs, sizeof costs);
+    for (k = 0; k < 6; k++) a.of_persons[k] = (uint32_t)(k / 3 + 1), a.of_objects[k] = (uint32_t)(k % 3 + 1);
+    WANT(solve_plan(&a) == NUSHBARET_BEST);
+    return a;
+}
+
+static void shown(void) {
+    struct asked a = worked();
+    WANT(ask(&a) == NUSHBARET_BEST);
+    a.costs[4] = -1;
+    WANT(solve_plan(&a) == NUSHBARET_BEST && a.info.total == 3);
+    WANT(ask(&a) == NUSHBARET_TIED);
+    WANT(a.other[0] == (a.objects[0] == 1 ? 2 : 1) && a.other[1] == (a.objects[1] == 1 ? 2 : 1));
+}
+
+/* Each fault is the first, and writes its place alone. */
+static void faults(void) {
+    static const int32_t codes[] = {NUSHBARET_SENSE, NUSHBARET_SIZE, NUSHBARET_SIZE, NUSHBARET_LENGTH, NUSHBARET_COST,
+        NUSHBARET_PRICE_RANGE, NUSHBARET_UNLISTED};
+    size_t k;
+    for (k = 0; k < sizeof codes / sizeof *codes; k++) {
+        struct asked a = worked(), before;
+        a.info.place = 99;
+        if (k == 0) a.sense = 2;
+        if (k == 1) a.n = 0;
+        if (k == 2) a.m = 0;
+        if (k == 3) a.pairs = 5;
+        if (k == 4) a.costs[4] = NUSHBARET_GREATEST_COST + 1;
+        if (k == 5) a.prices[1] = -1;
+        if (k == 6) a.objects[1] = 9;
+        before = a;
+        WANT(ask(&a) == codes[k]);
+        WANT(a.info.place == (k == 4 ? 4u : 99u));
+        before.info = a.info;
+        WANT(memcmp(&a, &before, sizeof a) == 0);
+    }
+    {
+        struct asked a = worked();
+        WANT(nushbaret_unique(0, 2, 3, a.of_persons, 0, a.of_objects, 0, a.costs, 6, a.objects, 2, a.prices, 3, a.other, 1,
+            a.ranks, 3, &a.info) == NUSHBARET_LENGTH);
+        WANT(nushbaret_unique(0, 2, 3, a.of_persons, 0, a.of_objects, 0, a.costs, 6, a.objects, 2, a.prices, 3, a.other, 2,
+            a.ranks, 2, &a.info) == NUSHBARET_LENGTH);
+        WANT(nushbaret_unique(0, 2, 3, a.of_persons, 0, a.of_objects, 0, a.costs, 6, a.objects, 1, a.prices, 3, a.other, 2,
+            a.ranks, 3, &a.info) == NUSHBARET_ANSWER_LENGTH);
+    }
+}
+
+static void refused(int is_sparse, int is_tied) {
+    struct asked a = worked();
+    long k;
+    a.is_sparse = is_sparse;
+    if (is_tied) a.costs[4] = -1;
+    WANT(solve_plan(&a) == NUSHBARET_BEST);
+    for (k = 1;; k++) {
+        struct asked now = a;
+        int32_t code;
+        growths = 0, refuse_at = k;
+        code = ask(&now);
+        refuse_at = 0;
+        WANT(code == (is_tied ? NUSHBARET_TIED : NUSHBARET_BEST)
+            || (code == NUSHBARET_MEMORY && memcmp(&now, &a, sizeof a) == 0));
+        if (growths < k) break;
+    }
+    WANT(k > 5);
+}
+
+/* A ring in which each person could take the next one's object as well: its path has all persons. */
+static void ring(size_t n, int is_closed) {
+    static uint32_t of_persons[200000], of_objects[200000], objects[100000], other[100000];
+    static int64_t costs[200000], prices[100000];
+    static int32_t ranks[100000];
+    struct nushbaret_info info;
+    const size_t pairs = 2 * n - (is_closed ? 0 : 1);
+    size_t i;
+    for (i = 0; i < n; i++) {
+        of_persons[2 * i] = of_objects[2 * i] = objects[i] = (uint32_t)i + 1;
+        of_persons[2 * i + 1] = (uint32_t)i + 1, of_objects[2 * i + 1] = (uint32_t)((i + 1) % n) + 1;
+    }
+    memset(&info, 0, sizeof info);
+    WANT(nushbaret_unique(NUSHBARET_MIN, n, n, of_persons, pairs, of_objects, pairs, costs, pairs, objects, n, prices, n,
+        other, n, ranks, n, &info) == (is_closed ? NUSHBARET_TIED : NUSHBARET_BEST));
+    for (i = 0; i < n; i++) WANT(is_closed ? other[i] == (i + 1) % n + 1 : i == 0 || ranks[i] > ranks[i - 1]);
+}
+
+void test_unique(void) {
+    unsigned seed = 5;
+    size_t only = 0, tied = 0;
+    int k;
+    shown();
+    faults();
+    for (k = 0; k < 4; k++) refused(k / 2, k % 2);
+    ring(100000, 0);
+    ring(100000, 1);
+    for (k = 0; k < 6000; k++) compare(&seed, &only, &tied);
+    WANT(only > 1000 && tied > 1000);
+}
