@@ -13,7 +13,9 @@ mod marks;
 mod solve;
 
 pub use check::check_given;
+pub use fault::{Fault, refuse};
 pub use given::Given;
 pub use info::DoublesInfo;
+pub use judge::{Shape, judge};
 pub use law::marked_plans_stay_best;
 pub use solve::{solve_from, solve_given};
