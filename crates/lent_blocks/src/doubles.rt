@@ -1,29 +1,11 @@
 // A block over doubles of a caller: judged, looked at, and what it shows written.
-ghost use Rattle.std.specs.Prelude.{◌≡◌, ◌≢◌, ◌⊎◌, pos, length, All, IfErr, IfOk, IsTrue, MatchOption};
-ghost use Rattle.dual_checker.specs.Faults.{IsFirst};
-ghost use Rattle.double_costs.specs.Units.{is_number};
-ghost use Rattle.lent_doubles.specs.declared.fault.Fault.TheVariants.{Memory};
-ghost use Rattle.lent_doubles.specs.Faults.{HasFault, IsShape, IsWhole};
+ghost use Rattle.std.specs.Prelude.{◌≡◌, pos, length, MatchOption};
 ghost use Rattle.lent_doubles.specs.Given.{HasLengths};
-ghost use Rattle.block_doubles.specs.Pairs.{IsInfiniteIn};
 ghost use Rattle.lent_blocks.specs.DoubleBlocks.{JudgesDoubles, Numbers, Shown};
 
 use block_doubles::{first_infinite, look};
 use cost_lists::{Object, Person};
-use double_costs::first_fault;
-use lent_doubles::{DoublesInfo, Fault, Given, Shape, judge, refuse};
-
-// The sense and the size if the problem has no fault, or else the first one.
-fn judge_costs(given: &Given<'_>) -> Result<Shape, Fault>
-    ensures shape { IfOk result (λ shape. IsShape given.now shape × IsWhole given.now shape.sense) }
-    ensures fault { IfErr result (λ fault. HasFault given.now fault × (fault ≢ Memory)) }
-{
-    let shape = judge(given)?;
-    match first_fault(shape.sense, given.costs) {
-        Some(place) => Err(Fault::Cost(place)),
-        None => Ok(shape),
-    }
-}
+use lent_doubles::{DoublesInfo, Given, judge_costs, refuse};
 
 // Names the first better pair, if there is one.
 fn report(first: Option<(Person, Object)>, info: &mut DoublesInfo) -> i32

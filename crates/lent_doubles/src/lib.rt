@@ -4,6 +4,7 @@
 
 mod answer;
 mod check;
+mod costs;
 mod fault;
 mod given;
 mod info;
@@ -13,9 +14,10 @@ mod marks;
 mod solve;
 
 pub use check::check_given;
+pub use costs::judge_costs;
 pub use fault::{Fault, refuse};
 pub use given::Given;
 pub use info::DoublesInfo;
-pub use judge::{Shape, judge};
+pub use judge::Shape;
 pub use law::marked_plans_stay_best;
 pub use solve::{solve_from, solve_given};
