@@ -125,7 +125,7 @@ def _metadata():
     fields = [("Metadata-Version", "2.1"), ("Name", "nushbaret"), ("Version", VERSION),
               ("Summary", _text("description")), ("Keywords", ",".join(_listed("keywords"))),
               ("License", "MIT OR Apache-2.0"), ("Requires-Python", _text("requires-python")),
-              *(("Classifier", text) for text in _listed("classifiers")), *_extras("rules", "dask"),
+              *(("Classifier", text) for text in _listed("classifiers")), *_extras("xlsx", "rules", "dask", "all"),
               ("Description-Content-Type", "text/markdown")]
     return "".join(f"{name}: {text}\n" for name, text in fields) + "\n" + _description()
 

@@ -71,6 +71,10 @@ PyObject *pair_of(PyObject *first, PyObject *second) {
 /* Rows and columns in the form that the costs have. */
 PyObject *rows_and_columns(const State *state, const Matrix *matrix, const Room *room) {
     pair_up(matrix, room);
+    return given_both(state, matrix, room);
+}
+
+PyObject *given_both(const State *state, const Matrix *matrix, const Room *room) {
     PyObject *rows = as_given(state, matrix, room->rows);
     return pair_of(rows, rows ? as_given(state, matrix, room->columns) : NULL);
 }
@@ -97,7 +101,7 @@ static int has_places(const double *costs, size_t count, double power, int64_t *
 }
 
 /* How many decimal places finite doubles have at most, from 0 on; -1 where these are too many. */
-static int places_of(const double *costs, size_t count, int64_t *whole) {
+int places_of(const double *costs, size_t count, int64_t *whole) {
     static const double powers[MOST_PLACES + 1] = {1, 1e1, 1e2, 1e3, 1e4, 1e5, 1e6};
     for (int places = 0; places <= MOST_PLACES; places++)
         if (has_places(costs, count, powers[places], whole)) return places;
@@ -168,11 +172,13 @@ PyObject *found(PyObject *module, PyObject *arguments) {
     PyObject *costs, *answer = NULL;
     double spare[SPARE];
     int maximize;
+    double end = INFINITY;
     Matrix matrix;
     Room room;
-    if (!PyArg_ParseTuple(arguments, "Op", &costs, &maximize)) return NULL;
+    if (!PyArg_ParseTuple(arguments, "Op|d", &costs, &maximize, &end)) return NULL;
     if (!is_ready(state) || !look_at(state, costs, &matrix, 0)) Py_RETURN_NONE;
     matrix.as_printed = 1;
+    matrix.end = end;
     matrix.forbids = maximize ? -INFINITY : INFINITY;
     const int is_left = looks_at_most(&matrix) >= LONG || matrix.kind == HALVES || (matrix.kind == FLOATS && matrix.swapped);
     int64_t *whole = is_left ? NULL : PyMem_Malloc((size_t)matrix.n * (size_t)matrix.m * sizeof *whole);
@@ -182,6 +188,7 @@ PyObject *found(PyObject *module, PyObject *arguments) {
     }
     PyMem_Free(whole);
     let_go(&matrix);
+    if (answer && is_over(end)) Py_CLEAR(answer);
     if (answer || PyErr_Occurred()) return answer;
     Py_RETURN_NONE;
 }

@@ -44,6 +44,8 @@ typedef int32_t doubles_call(uint32_t, size_t, size_t, const double *, size_t, u
     struct doubles_info *);
 typedef int32_t dense_from_call(uint32_t, size_t, size_t, const int64_t *, size_t, const int64_t *, size_t, uint32_t *, size_t, uint32_t *,
     size_t, int64_t *, size_t, uint64_t, struct record *, struct info *);
+typedef int32_t sparse_from_call(uint32_t, size_t, size_t, const uint32_t *, size_t, const uint32_t *, size_t, const int64_t *, size_t,
+    const int64_t *, size_t, uint32_t *, size_t, uint32_t *, size_t, int64_t *, size_t, uint64_t, struct record *, struct info *);
 typedef int32_t check_doubles_call(uint32_t, size_t, size_t, const double *, size_t, const uint32_t *, size_t, const double *, size_t,
     struct doubles_info *);
 
@@ -55,6 +57,7 @@ typedef struct {
     PyObject *connect;       /* what gives the library and NumPy, once they are there */
     doubles_call *doubles;
     dense_from_call *dense_from;
+    sparse_from_call *sparse_from;
     check_doubles_call *check_doubles;
     PyTypeObject *array, *float64;
     new_array *make;
@@ -68,6 +71,7 @@ typedef struct {
     const char *data;
     PyObject *rows, *blocks, *owner; /* a list; a tuple, of which this has a reference; what keeps `data`, likewise */
     double forbids;                  /* what None stands for */
+    double end;                      /* when the call has to end, by the clock; infinite where it hasn't */
     int kind, swapped, turned, as_printed, gives_arrays;
 } Matrix;
 
@@ -132,19 +136,28 @@ int as_printed(const float *from, Py_ssize_t step, Py_ssize_t count, double *to)
 /* searching.c */
 void ask(const State *state);
 int is_ready(const State *state);
+double now(void);
+int is_over(double end);
 int take(Room *room, const Matrix *matrix, int copies, double *spare);
 int32_t search(const State *state, const Matrix *matrix, int maximize, const double *costs, const Room *room, uint32_t *by_margin);
 int32_t solve(const State *state, const Matrix *matrix, int maximize, const double *costs, const Room *room, uint32_t *by_margin);
 int32_t solve_whole(const State *state, const Matrix *matrix, int maximize, const int64_t *costs, const Room *room, struct info *info);
 
 /* rounded.c */
+int in_fixed_point(const double *costs, size_t count, int *shift, int64_t *to);
 int32_t solve_rounded(const State *state, const Matrix *matrix, int maximize, const double *costs, const Room *room);
 
 /* answering.c */
 void pair_up(const Matrix *matrix, const Room *room);
 PyObject *pair_of(PyObject *first, PyObject *second);
+PyObject *given_both(const State *state, const Matrix *matrix, const Room *room);
 PyObject *rows_and_columns(const State *state, const Matrix *matrix, const Room *room);
+int places_of(const double *costs, size_t count, int64_t *whole);
 PyObject *found(PyObject *module, PyObject *arguments);
 PyObject *batch(PyObject *module, PyObject *arguments);
+
+/* listed.c */
+PyObject *listed(PyObject *module, PyObject *arguments);
+PyObject *assigned_worthy(State *state, const Matrix *matrix, int maximize, double limit, const Room *room);
 
 #endif

@@ -29,32 +29,80 @@ static PyObject *assigned_doubles(State *state, const Matrix *matrix, int maximi
     return code == BEST ? rows_and_columns(state, matrix, room) : NULL;
 }
 
+/* What a call is asked in addition to its costs. `limit` is what it costs to leave a row and a column out, or NaN. */
+struct words {
+    int maximize;
+    double limit, end;
+};
+
+/* The answer for a matrix that was read. */
+static PyObject *assigned_matrix(State *state, const Matrix *matrix, const struct words *words, const Room *room) {
+    PyObject *answer = NULL;
+    if (words->limit == words->limit) return assigned_worthy(state, matrix, words->maximize, words->limit, room);
+    /* The room of the copied costs serves either kind. */
+    if (has_whole_kind(matrix) && matrix->n * matrix->m >= FEW_WHOLE)
+        answer = assigned_whole(state, matrix, words->maximize, whole_costs_of(matrix, (int64_t *)room->costs), room);
+    return answer || PyErr_Occurred() ? answer : assigned_doubles(state, matrix, words->maximize, room);
+}
+
 /* The answer; NULL without an exception where the longer way is to be taken. */
-static PyObject *assigned(State *state, PyObject *costs, int maximize) {
+static PyObject *assigned(State *state, PyObject *costs, const struct words *words) {
     double spare[SPARE];
     Matrix matrix;
     Room room;
     PyObject *answer = NULL;
     if (!look_at(state, costs, &matrix, 1)) return NULL;
-    matrix.forbids = maximize ? -INFINITY : INFINITY;
+    matrix.forbids = words->maximize ? -INFINITY : INFINITY;
+    matrix.end = words->end;
     if (take(&room, &matrix, !is_plain(&matrix), spare)) {
-        /* The room of the copied costs serves either kind. */
-        if (has_whole_kind(&matrix) && matrix.n * matrix.m >= FEW_WHOLE)
-            answer = assigned_whole(state, &matrix, maximize, whole_costs_of(&matrix, (int64_t *)room.costs), &room);
-        if (!answer && !PyErr_Occurred()) answer = assigned_doubles(state, &matrix, maximize, &room);
+        answer = assigned_matrix(state, &matrix, words, &room);
         PyMem_Free(room.taken);
     }
     let_go(&matrix);
+    if (answer && words->end < INFINITY && is_over(words->end)) Py_CLEAR(answer);
     return answer;
 }
 
-/* 0 or 1 for maximize; -1 where there are other arguments than a matrix and False or True. */
-static int sense_of(PyObject *const *arguments, Py_ssize_t count, PyObject *names) {
+/* A number that is a double, or None; 0 where it is neither. */
+static int of_number(PyObject *value, double *to) {
+    if (value == Py_None) return 1;
+    if (PyLong_CheckExact(value)) {
+        int beyond;
+        const long long number = PyLong_AsLongLongAndOverflow(value, &beyond);
+        *to = (double)number;
+        return !beyond && number <= WHOLE && number >= -WHOLE;
+    }
+    if (!PyFloat_CheckExact(value)) return 0;
+    *to = PyFloat_AsDouble(value);
+    return fabs(*to) <= MOST_DOUBLE;
+}
+
+/* One argument by its name; 0 where it isn't for this way. */
+static int read_word(const char *name, PyObject *value, struct words *words) {
+    double timeout = INFINITY;
+    if (!strcmp(name, "maximize")) {
+        words->maximize = value == Py_True;
+        return value == Py_True || value == Py_False;
+    }
+    if (!strcmp(name, "unmatched_cost")) return of_number(value, &words->limit);
+    if (strcmp(name, "timeout") || !of_number(value, &timeout) || !(timeout > 0)) return 0;
+    words->end = timeout < INFINITY ? now() + timeout : INFINITY;
+    return 1;
+}
+
+/* Whether the arguments are a matrix and words that this knows. */
+static int words_of(PyObject *const *arguments, Py_ssize_t count, PyObject *names, struct words *words) {
+    static const char *known[] = {"maximize", "unmatched_cost", "timeout"};
     const Py_ssize_t named = names ? PyTuple_Size(names) : 0;
-    if (count < 1 || count + named > 2) return -1;
-    if (count + named == 1) return 0;
-    if (named && PyUnicode_CompareWithASCIIString(PyTuple_GetItem(names, 0), "maximize")) return -1;
-    return arguments[1] == Py_False ? 0 : arguments[1] == Py_True ? 1 : -1;
+    if (count < 1 || count > 2) return 0;
+    if (count == 2 && !read_word("maximize", arguments[1], words)) return 0;
+    for (Py_ssize_t k = 0; k < named; k++) {
+        const char *name = NULL;
+        for (int word = count == 2; word < 3; word++)
+            if (!PyUnicode_CompareWithASCIIString(PyTuple_GetItem(names, k), known[word])) name = known[word];
+        if (!name || !read_word(name, arguments[count + k], words)) return 0;
+    }
+    return 1;
 }
 
 /* The named arguments of a call as a dict. */
@@ -91,9 +139,9 @@ static PyObject *longer(const State *state, PyObject *const *arguments, Py_ssize
 
 static PyObject *linear_sum_assignment(PyObject *module, PyObject *const *arguments, Py_ssize_t count, PyObject *names) {
     State *state = PyModule_GetState(module);
-    const int maximize = sense_of(arguments, count, names);
-    if (maximize >= 0 && is_ready(state)) {
-        PyObject *answer = assigned(state, arguments[0], maximize);
+    struct words words = {0, NAN, INFINITY};
+    if (words_of(arguments, count, names, &words) && is_ready(state)) {
+        PyObject *answer = assigned(state, arguments[0], &words);
         if (answer || PyErr_Occurred()) return answer;
     }
     return longer(state, arguments, count, names);
@@ -101,11 +149,12 @@ static PyObject *linear_sum_assignment(PyObject *module, PyObject *const *argume
 
 /* ---- What the package gives ---- */
 
-/* attach(addresses): those of nushbaret_doubles, nushbaret_check_doubles and nushbaret_dense_from. */
+/* attach(addresses): those of nushbaret_doubles, nushbaret_check_doubles, nushbaret_dense_from and nushbaret_sparse_from. */
 static PyObject *attach(PyObject *module, PyObject *arguments) {
     State *state = PyModule_GetState(module);
-    unsigned long long doubles, check, dense;
-    if (!PyArg_ParseTuple(arguments, "KKK", &doubles, &check, &dense)) return NULL;
+    unsigned long long doubles, check, dense, sparse;
+    if (!PyArg_ParseTuple(arguments, "KKKK", &doubles, &check, &dense, &sparse)) return NULL;
+    state->sparse_from = (sparse_from_call *)(uintptr_t)sparse;
     state->dense_from = (dense_from_call *)(uintptr_t)dense;
     state->check_doubles = (check_doubles_call *)(uintptr_t)check;
     state->doubles = (doubles_call *)(uintptr_t)doubles;
@@ -217,6 +266,7 @@ static PyMethodDef methods[] = {
     {"function", function, METH_VARARGS, NULL},
     {"found", found, METH_VARARGS, NULL},
     {"batch", batch, METH_VARARGS, NULL},
+    {"listed", listed, METH_VARARGS, NULL},
     {NULL, NULL, 0, NULL},
 };
 

@@ -102,15 +102,12 @@ static inline two with_fewer(two value, two half, two power, both *fit) {
     return power - (two)((both)(power - less) & *fit);
 }
 
-/* Tries three places less, of which mostly none is left; whether any is. */
+/* Tries a place less for each that may have one; whether any has. */
 static int try_fewer(struct block *block, int pairs) {
     both any = {0, 0};
     for (int k = 0; k < pairs; k++) {
-        const two value = block->values.pairs[k], half = block->halves.pairs[k];
         both fit;
-        two power = with_fewer(value, half, block->powers.pairs[k], &fit);
-        power = with_fewer(value, half, power, &fit);
-        block->powers.pairs[k] = with_fewer(value, half, power, &fit);
+        block->powers.pairs[k] = with_fewer(block->values.pairs[k], block->halves.pairs[k], block->powers.pairs[k], &fit);
         any |= fit;
     }
     return (any[0] | any[1]) != 0;

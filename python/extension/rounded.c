@@ -5,7 +5,7 @@
 #include "extension.h"
 
 /* Doubles times 2^shift, which have at most 39 bits then, rounded; 0 where one isn't finite. */
-static int in_fixed_point(const double *costs, size_t count, int *shift, int64_t *to) {
+int in_fixed_point(const double *costs, size_t count, int *shift, int64_t *to) {
     double most = 0;
     int exponent;
     for (size_t k = 0; k < count; k++) most = fabs(costs[k]) > most ? fabs(costs[k]) : most;

@@ -1,6 +1,8 @@
 /* The memory of a call, and the library's searches. */
+#define _POSIX_C_SOURCE 200809L
 #include <math.h>
 #include <string.h>
+#include <time.h>
 #include "extension.h"
 
 /* Asks for what is missing. Without the library, which the longer way names then, or without NumPy there is nothing to be had. */
@@ -14,6 +16,20 @@ void ask(const State *state) {
 int is_ready(const State *state) {
     if (!state->doubles) ask(state);
     return state->doubles != NULL;
+}
+
+/* The seconds of the clock that only rises. */
+double now(void) {
+    struct timespec time;
+    return clock_gettime(CLOCK_MONOTONIC, &time) ? 0 : (double)time.tv_sec + 1e-9 * (double)time.tv_nsec;
+}
+
+/* Whether the time is over or Ctrl-C was given; an exception says so. */
+int is_over(double end) {
+    if (PyErr_CheckSignals()) return 1;
+    if (end == INFINITY || now() < end) return 0;
+    PyErr_SetString(PyExc_TimeoutError, "the time is over; nothing of the caller's was changed");
+    return 1;
 }
 
 /* Gives a call its memory: `spare` if that is enough. 0 where it is refused. */
@@ -58,7 +74,7 @@ int32_t solve_whole(const State *state, const Matrix *matrix, int maximize, cons
     struct record record;
     int32_t code = STOPPED;
     const uint64_t least = LOOKS + (uint64_t)PASSES * n * m;
-    uint64_t spent = 0, budget = FIRST_LOOKS > least ? FIRST_LOOKS : least;
+    uint64_t spent = 0, budget = FIRST_LOOKS > least && matrix->end == INFINITY ? FIRST_LOOKS : least;
     memset(&record, 0, sizeof record);
     memset(room->objects, 0, n * sizeof *room->objects);
     while (code == STOPPED) {
@@ -68,7 +84,7 @@ int32_t solve_whole(const State *state, const Matrix *matrix, int maximize, cons
         PyEval_RestoreThread(thread);
         spent += budget;
         budget = spent / 4 > least ? spent / 4 : least;
-        if (code == STOPPED && PyErr_CheckSignals()) return LEFT;
+        if (code == STOPPED && is_over(matrix->end)) return LEFT;
     }
     return code;
 }

@@ -9,10 +9,11 @@ import sys
 
 TOP = pathlib.Path(__file__).resolve().parent.parent.parent
 CALLS = TOP / "crates/nushbaret/src"
-LISTS = TOP / "crates/lent_lists/src"
+LENT = TOP / "crates/c_calls/src"
+LISTS = LENT / "lists"
 SOLVER = TOP / "crates/list_solver/src"
 ROWS = TOP / "crates/lent_rows/src/info.rt"
-DOUBLES = TOP / "crates/lent_doubles/src"
+DOUBLES = LENT / "doubles"
 COUNTS = TOP / "crates/lent_counts/src"
 SEARCH = TOP / "crates/count_search/src"
 HEADER = re.sub(r"/\*.*?\*/", "", (TOP / "c/nushbaret.h").read_text(), flags=re.S)
@@ -63,9 +64,9 @@ def header_calls():
 
 
 def crate_codes():
-    for file in ["end.rt", "check.rt"]:
-        text = (LISTS / file).read_text()
-        for kind, variant, number in re.findall(r"(Fault|End|HallVerdict|Verdict)::(\w+)(?:\([^)]*\))?\)? => "
+    for file in [LENT / "codes.rt", LISTS / "codes.rt", LISTS / "check.rt"]:
+        text = file.read_text()
+        for kind, variant, number in re.findall(r"(Fault|Found|HallVerdict|Verdict)::(\w+)(?:\([^)]*\))?\)? => "
                                                 r"(?:\{[^}]*?\n\s*)?(\d+)[,\n]", text):
             if variant != "Yes":
                 yield CALLED.get(f"{kind}::{variant}", variant.upper()), int(number)
@@ -96,9 +97,9 @@ def count_codes():
 def double_codes():
     """The codes of calls over doubles: most of them are those of other calls."""
     called = {"Verdict::Price": "PRICE_RANGE"}
-    for file in ["fault.rt", "solve.rt", "check.rt"]:
-        text = (DOUBLES / file).read_text()
-        named = r"(Fault|End|Verdict)::(\w+)(?:\([^)]*\))? => (?:\{[^}]*?\n\s*)?(\d+)[,\n]"
+    for file in [LENT / "codes.rt", DOUBLES / "codes.rt", DOUBLES / "check.rt"]:
+        text = file.read_text()
+        named = r"(Fault|Answer|Verdict)::(\w+)(?:\([^)]*\))? => (?:\{[^}]*?\n\s*)?(\d+)[,\n]"
         for kind, variant, number in re.findall(named, text):
             yield called.get(f"{kind}::{variant}", variant.upper()), int(number)
 
@@ -143,7 +144,7 @@ for crate, name, named in [("cost_lists", "MOST_PERSONS", "GREATEST_NUMBER"),
     value = re.search(rf"{named.replace('_', '')}: \w+ = (\d+)(?: << (\d+))?", text)
     compare(name, int(re.search(rf"NUSHBARET_{name} (?:INT64_C\()?(\d+)", HEADER)[1]),
             int(value[1]) << int(value[2] or 0))
-judged = (LISTS / "judging.rt").read_text()
+judged = (LENT / "size.rt").read_text()
 for name in ["MIN", "MAX"]:
     number = re.search(rf"#define NUSHBARET_{name} (\d+)u", HEADER)[1]
     compare(name, number, re.search(rf"(\d+) => Some\(Sense::{name.title()}\)", judged)[1])

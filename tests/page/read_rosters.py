@@ -20,7 +20,8 @@ sys.dont_write_bytecode = True
 from nushbaret.roster.cells import guarded  # noqa: E402
 from nushbaret.roster.answer import Request, answer_of, left_out  # noqa: E402
 from nushbaret.roster.names import without_marks  # noqa: E402
-from nushbaret.roster.roster import Roster, read_roster  # noqa: E402
+from nushbaret.roster.forms import read_roster  # noqa: E402
+from nushbaret.roster.roster import Roster  # noqa: E402
 from nushbaret.roster.sheets import Reading, RosterFault  # noqa: E402
 from nushbaret.roster.output.texts import Report, first_lines, rows_of  # noqa: E402
 from nushbaret.roster.words import read_words  # noqa: E402

@@ -15,12 +15,13 @@ BELOW = {
     "rows": ("costs", "lap"),
     "counts": ("costs", "lap", "rows"),
     "roster": ("costs", "lap", "rows", "counts"),
-    "roster.output": ("costs", "lap", "rows", "counts", "roster"),
-    "api": ("costs", "lap", "rows", "counts", "roster", "roster.output"),
+    "roster.rules": ("costs", "lap", "rows", "counts", "roster"),
+    "roster.output": ("costs", "lap", "rows", "counts", "roster", "roster.rules"),
+    "api": ("costs", "lap", "rows", "counts", "roster", "roster.rules", "roster.output"),
     "beyond": ("costs", "lap", "api"),
 }
-# The modules of roster/ that hand on to roster/output/, whose modules import none of them.
-FRONTS = ("roster.command", "roster.ruling")
+# The modules of roster/ that hand on to its inner folders, whose modules import none of them.
+FRONTS = ("roster.command", "roster.rules.ruling")
 # What begins: it loads any module when this is needed, and no module imports it.
 ENTRIES = ("", "__main__")
 
@@ -80,7 +81,7 @@ def is_allowed(name, other):
     folder, its = folder_of(name), folder_of(other)
     if other in FRONTS:
         return name in FRONTS
-    if name in FRONTS and its == "roster.output":
+    if name in FRONTS and its in ("roster.rules", "roster.output"):
         return True
     return other not in ENTRIES and (its == folder or its in BELOW.get(folder, ()))
 
@@ -90,7 +91,7 @@ def beyond_their_folder(tests=TESTS):
     known = modules()
     for path in sorted(tests.rglob("*.py")):
         name = name_of(path, tests)
-        own = name.rpartition(".")[0]
+        own = name.rpartition(".")[0].split(".")[0]
         names = sorted({other for other in imported(name, path, known) if own != other.split(".")[0]})
         if names:
             yield name, names

@@ -8,7 +8,6 @@ from nushbaret.rows import certificates as files
 from nushbaret.rows import finding
 from nushbaret.rows import worker
 from nushbaret.rows.model import Limits, Model, Row
-from nushbaret.rows.times import Times
 
 try:
     import scipy
@@ -122,10 +121,10 @@ class Channel(worker.Channel):
 
 def found_here(model, seconds=600):
     """What `find` returns, with the work of both processes done here, one after the other."""
-    from nushbaret.rows import bounds, plans
+    from nushbaret.rows import highs, prover
     search, channel = finding._PlanSearch(model), Channel()
-    plans.look_for_plans(search.scaled, channel, Times(time.monotonic(), seconds, seconds))
-    bounds.look_for_bounds(search.scaled, channel, seconds)
+    highs.look_for_plans(search.scaled, channel, time.monotonic() + seconds)
+    prover.look_for_bounds(search.scaled, channel, seconds)
     for message in channel.told:
         finding._taken(search, [], message)
     return search.finding()

@@ -11,24 +11,24 @@ import layers
 OF_OTHER_FOLDERS = {
     # What several files of tests share.
     "commands": "roster.command",
-    "drawn_rules": "roster.month roster.roster roster.rule_file roster.times",
-    "row_models": "rows.bounds rows.certificates rows.finding rows.model rows.plans rows.times rows.worker",
+    "drawn_rules": "roster.month roster.roster roster.rules.rule_file roster.times_of_day",
+    "row_models": "rows.certificates rows.finding rows.highs rows.model rows.prover rows.worker",
     "ways": "api.solve lap.direct lap.library",
     # They count or replace calls below the public one: of levels, checks, searches and the library.
     "api.test_forms": "costs.kinds costs.problem lap.levels",
     "api.test_plans": "lap.paths lap.ranking",
     "api.test_solving": "lap.library",
     "api.test_time": "lap.levels lap.library",
+    "counts.test_counts": "lap.library",
     "roster.test_command": "lap.library",
     "rows.test_certificates": "lap.library",
-    "roster.test_command_rules": "rows.finding rows.model",
+    "roster.rules.test_command_rules": "rows.finding rows.model",
     # They compare or lower limits that aren't public.
     "api.test_refusals": "costs.limits lap.library lap.proved",
-    "roster.test_command_counts": "counts.nodes",
     # They make what the tested folder takes, or check what it makes.
-    "counts.test_count_rows": "rows.check",
+    "counts.test_count_rows": "rows.certificate_check",
     "lap.test_levels": "costs.kinds costs.problem costs.reading",
-    "roster.test_by_rules": "rows.check rows.finding rows.model",
+    "roster.rules.test_stages": "rows.certificate_check rows.finding rows.model",
 }
 
 
@@ -45,8 +45,8 @@ class Package(unittest.TestCase):
         folders = {layers.folder_of(name) for name in self.GRAPH if name not in layers.ENTRIES}
         self.assertEqual(folders, set(layers.BELOW))
         drawn = "\n".join(layers.drawn(self.GRAPH))
-        self.assertRegex(drawn, r"(?s)^beyond/ .*\napi/ .*\nroster/output/ .*\nroster/ .*\ncounts/ .*\nrows/ .*"
-                         r"\nlap/ .*\ncosts/  imports nothing\n")
+        self.assertRegex(drawn, r"(?s)^beyond/ .*\napi/ .*\nroster/output/ .*\nroster/rules/ .*\nroster/ .*\ncounts/ .*"
+                         r"\nrows/ .*\nlap/ .*\ncosts/  imports nothing\n")
 
 
 class Tests(unittest.TestCase):
@@ -80,8 +80,9 @@ class Planted(unittest.TestCase):
         self.assertEqual(layers.faults(graph), ["costs.numbers imports "])
 
     def test_a_front_is_imported_by_nobody(self):
-        graph = self.graph({"roster.command": "from . import ruling\nfrom .output import page\n", "roster.ruling": "",
-                            "roster.output.page": "", "roster.answer": "def late():\n    from .command import main\n   "
+        graph = self.graph({"roster.command": "from .rules import ruling\nfrom .output import page\n",
+                            "roster.rules.ruling": "", "roster.output.page": "",
+                            "roster.answer": "def late():\n    from .command import main\n   "
                             " return main\n", "roster.fair": "from .output import page\n"})
         self.assertEqual(layers.faults(graph), ["roster.answer imports roster.command",
                                                 "roster.fair imports roster.output.page"])

@@ -69,9 +69,11 @@ class Package(unittest.TestCase):
                              set(ran.get_all("Classifier")))
         self.assertEqual(ran["Description-Content-Type"], "text/markdown")
         self.assertEqual((ran.get_all("Provides-Extra"), ran.get_all("Requires-Dist")),
-                         (["rules", "dask"], ["scipy>=1.9; extra == 'rules'",
-                                              "dask[array,dataframe,distributed]; extra == 'dask'",
-                                              "numpy; extra == 'dask'"]))
+                         (["xlsx", "rules", "dask", "all"],
+                          ["openpyxl; extra == 'xlsx'", "scipy>=1.9; extra == 'rules'",
+                           "dask[array,dataframe,distributed]; extra == 'dask'", "numpy; extra == 'dask'",
+                           "openpyxl; extra == 'all'", "scipy>=1.9; extra == 'all'",
+                           "dask[array,dataframe,distributed]; extra == 'all'", "numpy; extra == 'all'"]))
         self.assertIn("For rosters with names see ROSTERS.md.", ran.get_payload())
         self.assertNotRegex(ran.get_payload(), r"\]\((?!https?:)")
 

@@ -2,10 +2,13 @@
 import doctest
 import inspect
 import pathlib
+import pydoc
 import unittest
 
 import nushbaret
 
+# Whose examples have no heading.
+_PLAIN = ("nushbaret.api.counts",)
 PAGE = pathlib.Path(__file__).resolve().parent.parent.parent / "docs" / "PYTHON.md"
 
 
@@ -16,8 +19,8 @@ def public():
         if callable(value):
             yield name, value
         if inspect.isclass(value) and not issubclass(value, (Exception, tuple)):
-            yield from ((f"{name}.{method}", own) for method, own in vars(value).items() if inspect.isfunction(own)
-                        and method[0] != "_")
+            yield from ((f"{name}.{method}", getattr(value, method)) for method in dir(value)
+                        if inspect.isfunction(getattr(value, method)) and method[0] != "_")
 
 
 class Docstrings(unittest.TestCase):
@@ -26,9 +29,18 @@ class Docstrings(unittest.TestCase):
         for name, value in public():
             tests = finder.find(value, name, module=False, globs={})
             self.assertTrue(tests and tests[0].examples, f"{name} has no example")
+            if value.__module__ not in _PLAIN:
+                self.assertRegex(value.__doc__, r"\n *Examples\n *--------\n", name)
             for test in tests:
                 runner.run(test)
         self.assertEqual(runner.failures, 0)
+
+    def test_what_a_user_sees_first(self):
+        """dir has the public names alone, and help begins with three calls."""
+        self.assertEqual(dir(nushbaret), sorted(nushbaret.__all__))
+        first = pydoc.plain(pydoc.render_doc(nushbaret)).partition("PACKAGE CONTENTS")[0]
+        for name in ("linear_sum_assignment(costs)", "solve(costs)", "solve_pairs("):
+            self.assertIn(f"nushbaret.{name}", "\n".join(first.splitlines()[:14]))
 
     def test_properties_have_texts(self):
         for name, value in vars(nushbaret.Result).items():

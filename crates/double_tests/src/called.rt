@@ -1,5 +1,5 @@
 // Calls on lists as a program in C lends them.
-use lent_doubles::{DoublesInfo, Given, check_given, solve_from, solve_given};
+use c_calls::doubles::{DoublesInfo, Given, check_given, solve_from, solve_given};
 use std::alloc::Global;
 
 /// A record in which nothing is written.

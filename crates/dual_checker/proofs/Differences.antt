@@ -1,6 +1,5 @@
 -- Each verdict excludes the others.
 use Rattle.std.proofs.Common.{◌≡◌, ℕ, ℤ, pos, List, [], length, map, nat_eq, All, arith, ap, ◌∙◌, sym, refl, subst, IsSome}
-use Rattle.std.proofs.lemmas.Int.{ints}
 use Rattle.std.proofs.lemmas.List.{length-map}
 use Rattle.std.specs.List.{IsDistinct}
 use Rattle.assign_core.specs.declared.sense.Sense.{Sense}

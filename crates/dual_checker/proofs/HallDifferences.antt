@@ -1,5 +1,5 @@
 -- Each verdict on a Hall set excludes the others.
-use Rattle.std.proofs.Common.{◌≡◌, ℕ, List, length, arith, ap, ◌∙◌, refl, subst, get_or}
+use Rattle.std.proofs.Common.{ℕ, List, length, arith, ap, ◌∙◌, refl, subst, get_or}
 use Rattle.std.specs.List.{All, Contains}
 use Rattle.std.proofs.lemmas.List.Elements.{All-contains, Contains-get_or}
 use Rattle.assign_core.specs.Numbered.{IsNumber}
@@ -7,11 +7,10 @@ use Rattle.assign_core.specs.Rows.{Listing, IsRow, row_of}
 use Rattle.assign_core.specs.Hall.{IsHallSet}
 use Rattle.assign_core.proofs.Listed.{object_within}
 use Rattle.assign_core.proofs.RowLemmas.{IsRow-row_of}
-use Rattle.dual_checker.specs.declared.hall_verdict.HallVerdict.{HallVerdict}
 use Rattle.dual_checker.specs.declared.hall_verdict.HallVerdict.TheVariants.{Range, Order, Missing, Extra, Count, Yes}
 use Rattle.dual_checker.specs.Faults.{IsFirst}
 use Rattle.dual_checker.specs.HallVerdicts.{AreInRange, AreNeighbours, AreRising, HasNeighbours, HallVerdictsDiffer}
-use Rattle.dual_checker.specs.HallVerdicts.{IsExtra, IsHallVerdict, Lacks, ListsUnnamed}
+use Rattle.dual_checker.specs.HallVerdicts.{IsExtra, Lacks, ListsUnnamed}
 use Rattle.dual_checker.proofs.Firsts.{firsts_agree}
 
 -- the persons and the objects of a Hall set have rows and are listed

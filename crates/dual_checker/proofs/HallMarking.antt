@@ -1,5 +1,7 @@
 -- Marks that are added one after another.
-use Rattle.std.proofs.Common.{◌≡◌, ℕ, ◌<◌, ◌+◌, ◌-◌, ◌↔◌, List, Bool, true, false, length, replicate, set, inl, inr, arith, ap, subst, sym, ◌∙◌}
+use Rattle.std.proofs.Common.{◌≡◌, ℕ, ◌<◌, ◌+◌, ◌-◌, ◌↔◌, List, Bool, true, false, length, replicate, get_or, set, inl, inr, arith, ap, subst, sym, ◌∙◌, ◌≤◌}
+use Rattle.std.specs.List.{Contains}
+use Rattle.std.proofs.lemmas.List.{get_or_default}
 use Rattle.std.proofs.lemmas.Bool.{cases_lt}
 use Rattle.std.proofs.lemmas.Bool.Decides.{eqb_tells}
 use Rattle.assign_core.specs.Numbered.{IsNumber, numbered, renumbered, IsMarked}
@@ -56,6 +58,14 @@ adds_item f i x k start marks at within place h =
     subst (AddsMarks start (Earlier (λ k j. f k ≡ j) (i + 1))) (renumber-set marks x true within.first ∙ ap (λ m. set marks m true) (sym place))
     (adds_more (λ k j. f k ≡ j) i start marks (renumbered marks x true) h
     (adds_same (λ j. x ≡ j) (λ j. f i ≡ j) marks (renumbered marks x true) (λ j. ((λ e. sym at ∙ e), (λ e. at ∙ e))) (adds_one marks x within)))
+
+-- all numbers of a list
+pub adds_all : (xs : List ℕ) (i : ℕ) (before after : List Bool) → length xs ≤ i → i ≤ length xs →
+    AddsMarks before (Earlier (λ k j. get_or xs k 0 ≡ j) i) after → AddsMarks before (Contains xs) after
+adds_all xs i before after end most h = adds_same (Earlier (λ k j. get_or xs k 0 ≡ j) i) (Contains xs) before after (λ j. (
+  (λ e. let lt = e.1 in let inside : e.0 < length xs = omega arith in (e.0, inside, get_or_default xs e.0 j 0 inside ∙ e.2)),
+  (λ c. let lt = c.1 in (c.0, omega arith, get_or_default xs c.0 0 j c.1 ∙ c.2)),
+)) h
 
 -- if no mark was set at first, the marked persons are those with property P
 pub just_added : (m : ℕ) (before after : List Bool) (P : ℕ → Type 0) → before ≡ replicate m false → AddsMarks before P after → (j : ℕ) → IsMarked after j ↔ P j

@@ -1,5 +1,6 @@
 pub mod Firsts
 pub mod Places
+mod Given
 pub mod Givings
 pub mod Tallies
 pub mod Worths

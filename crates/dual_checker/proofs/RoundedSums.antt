@@ -1,7 +1,6 @@
 -- Sums of costs and rounded prices that show slackness 1.
 use Rattle.std.proofs.Common.{◌≡◌, ℕ, ℤ, pos, neg_ℤ, zero, suc, ◌+◌, ◌+ℤ◌, ◌*ℤ◌, ◌≤ℤ◌, ◌<◌, ◌≤◌, List, length}
-use Rattle.std.proofs.Common.{get_or, set, arith, ap, sym, subst, ◌∙◌, inl, inr, add-one, IsTrue, false}
-use Rattle.std.specs.List.{All}
+use Rattle.std.proofs.Common.{get_or, set, arith, ap, sym, ◌∙◌, inl, inr, add-one, IsTrue, false}
 use Rattle.std.proofs.lemmas.Bool.{cases_lt}
 use Rattle.std.proofs.lemmas.Int.{ints}
 use Rattle.std.proofs.lemmas.List.{get_or-set_other, get_or-set_same}
@@ -11,12 +10,11 @@ use lib.IntN.{suc_ℤ-*ℤ, zero-*ℤ, *ℤ-zero}
 use Rattle.assign_core.specs.declared.numbers.TheConstants.{MOST_PERSONS}
 use Rattle.assign_core.specs.declared.sense.Sense.{Sense}
 use Rattle.assign_core.specs.declared.sense.Sense.TheVariants.{Min, Max}
-use Rattle.assign_core.specs.Rows.{Listing, IsCost, IsRow, listed_or_zero}
+use Rattle.assign_core.specs.Rows.{Listing, IsRow, listed_or_zero}
 use Rattle.assign_core.specs.Benefits.{benefit, benefit_row}
 use Rattle.assign_core.specs.Prices.{price_of}
 use Rattle.assign_core.specs.Slackness.{HasSlack, IsWorth}
 use Rattle.assign_core.proofs.Duality.{benefit_value}
-use Rattle.assign_core.proofs.NumberedLemmas.{numbered-next}
 use Rattle.assign_core.proofs.Products.{distributes, opposite, steps_below}
 use Rattle.dual_checker.specs.declared.rounded.TheConstants.{MOST_ROUNDED}
 use Rattle.dual_checker.specs.inside.Rounded.{AreRounded, IsRounded, IsLeastSum, minimised}

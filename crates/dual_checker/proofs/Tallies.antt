@@ -3,7 +3,7 @@ use Rattle.std.proofs.Common.{◌≡◌, ℕ, ◌<◌, ◌≤◌, ◌+◌, ◌-�
 use Rattle.std.proofs.Common.{false, get_or, arith, inl, inr, sym, ◌∙◌, ap, subst, ◌==◌, ◌≢◌, All, Option, None}
 use Rattle.std.proofs.Common.{Some, MatchOption}
 use Rattle.std.specs.List.{IsDistinct}
-use Rattle.std.proofs.lemmas.List.{length-take-le}
+use Rattle.std.proofs.lemmas.List.{length-take-le, take_all}
 use Rattle.std.proofs.lemmas.List.Sums.{count_by_more_yes, count_by_more_no, count_by-le-length}
 use Rattle.std.proofs.lemmas.Bool.Decides.{eqb_tells}
 use Rattle.std.proofs.lemmas.Bool.{cases_lt}
@@ -51,6 +51,10 @@ one_counted counts xs i x k h lt e within at =
     renumber-set counts x (numbered counts x 0 + 1) within.first ∙ ap (λ m. set counts m (numbered counts x 0 + 1)) (sym at)
     ∙ ap (λ m. set counts k (m + 1)) (sym (at_place counts x k 0 within at)) in
     subst (λ c. AreCounts c (take (i + 1) xs)) write (one_renumbered counts xs i x h lt e within)
+
+-- all are counted
+pub all_counted : (counts xs : List ℕ) (i : ℕ) → length xs ≤ i → AreCounts counts (take i xs) → AreCounts counts xs
+all_counted counts xs i end h = subst (AreCounts counts) (take_all i xs end) h
 
 -- a number outside 1 to n isn't in a list of numbers from 1 to n
 none_outside : (xs : List ℕ) (n j : ℕ) → (IsNumber n j → ⊥) → All (IsNumber n) xs → count_of xs j ≡ 0

@@ -17,7 +17,7 @@ use std::alloc::{AllocError, Global};
 // The first fault of the persons' objects and the objects' prices. There are a count and a
 // rounded price for each object; the counts are 0 at first.
 pub fn first_fault(
-    counts: &mut [u16],
+    counts: &mut [u32],
     rounded: &mut [i64],
     problem: &Problem,
     sense: Sense,
@@ -37,8 +37,8 @@ pub fn first_fault(
     if let Some(person) = first_unlisted(problem, objects) {
         return Verdict::Unlisted(person);
     }
-    if let Some(object) = first_given_twice(counts, objects) {
-        return Verdict::Twice(object);
+    if let Some(number) = first_given_twice(counts, objects) {
+        return Verdict::Twice(Object(number as u16));
     }
     if let Some(object) = first_out_of_range(prices) {
         return Verdict::PriceRange(object);
@@ -80,7 +80,7 @@ pub fn check(
     ensures best { IfOk result (λ v. v ≡ Verdict.Yes → IsBest sense problem.now objects.now) }
 {
     let n = problem.n();
-    let mut counts = vec![in alloc; 0u16; n as usize]?;
+    let mut counts = vec![in alloc; 0u32; n as usize]?;
     let mut rounded = vec![in alloc; 0i64; n as usize]?;
     let (counts, rounded) = (counts.as_mut_slice(), rounded.as_mut_slice());
     Ok(first_fault(counts, rounded, problem, sense, objects, prices))

@@ -5,8 +5,9 @@ ghost use Rattle.assign_core.specs.Hall.{IsHallSet};
 ghost use Rattle.dual_checker.specs.HallVerdicts.{IsHallVerdict};
 
 use super::hall_lists::{are_in_range, are_rising};
-use super::hall_marks::{first_missing, first_unmarked, mark_listed, mark_objects};
+use super::hall_marks::{first_missing, mark_listed};
 use super::hall_verdict::HallVerdict;
+use super::marks::{first_unmarked, mark_numbers};
 use assign_core::{Object, Person, Problem};
 use std::alloc::{AllocError, Global};
 
@@ -28,7 +29,7 @@ fn first_hall_fault(
     if !are_rising(persons, objects) {
         return HallVerdict::Order;
     }
-    mark_objects(named, objects);
+    mark_numbers(named, objects);
     if let Some((person, object)) = first_missing(problem, persons, named) {
         return HallVerdict::Missing(person, object);
     }

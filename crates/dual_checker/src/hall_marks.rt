@@ -1,5 +1,5 @@
-// Marks for objects, and the first objects without one.
-ghost use Rattle.std.specs.Prelude.{◌≡◌, ℕ, length, All, Contains, MatchOption};
+// Marks for the objects that persons list, and the first objects without one.
+ghost use Rattle.std.specs.Prelude.{◌≡◌, ℕ, length, All, MatchOption};
 ghost use Rattle.std.specs.List.Sorted.{IsStrictlyIncreasing};
 ghost use Rattle.assign_core.specs.Numbered.{IsNumber, IsMarked};
 ghost use Rattle.assign_core.specs.Rows.{IsListed};
@@ -9,16 +9,6 @@ ghost use Rattle.dual_checker.specs.HallMarks.{AddsMarks};
 ghost use Rattle.dual_checker.specs.HallVerdicts.{HasNeighbours, Lacks, ListsUnnamed};
 
 use assign_core::{Object, Person, Problem};
-
-// Marks these objects.
-pub fn mark_objects(marks: &mut [bool], objects: &[Object])
-    requires { All (IsNumber (length marks.old)) objects.now }
-    ensures { AddsMarks marks.old (Contains objects.now) marks.new }
-{
-    for object in objects {
-        marks[object.place()] = true;
-    }
-}
 
 // Marks the objects that a person lists.
 fn mark_row(marks: &mut [bool], problem: &Problem, person: Person)
@@ -81,21 +71,6 @@ pub fn first_missing(
     for person in persons {
         if let Some(object) = first_unnamed(problem, *person, named) {
             return Some((*person, object));
-        }
-    }
-    None
-}
-
-// The lowest of these objects without a mark.
-pub fn first_unmarked(objects: &[Object], marks: &[bool]) -> Option<Object>
-    requires within { All (IsNumber (length marks.now)) objects.now }
-    requires rise { IsStrictlyIncreasing objects.now }
-    ensures { MatchOption result ((j : ℕ) → Contains objects.now j → IsMarked marks.now j)
-        (λ j. IsFirst (λ k. Contains objects.now k × ¬ IsMarked marks.now k) (length marks.now) j) }
-{
-    for object in objects {
-        if !marks[object.place()] {
-            return Some(*object);
         }
     }
     None

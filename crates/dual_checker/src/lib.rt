@@ -9,6 +9,8 @@ mod hall_lists;
 mod hall_marks;
 mod hall_verdict;
 mod listed;
+mod marks;
+mod placed;
 mod priced;
 mod rounded;
 mod slack;
@@ -17,6 +19,9 @@ mod verdict;
 
 pub use checker::check;
 pub use confirm::{confirm_best, confirm_hall, confirms};
+pub use counts::first_given_twice;
 pub use hall::check_hall;
 pub use hall_verdict::{HallVerdict, one_hall_verdict};
+pub use marks::{first_unmarked, mark_numbers};
+pub use placed::Placed;
 pub use verdict::{Verdict, one_verdict};

@@ -2,5 +2,4 @@ pub mod Faults
 pub mod Under
 pub mod Verdicts
 pub mod HallVerdicts
-pub mod Confirmed
 pub mod inside

@@ -7,7 +7,7 @@ ghost use Rattle.cost_lists.specs.Own.{AreOwnCosts};
 ghost use Rattle.exact_checker.specs.Verdicts.{IsVerdict};
 ghost use Rattle.exact_checker.specs.Under.{HasUnder, IsUnder};
 
-use super::counts::{first_given_twice, first_priced_unowned};
+use super::overpriced::first_priced_unowned;
 use super::pairs::first_of_pairs;
 use super::priced::first_out_of_range;
 use super::rows::first_of_rows;
@@ -16,6 +16,7 @@ use super::values::add_prices;
 use super::verdict::Verdict;
 use assign_core::Cost;
 use cost_lists::{CostLists, Object, Person, Price, Source};
+use dual_checker::first_given_twice;
 use std::alloc::{AllocError, Global};
 
 /// The lowest person that lists an object whose sum of cost and price is below the person's value,

@@ -11,9 +11,10 @@ ghost use Rattle.exact_checker.specs.inside.Marked.{AreRisingPersons, MarksJust}
 
 use super::hall_full::{first_of_full, mark_of_full};
 use super::hall_lists::{are_in_range, are_rising};
-use super::hall_marks::{first_missing, first_unmarked, mark_listed, mark_numbers};
+use super::hall_marks::{first_missing, mark_listed};
 use super::hall_verdict::HallVerdict;
 use cost_lists::{CostLists, Object, Person, Source};
+use dual_checker::{first_unmarked, mark_numbers};
 use std::alloc::{AllocError, Global};
 
 // The lowest of these persons that lists an object without a mark, and the lowest object of this

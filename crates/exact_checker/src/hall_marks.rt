@@ -1,6 +1,5 @@
 // Marks for persons and objects, and the first numbers without one.
-ghost use Rattle.std.specs.Prelude.{◌↔◌, ◌≤◌, ℕ, IsTrue, length, All, Contains, MatchOption};
-ghost use Rattle.std.specs.List.Sorted.{IsStrictlyIncreasing};
+ghost use Rattle.std.specs.Prelude.{◌↔◌, ◌≤◌, ℕ, IsTrue, length, MatchOption};
 ghost use Rattle.assign_core.specs.Numbered.{IsNumber, IsMarked};
 ghost use Rattle.dual_checker.specs.Faults.{IsFirst};
 ghost use Rattle.dual_checker.specs.HallMarks.{AddsMarks};
@@ -9,16 +8,6 @@ ghost use Rattle.exact_checker.specs.inside.Marked.{IsListedByMarked, IsMissing}
 
 use super::pairs::earlier;
 use cost_lists::{GREATEST_NUMBER, Object, Pairs, Person};
-
-// Marks these numbers.
-pub fn mark_numbers(marks: &mut [bool], numbers: &[u32])
-    requires { All (IsNumber (length marks.old)) numbers.now }
-    ensures { AddsMarks marks.old (Contains numbers.now) marks.new }
-{
-    for number in numbers {
-        marks[*number as usize - 1] = true;
-    }
-}
 
 // Marks each number.
 pub fn mark_each(marks: &mut [bool])
@@ -38,21 +27,6 @@ pub fn lowest_unmarked(marks: &[bool]) -> Option<u32>
     for (i, mark) in marks.iter().enumerate() {
         if !*mark {
             return Some(i as u32 + 1);
-        }
-    }
-    None
-}
-
-// The lowest of these objects without a mark.
-pub fn first_unmarked(objects: &[Object], marks: &[bool]) -> Option<Object>
-    requires within { All (IsNumber (length marks.now)) objects.now }
-    requires rise { IsStrictlyIncreasing objects.now }
-    ensures { MatchOption result ((j : ℕ) → Contains objects.now j → IsMarked marks.now j)
-        (λ j. IsFirst (λ k. Contains objects.now k × ¬ IsMarked marks.now k) (length marks.now) j) }
-{
-    for object in objects {
-        if !marks[*object as usize - 1] {
-            return Some(*object);
         }
     }
     None

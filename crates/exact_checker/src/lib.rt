@@ -3,13 +3,12 @@
 #![tactic(auto)]
 
 mod checker;
-mod confirm;
-mod counts;
 mod hall;
 mod hall_full;
 mod hall_lists;
 mod hall_marks;
 mod hall_verdict;
+mod overpriced;
 mod pairs;
 mod priced;
 mod rows;
@@ -18,7 +17,6 @@ mod values;
 mod verdict;
 
 pub use checker::{check, first_under_value};
-pub use confirm::{HallSet, Optimum, confirm_best, confirm_hall};
 pub use hall::check_hall;
 pub use hall_verdict::{HallVerdict, closed_verdicts, one_hall_verdict};
 pub use values::sum_of;

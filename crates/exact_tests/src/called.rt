@@ -1,6 +1,6 @@
 // Calls of the solver.
-use cost_lists::{CostLists, Object, Price};
-use exact_checker::{confirm_best, confirm_hall};
+use crate::confirmed::{confirmed, is_hall};
+use cost_lists::CostLists;
 use list_solver::{Found, Record, Standing, solve_lists};
 use std::alloc::{AllocError, Global};
 
@@ -25,18 +25,6 @@ pub fn nothing(alloc: Global, n: u32, m: u32) -> Result<Standing, AllocError> {
     })
 }
 
-fn confirmed(
-    alloc: Global,
-    lists: &CostLists<'_>,
-    objects: &[Object],
-    prices: &[Price],
-) -> Result<Finding, AllocError> {
-    match confirm_best(alloc, lists, objects, prices)? {
-        Some(best) => Ok(Finding::Best(best.cost)),
-        None => Ok(Finding::Nothing),
-    }
-}
-
 /// One call.
 pub fn call(
     alloc: Global,
@@ -49,14 +37,18 @@ pub fn call(
         return Ok(Finding::Nothing);
     }
     match solve_lists(alloc, lists, standing, budget)? {
-        Found::Best => {
+        Found::Best(total) => {
             let (objects, prices) = (standing.objects.as_slice(), standing.prices.as_slice());
-            confirmed(alloc, lists, objects, prices)
+            let cost = confirmed(alloc, lists, objects, prices)?;
+            Ok(if cost == Some(total) {
+                Finding::Best(total)
+            } else {
+                Finding::Nothing
+            })
         }
         Found::Hall(set) => {
             let (persons, objects) = (set.persons.as_slice(), set.objects.as_slice());
-            let is_confirmed = confirm_hall(alloc, lists, persons, objects)?.is_some();
-            Ok(if is_confirmed {
+            Ok(if is_hall(alloc, lists, persons, objects)? {
                 Finding::Hall
             } else {
                 Finding::Nothing

@@ -1,12 +1,12 @@
 // The Hungarian method on drawn problems of every shape, compared with the slow search, and on larger ones.
 // The checkers decide on what it answers.
+use crate::confirmed::{confirmed, is_hall};
 use crate::drawn::drawn_problem;
 use crate::given::costs_of;
 use crate::larger::{dense_problem, sparse_problem};
 use crate::problem::{Problem, table_of};
 use crate::slow::best_of;
 use cost_lists::CostLists;
-use exact_checker::{confirm_best, confirm_hall};
 use hungarian::{Outcome, solve};
 use std::alloc::{AllocError, Global};
 use std::process::Abort;
@@ -17,13 +17,12 @@ fn decided(alloc: Global, lists: &CostLists<'_>) -> Result<Option<Option<i64>>, 
     match solve(alloc, lists)? {
         Outcome::Best(best) => {
             let (objects, prices) = (best.objects.as_slice(), best.prices.as_slice());
-            let found = confirm_best(alloc, lists, objects, prices)?;
-            Ok(found.map(|best| Some(best.cost)))
+            Ok(confirmed(alloc, lists, objects, prices)?.map(Some))
         }
         Outcome::Hall(set) => {
             let (persons, objects) = (set.persons.as_slice(), set.objects.as_slice());
-            let found = confirm_hall(alloc, lists, persons, objects)?;
-            Ok(found.map(|_| None))
+            let is_hall = is_hall(alloc, lists, persons, objects)?;
+            Ok(if is_hall { Some(None) } else { None })
         }
     }
 }

@@ -5,6 +5,8 @@
 #[cfg(test)]
 mod called;
 #[cfg(test)]
+mod confirmed;
+#[cfg(test)]
 mod decided;
 #[cfg(test)]
 mod drawn;

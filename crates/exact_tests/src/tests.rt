@@ -1,4 +1,5 @@
 // Drawn problems compared with the slow searches and checkers.
+use crate::confirmed::{confirmed, is_hall};
 use crate::drawn::{change_one, change_price, draw, drawn_numbers, drawn_problem};
 use crate::given::lent;
 use crate::problem::{Problem, table_of};
@@ -6,7 +7,7 @@ use crate::slow::{best_of, prices_of, verdict_of};
 use crate::slow_hall::{hall_set_of, hall_verdict_of};
 use assign_core::Cost;
 use cost_lists::CostLists;
-use exact_checker::{HallVerdict, Verdict, check, check_hall, confirm_best, confirm_hall};
+use exact_checker::{check, check_hall};
 use std::process::Abort;
 use std::test::Fail;
 
@@ -23,8 +24,7 @@ fn check_best(
 ) -> Result<(), Fail> {
     let (mut objects, alloc) = (objects, rt.alloc());
     let mut prices = prices_of(alloc, problem, table, objects.as_slice())?;
-    let found = confirm_best(alloc, lists, objects.as_slice(), prices.as_slice())?;
-    let found = found.map(|best| best.cost);
+    let found = confirmed(alloc, lists, objects.as_slice(), prices.as_slice())?;
     assert_eq!(rt; found, Some(cost));
     change_price(seed, prices.as_mut_slice());
     let verdict = check(alloc, lists, objects.as_slice(), prices.as_slice())?;
@@ -50,8 +50,8 @@ fn check_none(
     let Some((mut persons, mut objects)) = hall_set_of(alloc, problem, table)? else {
         return Err("neither an assignment nor a Hall set".into());
     };
-    let found = confirm_hall(alloc, lists, persons.as_slice(), objects.as_slice())?;
-    assert!(rt; found.is_some());
+    let found = is_hall(alloc, lists, persons.as_slice(), objects.as_slice())?;
+    assert!(rt; found);
     if draw(seed, 2) == 0 {
         change_one(seed, persons.as_mut_slice());
     } else {

@@ -1,8 +1,9 @@
 // Verdicts, costs and totals worked out by hand.
+use crate::confirmed::{confirmed, is_hall};
 use crate::given::costs_of;
 use crate::problem::{dense, sparse};
 use assign_core::Sense;
-use exact_checker::{HallVerdict, Verdict, check, check_hall, confirm_best, confirm_hall};
+use exact_checker::{HallVerdict, Verdict, check, check_hall};
 use std::test::Fail;
 
 // Two persons and three objects: person 1 pays 4, 2, 9 and person 2 pays 3, 1, 8. The best
@@ -12,10 +13,8 @@ fn each_verdict_on_two_persons(rt: HostRuntime) -> Result<(), Fail> {
     let alloc = rt.alloc();
     let problem = dense(alloc, Sense::Min, 2, 3, &[4, 2, 9, 3, 1, 8])?;
     let lists = costs_of(&problem)?;
-    let best = confirm_best(alloc, &lists, &[1, 2], &[0, 2, 0])?;
-    assert_eq!(rt; best.map(|best| best.cost), Some(5));
-    let best = confirm_best(alloc, &lists, &[2, 1], &[0, 2, 0])?;
-    assert_eq!(rt; best.map(|best| best.cost), Some(5));
+    assert_eq!(rt; confirmed(alloc, &lists, &[1, 2], &[0, 2, 0])?, Some(5));
+    assert_eq!(rt; confirmed(alloc, &lists, &[2, 1], &[0, 2, 0])?, Some(5));
     assert!(rt; check(alloc, &lists, &[1], &[0, 2, 0])? == Verdict::Length);
     assert!(rt; check(alloc, &lists, &[1, 2], &[0, 2])? == Verdict::Length);
     assert!(rt; check(alloc, &lists, &[4, 0], &[0, 2, 0])? == Verdict::Unlisted(1));
@@ -37,13 +36,11 @@ fn a_repeated_pair_counts_at_its_best_cost(rt: HostRuntime) -> Result<(), Fail> 
     let (persons, objects, costs) = ([1, 1, 1], [1, 2, 1], [5, 4, 3]);
     let problem = sparse(alloc, Sense::Min, 1, 2, &persons, &objects, &costs)?;
     let lists = costs_of(&problem)?;
-    let best = confirm_best(alloc, &lists, &[1], &[0, 0])?;
-    assert_eq!(rt; best.map(|best| best.cost), Some(3));
+    assert_eq!(rt; confirmed(alloc, &lists, &[1], &[0, 0])?, Some(3));
     assert!(rt; check(alloc, &lists, &[2], &[0, 0])? == Verdict::Slack(1, 1));
     let problem = sparse(alloc, Sense::Max, 1, 2, &persons, &objects, &costs)?;
     let lists = costs_of(&problem)?;
-    let best = confirm_best(alloc, &lists, &[1], &[0, 0])?;
-    assert_eq!(rt; best.map(|best| best.cost), Some(5));
+    assert_eq!(rt; confirmed(alloc, &lists, &[1], &[0, 0])?, Some(5));
     assert!(rt; check(alloc, &lists, &[2], &[0, 0])? == Verdict::Slack(1, 1));
     Ok(())
 }
@@ -56,13 +53,11 @@ fn sums_at_the_limits(rt: HostRuntime) -> Result<(), Fail> {
     let prices = [9_000_000_000_000_000_000; 2];
     let problem = dense(alloc, Sense::Max, 2, 2, &[most, -most, -most, most])?;
     let lists = costs_of(&problem)?;
-    let best = confirm_best(alloc, &lists, &[1, 2], &prices)?;
-    assert_eq!(rt; best.map(|best| best.cost), Some(2 * most));
+    assert_eq!(rt; confirmed(alloc, &lists, &[1, 2], &prices)?, Some(2 * most));
     let problem = dense(alloc, Sense::Min, 2, 2, &[most, -most, -most, most])?;
     let lists = costs_of(&problem)?;
     assert!(rt; check(alloc, &lists, &[1, 2], &prices)? == Verdict::Slack(1, 2));
-    let best = confirm_best(alloc, &lists, &[2, 1], &prices)?;
-    assert_eq!(rt; best.map(|best| best.cost), Some(-2 * most));
+    assert_eq!(rt; confirmed(alloc, &lists, &[2, 1], &prices)?, Some(-2 * most));
     Ok(())
 }
 
@@ -73,8 +68,8 @@ fn each_hall_verdict_on_three_persons(rt: HostRuntime) -> Result<(), Fail> {
     let (persons, objects) = ([3, 1, 3, 2], [3, 3, 1, 3]);
     let problem = sparse(alloc, Sense::Min, 3, 4, &persons, &objects, &[0, 0, 0, 0])?;
     let lists = costs_of(&problem)?;
-    assert!(rt; confirm_hall(alloc, &lists, &[1, 2], &[3])?.is_some());
-    assert!(rt; confirm_hall(alloc, &lists, &[1], &[3])?.is_none());
+    assert!(rt; is_hall(alloc, &lists, &[1, 2], &[3])?);
+    assert!(rt; !is_hall(alloc, &lists, &[1], &[3])?);
     assert!(rt; check_hall(alloc, &lists, &[0, 2], &[3])? == HallVerdict::Range);
     assert!(rt; check_hall(alloc, &lists, &[1, 2], &[5])? == HallVerdict::Range);
     assert!(rt; check_hall(alloc, &lists, &[2, 1], &[3])? == HallVerdict::Order);

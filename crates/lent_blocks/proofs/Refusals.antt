@@ -1,9 +1,9 @@
 -- What a call on a block leaves where memory was refused.
 use Rattle.std.proofs.Common.{◌≡◌, ℤ, pos, refl}
-use Rattle.lent_lists.specs.declared.fault.Fault.TheVariants.{Memory}
-use Rattle.lent_lists.specs.declared.info.Info.{Info}
-use Rattle.lent_lists.specs.Faults.{IsWhole}
-use Rattle.lent_lists.specs.Given.{GivenLists}
+use Rattle.c_calls.specs.declared.fault.Fault.TheVariants.{Memory}
+use Rattle.c_calls.specs.declared.lists.info.Info.{Info}
+use Rattle.c_calls.specs.lists.Faults.{IsWhole}
+use Rattle.c_calls.specs.lists.Given.{GivenLists}
 use Rattle.lent_blocks.specs.Blocks.{BlockBuffers, IsBlockRefused}
 
 -- buffers that are the same, part by part

@@ -4,11 +4,11 @@ use Rattle.dual_checker.specs.Faults.{IsFirst}
 use Rattle.cost_lists.specs.Blocks.{IsBounded}
 use Rattle.cost_lists.specs.ListedCosts.{ListedCosts}
 use Rattle.exact_checker.specs.Under.{HasUnder, IsUnder}
-use Rattle.lent_lists.specs.declared.fault.Fault.{Fault}
-use Rattle.lent_lists.specs.declared.info.Info.{Info}
-use Rattle.lent_lists.specs.Ends.{fault_code, fault_place}
-use Rattle.lent_lists.specs.Faults.{HasFault, IsOfGiven}
-use Rattle.lent_lists.specs.Given.{GivenLists, either_form}
+use Rattle.c_calls.specs.declared.fault.Fault.{Fault}
+use Rattle.c_calls.specs.declared.lists.info.Info.{Info}
+use Rattle.c_calls.specs.Codes.{fault_code, fault_place}
+use Rattle.c_calls.specs.lists.Faults.{HasFault, IsOfGiven}
+use Rattle.c_calls.specs.lists.Given.{GivenLists, either_form}
 use Rattle.block_checker.specs.Pairs.{AreWritten, PairLists}
 use Rattle.block_checker.specs.Sums.{AreLeastSums, AreMarks}
 

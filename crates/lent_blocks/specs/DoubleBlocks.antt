@@ -9,12 +9,12 @@ use Rattle.exact_checker.specs.Under.{HasUnder, IsUnder}
 use Rattle.double_costs.specs.Units.{is_number}
 use Rattle.double_checker.specs.Verdicts.{price_units}
 use Rattle.block_doubles.specs.Pairs.{AreLeastPairs, AreMarks, IsInfiniteIn, numbers_in}
-use Rattle.lent_doubles.specs.declared.fault.Fault.{Fault}
-use Rattle.lent_doubles.specs.declared.fault.Fault.TheVariants.{Memory}
-use Rattle.lent_doubles.specs.declared.info.DoublesInfo.{DoublesInfo}
-use Rattle.lent_doubles.specs.Codes.{fault_code, fault_place}
-use Rattle.lent_doubles.specs.Faults.{HasFault, IsFaultless, IsWhole}
-use Rattle.lent_doubles.specs.Given.{GivenDoubles, rows_in}
+use Rattle.c_calls.specs.declared.fault.Fault.{Fault}
+use Rattle.c_calls.specs.declared.fault.Fault.TheVariants.{Memory}
+use Rattle.c_calls.specs.declared.doubles.info.DoublesInfo.{DoublesInfo}
+use Rattle.c_calls.specs.Codes.{fault_code, fault_place}
+use Rattle.c_calls.specs.doubles.Faults.{HasFault, IsFaultless, IsWhole}
+use Rattle.c_calls.specs.doubles.Given.{GivenDoubles, rows_in}
 
 -- what a call reads beside the costs: own objects, the costs and prices whose sums are the row numbers, and the
 -- price of each object

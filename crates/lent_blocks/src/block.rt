@@ -4,8 +4,8 @@ ghost use Rattle.dual_checker.specs.Faults.{IsFirst};
 ghost use Rattle.cost_lists.specs.Blocks.{IsBounded};
 ghost use Rattle.cost_lists.specs.Exact.{IsPriceInLimits};
 ghost use Rattle.exact_checker.specs.Under.{HasUnder, IsUnder};
-ghost use Rattle.lent_lists.specs.Faults.{HasFault, IsOfGiven};
-ghost use Rattle.lent_lists.specs.Given.{HasLengths};
+ghost use Rattle.c_calls.specs.lists.Faults.{HasFault, IsOfGiven};
+ghost use Rattle.c_calls.specs.lists.Given.{HasLengths};
 ghost use Rattle.block_checker.specs.Pairs.{AreWritten};
 ghost use Rattle.block_checker.specs.Sums.{AreLeastSums};
 ghost use Rattle.lent_blocks.specs.Blocks.{IsBlockShown, IsNamed, JudgesBlock, one_length};
@@ -13,7 +13,8 @@ ghost use Rattle.lent_blocks.specs.Blocks.{IsBlockShown, IsNamed, JudgesBlock, o
 use assign_core::Cost;
 use block_checker::{first_better, least_sums, own_marks, write_better};
 use cost_lists::{CostLists, Object, Person, Price};
-use lent_lists::{Fault, Given, Info, judge, lists_of, refuse};
+use c_calls::Fault;
+use c_calls::lists::{Given, Info, judge, lists_of, refuse};
 use std::alloc::{AllocError, Global};
 
 /// `n` if lists have one length, and another number if they haven't.

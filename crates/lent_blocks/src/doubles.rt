@@ -1,11 +1,11 @@
 // A block over doubles of a caller: judged, looked at, and what it shows written.
 ghost use Rattle.std.specs.Prelude.{◌≡◌, pos, length, MatchOption};
-ghost use Rattle.lent_doubles.specs.Given.{HasLengths};
+ghost use Rattle.c_calls.specs.doubles.Given.{HasLengths};
 ghost use Rattle.lent_blocks.specs.DoubleBlocks.{JudgesDoubles, Numbers, Shown};
 
 use block_doubles::{first_infinite, look};
+use c_calls::doubles::{DoublesInfo, Given, judge_costs, refuse};
 use cost_lists::{Object, Person};
-use lent_doubles::{DoublesInfo, Given, judge_costs, refuse};
 
 // Names the first better pair, if there is one.
 fn report(first: Option<(Person, Object)>, info: &mut DoublesInfo) -> i32

@@ -1,19 +1,13 @@
 // How a search ends.
-use cost_lists::{Object, Person};
-
-/// Persons who list fewer objects than they are, with these objects; both lists rise. It proves that
-/// no assignment exists.
-#[derive(Drop)]
-pub struct HallSet {
-    pub persons: Vec<Person>,
-    pub objects: Vec<Object>,
-}
+use assign_core::Cost;
+use hungarian::HallSet;
 
 /// What a call found.
 #[derive(Drop)]
 pub enum Found {
-    /// The objects and the prices are an assignment with exact prices, so an optimal one.
-    Best,
+    /// The objects and the prices are an assignment with exact prices, so an optimal one, of this
+    /// cost.
+    Best(Cost),
     /// No assignment exists.
     Hall(HallSet),
     /// The budget is spent. The next call goes on from the prices, the objects and the record.

@@ -1,21 +1,30 @@
 // The checker's word on what a search found.
-ghost use Rattle.std.specs.Prelude.{◌≡◌, true, IfOk, MatchOption};
+ghost use Rattle.std.specs.Prelude.{◌≡◌, true, IfOk, IfSome, MatchOption};
 ghost use Rattle.assign_core.specs.Hall.{IsHallSet};
-ghost use Rattle.cost_lists.specs.Exact.{IsOptimum};
 ghost use Rattle.list_solver.specs.Found.{IsFound, MayStop};
 
-use super::found::{Ended, Found, HallSet};
+use super::found::{Ended, Found};
 use super::standing::Standing;
+use assign_core::Cost;
 use cost_lists::CostLists;
 use exact_checker::{HallVerdict, Verdict, check, check_hall};
+use hungarian::HallSet;
 use std::alloc::{AllocError, Global};
 
-fn is_best(alloc: Global, lists: &CostLists<'_>, standing: &Standing) -> Result<bool, AllocError>
-    ensures { IfOk result (λ yes. yes ≡ true
-        → IsOptimum lists.now standing.now.objects.items standing.now.prices.items) }
+// The cost of an assignment, if the checker accepts it with its prices.
+fn cost_of(
+    alloc: Global,
+    lists: &CostLists<'_>,
+    standing: &Standing,
+) -> Result<Option<Cost>, AllocError>
+    ensures { IfOk result (λ cost. IfSome cost
+        (λ sum. IsFound lists.now standing.now (Found.Best sum))) }
 {
     let (objects, prices) = (standing.objects.as_slice(), standing.prices.as_slice());
-    Ok(check(alloc, lists, objects, prices)? == Verdict::Yes)
+    if check(alloc, lists, objects, prices)? != Verdict::Yes {
+        return Ok(None);
+    }
+    Ok(Some(lists.total(alloc, objects)?))
 }
 
 fn is_hall(alloc: Global, lists: &CostLists<'_>, set: &HallSet) -> Result<bool, AllocError>
@@ -40,8 +49,8 @@ pub fn judge(
 {
     match ended {
         Ended::Best => {
-            if is_best(alloc, lists, standing)? {
-                return Ok(Some(Found::Best));
+            if let Some(total) = cost_of(alloc, lists, standing)? {
+                return Ok(Some(Found::Best(total)));
             }
         }
         Ended::Hall(set) => {

@@ -14,7 +14,8 @@ mod solver;
 mod standing;
 mod whole;
 
-pub use found::{Found, HallSet};
+pub use found::Found;
+pub use hungarian::HallSet;
 pub use record::Record;
 pub use solver::solve_lists;
 pub use standing::Standing;

@@ -1,7 +1,7 @@
 // The search over listed pairs.
 ghost use Rattle.std.specs.Prelude.{◌≡◌, length};
 
-use super::found::{Ended, HallSet};
+use super::found::Ended;
 use super::grouped::Grouped;
 use super::places::{to_numbers, to_places};
 use super::record::Record;
@@ -9,6 +9,7 @@ use super::standing::Standing;
 use super::whole::all_of_pairs;
 use assign_core::Sense;
 use cost_lists::{Object, Pairs, Person, Price};
+use hungarian::HallSet;
 use sparse_search::{Outcome, Record as SparseRecord, SparseProblem, search};
 use std::alloc::{AllocError, Global};
 

@@ -2,7 +2,7 @@
 ghost use Rattle.std.specs.Prelude.{◌≡◌, length, IfOk};
 ghost use Rattle.list_solver.specs.Found.{IsFound, MayStop};
 
-use super::found::{Found, HallSet};
+use super::found::Found;
 use super::standing::Standing;
 use cost_lists::CostLists;
 use hungarian::{Outcome, solve};
@@ -23,13 +23,11 @@ pub fn decide(
 {
     match solve(alloc, lists)? {
         Outcome::Best(best) => {
+            let total = lists.total(alloc, best.objects.as_slice())?;
             standing.objects = best.objects;
             standing.prices = best.prices;
-            Ok(Found::Best)
+            Ok(Found::Best(total))
         }
-        Outcome::Hall(set) => Ok(Found::Hall(HallSet {
-            persons: set.persons,
-            objects: set.objects,
-        })),
+        Outcome::Hall(set) => Ok(Found::Hall(set)),
     }
 }

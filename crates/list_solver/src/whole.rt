@@ -1,7 +1,7 @@
 // More persons than objects: all persons, with all objects that anybody lists, are a Hall set.
-use super::found::HallSet;
 use super::places::numbers_to;
 use cost_lists::{Object, Pairs, Person};
+use hungarian::HallSet;
 use std::alloc::{AllocError, Global};
 
 // All persons and all objects.

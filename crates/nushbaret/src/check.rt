@@ -1,10 +1,10 @@
 // The calls that check answers, as `c/nushbaret.h` declares them.
 ghost use Rattle.std.specs.Prelude.{◌⊎◌};
-ghost use Rattle.lent_lists.specs.Checks.{IsHallJudged, IsJudged, IsRefused};
-ghost use Rattle.lent_lists.specs.Given.{either};
+ghost use Rattle.c_calls.specs.lists.Checks.{IsHallJudged, IsJudged, IsRefused};
+ghost use Rattle.c_calls.specs.lists.Given.{either};
 
 use cost_lists::{Object, Person, Price};
-use lent_lists::{
+use c_calls::lists::{
     Given, Info, form_of, hall_verdict_on, refuse, report_hall_verdict, report_verdict, verdict_on,
 };
 use std::alloc::Global;

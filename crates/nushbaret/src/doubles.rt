@@ -1,10 +1,10 @@
 // The calls on costs in doubles, as `c/nushbaret.h` declares them.
 ghost use Rattle.std.specs.Prelude.{◌⊎◌};
-ghost use Rattle.lent_doubles.specs.Checks.{IsJudged, IsRefused, with_answer};
-ghost use Rattle.lent_doubles.specs.Ends.{Solves, buffers};
+ghost use Rattle.c_calls.specs.doubles.Checks.{IsJudged, IsRefused, with_answer};
+ghost use Rattle.c_calls.specs.doubles.Ends.{Solves, buffers};
 
 use cost_lists::{Object, Person};
-use lent_doubles::{DoublesInfo, Given, check_given, solve_from, solve_given};
+use c_calls::doubles::{DoublesInfo, Given, check_given, solve_from, solve_given};
 use std::alloc::Global;
 
 /// Solves a dense problem over doubles: `n` persons, `m` objects, and the cost of each pair, row by

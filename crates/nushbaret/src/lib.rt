@@ -11,7 +11,7 @@ mod rows;
 mod sparse;
 mod version;
 
-pub use blocks::nushbaret_block;
+pub use blocks::{nushbaret_block, nushbaret_block_doubles};
 pub use check::{nushbaret_check, nushbaret_check_hall};
 pub use counts::{
     nushbaret_check_counts, nushbaret_check_shortage, nushbaret_counts, nushbaret_counts_from,

@@ -1,11 +1,11 @@
 // The calls that solve sparse problems, as `c/nushbaret.h` declares them.
 ghost use Rattle.std.specs.Prelude.{◌≡◌, ◌≢◌, [], pos};
-ghost use Rattle.lent_lists.specs.Ends.{Solves, buffers};
-ghost use Rattle.lent_lists.specs.Given.{problem_alone};
-ghost use Rattle.lent_lists.specs.declared.form.Form.TheVariants.{Sparse};
+ghost use Rattle.c_calls.specs.lists.Ends.{Solves, buffers};
+ghost use Rattle.c_calls.specs.lists.Given.{problem_alone};
+ghost use Rattle.c_calls.specs.declared.lists.form.Form.TheVariants.{Sparse};
 
 use cost_lists::{Object, Person, Price};
-use lent_lists::{Form, Given, Info, solve_from, solve_given};
+use c_calls::lists::{Form, Given, Info, solve_from, solve_given};
 use list_solver::Record;
 use std::alloc::Global;
 

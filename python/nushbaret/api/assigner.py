@@ -1,7 +1,7 @@
-"""A problem whose rows change one after the other: the plan and the prices of before are where the next search
-begins."""
+"""A problem whose rows and columns change one after the other: the plan and the prices of before are where the next
+search begins."""
 from array import array
-from typing import Any, List, NamedTuple, Optional, Set
+from typing import Any, List, Optional, Tuple
 
 from ..costs import kinds, naming, printing, reading
 from ..costs.limits import GREATEST_COST, MOST_PERSONS
@@ -9,6 +9,7 @@ from ..costs.problem import AssignmentProblem, Labels, judge_row, row_in_list, r
 from ..costs.source import Source
 from ..lap import doubles, library, proved
 from .results import Result
+from .shown import Matrix
 from .solve import solve
 
 # Whole numbers up to this are doubles.
@@ -19,15 +20,15 @@ _AS_PRINTED = reading.Manner(False)
 
 
 class Assigner:
-    """A matrix whose rows change one after the other, and its best assignment after each change.
+    """A matrix whose rows and columns change one after the other, and its best assignment after each change.
 
-    After a change of a row the search begins at the plan and the prices of before: it gives this row a column again,
-    and the library checks the whole plan. Whatever changed, `result.cost` is that of `solve` for the costs as they are
-    now.
+    After a change the search begins at the plan and the prices of before: it gives the changed row or column a place
+    again, and the library checks the whole plan. Whatever changed, `result.cost` is that of `solve` for the costs as
+    they are now.
 
-    So it is for square matrices of floats and of whole numbers in the library's range. Any other matrix is solved from
-    the beginning after each change, and so is one with two plans that are best, or nearly so, unless its costs are
-    whole numbers, or floats with at most six decimal places.
+    So it is for floats and for whole numbers in the library's range. Any other matrix is solved from the beginning
+    after each change, and so is one with two plans that are best, or nearly so, unless its costs are whole numbers, or
+    floats with at most six decimal places.
 
     Parameters
     ----------
@@ -36,6 +37,8 @@ class Assigner:
     maximize : bool, optional
         Whether to find the greatest sum, not the least.
 
+    Examples
+    --------
     >>> import nushbaret
     >>> assigner = nushbaret.Assigner([[4, 1, 3], [2, 0, 5], [3, 2, 2]])
     >>> assigner.result.columns, assigner.result.cost
@@ -43,54 +46,204 @@ class Assigner:
     >>> assigner.update(0, [0, 6, 6])
     >>> assigner.result.columns, assigner.result.cost
     ([0, 1, 2], 2)
+    >>> assigner.remove_row(2)
+    >>> assigner
+    <nushbaret.Assigner: 2 rows, 3 columns>
     """
 
-    def __init__(self, costs: Any, maximize: bool = False):
+    def __init__(self, costs: Matrix, maximize: bool = False):
         self._maximize = bool(maximize)
-        self._labels: Labels = (list(costs.index), list(costs.columns)) if naming.is_frame(costs) else None
+        self._labels: Labels = naming.labels_of(costs)
         self._costs = copied(costs)
-        self._changed: Set[int] = set()
-        self._numbers: Optional[SquareCosts] = None
-        self._state: Any = None
+        first = self._costs[:1]
+        self._width: int = first.shape[1] if hasattr(first, "dtype") else len(first[0]) if first else 0
+        self._numbers: Optional[HeldCosts] = None
         self._result: Optional[Result] = None
 
+    def __repr__(self) -> str:
+        return f"<nushbaret.Assigner: {len(self._costs)} rows, {self._width} columns>"
+
     def update(self, row: int, costs: Any) -> None:
-        """Gives a row, counted from 0, other costs.
+        """Gives a row other costs.
 
-        A Series gives a frame's row by the labels of its columns.
+        Parameters
+        ----------
+        row : int
+            Its number, from 0.
+        costs : list of numbers, NumPy array or Series
+            One cost for each column. A Series or dict gives a frame's row by the labels of its columns.
 
-        IndexError where there is no row of this number, ValueError where there aren't as many costs as columns,
-        TypeError where they are no list. What is wrong with a cost is raised by `result`. An earlier result keeps its
-        plan and cost; what reads its costs again raises ValueError.
+        Raises
+        ------
+        IndexError
+            If there is no row of this number.
+        ValueError
+            If there aren't as many costs as columns.
+        TypeError
+            If they are no list. What is wrong with a cost is raised by `result`.
 
+        Notes
+        -----
+        An earlier result keeps its plan and cost; what reads its costs again raises ValueError.
+
+        Examples
+        --------
         >>> import nushbaret
         >>> assigner = nushbaret.Assigner([[4, 1], [2, 3]])
         >>> assigner.update(1, [0, 0])
         >>> assigner.result.cost
         1
         """
-        row = reading.whole_number(row, "row")
-        if not 0 <= row < len(self._costs):
-            raise IndexError(f"row {row}: there are {len(self._costs)} rows")
-        if self._labels is not None and naming.is_named(costs):
-            costs = naming.listed(costs, f"row {row}", "column", len(self._labels[1]), self._labels[1])
-        costs = row_of_any(costs, row)
-        if len(costs) != len(self._costs[row]):
-            raise ValueError(f"row {row} has {len(self._costs[row])} costs, and {len(costs)} were given")
-        self._write(row, costs)
-        self._changed.add(row)
-        self._result = None
-        if self._numbers is not None and not self._numbers.write(row, self._costs[row]):
-            self._numbers = self._state = None
+        row = self._place(row, "row", len(self._costs))
+        self._write_row(row, self._row_of(costs, row, self._width))
+        self._change(lambda numbers: numbers.write(row, self._costs[row], False))
 
-    def _write(self, row: int, costs: Any) -> None:
+    def update_column(self, column: int, costs: Any) -> None:
+        """Gives a column other costs.
+
+        Parameters
+        ----------
+        column : int
+            Its number, from 0.
+        costs : list of numbers, NumPy array or Series
+            One cost for each row. A Series or dict gives a frame's column by the labels of its rows.
+
+        Raises
+        ------
+        IndexError, ValueError, TypeError
+            As `update` does.
+
+        Examples
+        --------
+        >>> import nushbaret
+        >>> assigner = nushbaret.Assigner([[4, 1], [2, 3]])
+        >>> assigner.update_column(0, [0, 9])
+        >>> assigner.result.cost
+        3
+        """
+        column = self._place(column, "column", self._width)
+        costs = self._row_of(costs, column, len(self._costs), "column")
+        if hasattr(self._costs, "dtype"):
+            own = self._fitting(costs)
+            self._costs[:, column] = own
+        else:
+            for row, cost in enumerate(row_in_list(costs, _AS_PRINTED)):
+                self._costs[row][column] = cost
+        own = self._costs[:, column] if hasattr(self._costs, "dtype") else [row[column] for row in self._costs]
+        self._change(lambda numbers: numbers.write(column, own, True))
+
+    def add_row(self, costs: Any, name: Any = None) -> int:
+        """Adds a row after all others.
+
+        Parameters
+        ----------
+        costs : list of numbers, NumPy array or Series
+            As those of `update`.
+        name : label, optional
+            What a frame's row is called; that of a Series if it isn't given.
+
+        Returns
+        -------
+        int
+            The number of the row.
+
+        Raises
+        ------
+        ValueError, TypeError
+            As `update` does, or if a row of a frame has no name.
+
+        Examples
+        --------
+        >>> import nushbaret
+        >>> assigner = nushbaret.Assigner([[4, 1], [2, 3]])
+        >>> assigner.add_row([0, 0]), assigner.result.cost
+        (2, 1)
+        """
+        row, name = len(self._costs), getattr(costs, "name", None) if name is None else name
+        if self._labels is not None and name is None:
+            raise ValueError("a row of a frame needs a name: add_row(costs, name)")
+        if not row and self._labels is None and not self._width:
+            self._width = len(row_of_any(costs, row))
+        costs = self._row_of(costs, row, self._width)
+        if hasattr(self._costs, "dtype"):
+            numpy = reading.numpy_of(self._costs)
+            joined: Any = numpy.ma.concatenate if isinstance(self._costs, numpy.ma.MaskedArray) else numpy.concatenate
+            self._costs = joined((self._costs, self._costs[:1] if row else numpy.zeros((1, self._width))))
+        else:
+            self._costs.append([])
+        self._write_row(row, costs)
+        if self._labels is not None:
+            self._labels[0].append(name)
+        self._change(lambda numbers: numbers.add_row(self._costs[row]))
+        return row
+
+    def remove_row(self, row: int) -> None:
+        """Takes a row away. Those after it are numbered one less.
+
+        Parameters
+        ----------
+        row : int
+            Its number, from 0.
+
+        Raises
+        ------
+        IndexError
+            If there is no row of this number.
+
+        Examples
+        --------
+        >>> import nushbaret
+        >>> assigner = nushbaret.Assigner([[4, 1], [2, 3]])
+        >>> assigner.remove_row(0)
+        >>> assigner.result.columns, assigner.result.cost
+        ([0], 2)
+        """
+        row = self._place(row, "row", len(self._costs))
+        if hasattr(self._costs, "dtype"):
+            numpy = reading.numpy_of(self._costs)
+            stays = numpy.arange(len(self._costs)) != row
+            self._costs = self._costs[stays]
+        else:
+            del self._costs[row]
+        if self._labels is not None:
+            del self._labels[0][row]
+        self._change(lambda numbers: numbers.remove_row(row))
+
+    def _place(self, given: Any, kind: str, count: int) -> int:
+        number = reading.whole_number(given, kind)
+        if not 0 <= number < count:
+            raise IndexError(f"{kind} {number}: there are {count} {kind}s")
+        return number
+
+    def _row_of(self, costs: Any, row: int, count: int, kind: str = "row") -> Any:
+        """So many costs of a row or column, by the labels of the other side where they have names."""
+        side = kind == "row"
+        if self._labels is not None and naming.is_named(costs):
+            costs = naming.listed(costs, f"{kind} {row}", "column" if side else "row", count, self._labels[side])
+        costs = row_of_any(costs, row)
+        if len(costs) != count:
+            raise ValueError(f"{kind} {row} has {count} costs, and {len(costs)} were given")
+        return costs
+
+    def _change(self, change: Any) -> None:
+        """What a change does to the numbers of before, if it leaves any."""
+        self._result = None
+        if self._numbers is not None and not change(self._numbers):
+            self._numbers = None
+
+    def _write_row(self, row: int, costs: Any) -> None:
         """Gives the copy this row. An array of numbers that can't hold others becomes one of objects."""
         if not hasattr(self._costs, "dtype"):
             self._costs[row] = list(row_in_list(costs, _AS_PRINTED))
             return
+        own = self._fitting(costs)
+        self._costs[row] = own
+
+    def _fitting(self, costs: Any) -> Any:
+        """Costs as an array; that of all costs becomes one that can hold these too."""
         numpy = reading.numpy_of(self._costs)
         kind = None if len(set(map(type, costs))) == 1 else object
-        own = as_printed(numpy, numpy.asanyarray(costs) if hasattr(costs, "dtype") else numpy.array(costs, kind))
+        own = as_printed(numpy.asanyarray(costs) if hasattr(costs, "dtype") else numpy.array(costs, kind))
         if isinstance(own, numpy.ma.MaskedArray):
             self._costs = numpy.ma.asarray(self._costs)
         held = self._costs.dtype
@@ -98,7 +251,7 @@ class Assigner:
             held.kind != "f" or held.itemsize == 8 and reading.fits_doubles(numpy.asarray(own)))
         if own.dtype != held and not is_exact:
             self._costs = self._costs.astype(object)
-        self._costs[row] = own
+        return own
 
     @property
     def result(self) -> Result:
@@ -109,12 +262,11 @@ class Assigner:
 
     def _solved(self) -> Result:
         if self._numbers is None:
-            self._numbers = numbers_of(self._costs)
-        found = None if self._numbers is None else self._found(self._numbers)
-        self._changed.clear()
-        if found is None:
-            self._state = None
+            self._numbers = numbers_of(self._costs, self._width)
+        answer = None if self._numbers is None else self._numbers.answer(self._maximize)
+        if self._numbers is None or answer is None:
             return solve(self._given(), self._maximize)
+        found = self._parts(self._numbers, answer)
         return Result(Source(self._given(), None, None, None, reading.Manner(self._maximize)), found)
 
     def _given(self) -> Any:
@@ -122,50 +274,21 @@ class Assigner:
         if self._labels is None or hasattr(self._costs, "mask") and self._costs.mask.any():
             return self._costs
         import pandas  # type: ignore
-        return pandas.DataFrame(self._costs.view(reading.numpy_of(self._costs).ndarray), *self._labels, copy=False)
+        rows, columns = map(list, self._labels)
+        return pandas.DataFrame(self._costs.view(reading.numpy_of(self._costs).ndarray), rows, columns, copy=False)
 
-    def _found(self, numbers: "SquareCosts") -> Optional[proved.ResultParts]:
-        """What a result is made of, from the state of before; None where this way finds nothing that is sure to be
-        best."""
-        if self._state is not None:
-            for row in self._changed:
-                self._state[0][row] = 0
-        if numbers.decimals is None:
-            return self._found_of_doubles(numbers)
-        return self._found_of_whole(numbers)
-
-    def _found_of_whole(self, numbers: "SquareCosts") -> Optional[proved.ResultParts]:
-        n, first = numbers.n, None
-        objects, prices = self._state or (array("I", bytes(4 * n)), array("q", bytes(8 * n)))
-        if self._state:
-            first = array("q", prices)
-        code, info = library.searched(self._maximize, n, n, [numbers.flat], first,
-                                      [objects, array("I", bytes(4 * n)), prices])
-        if code != "BEST":
-            return None
-        self._state = objects, prices
-        return self._of(numbers, proved.Assignment(n, n, info.total, array("I", objects), array("q", prices)))
-
-    def _found_of_doubles(self, numbers: "SquareCosts") -> Optional[proved.ResultParts]:
-        n = numbers.n
-        objects, prices = self._state or doubles.start(self._maximize, n, n, numbers.flat)
-        plan = doubles.search(self._maximize, n, n, numbers.flat, objects, prices)
-        if plan is None or not plan.by_margin:
-            return None
-        self._state = objects, prices
-        return self._of(numbers, proved.Assignment(n, n, None, array("I", objects), None))
-
-    def _of(self, numbers: "SquareCosts", answer: proved.Assignment) -> proved.ResultParts:
-        n, decimals, flat = numbers.n, numbers.decimals, numbers.flat
-        shape = AssignmentProblem(n, n, self._maximize, kinds.shape(decimals), labels=self._labels)
-        own = [flat[place + item] for place, item in zip(range(-1, n * n - 1, n), answer.objects)]
+    def _parts(self, numbers: "HeldCosts", answer: proved.Assignment) -> proved.ResultParts:
+        """What a result is made of."""
+        labels = None if self._labels is None else (list(self._labels[0]), list(self._labels[1]))
+        shape = AssignmentProblem(len(self._costs), self._width, self._maximize, kinds.shape(numbers.decimals),
+                                  labels=labels)
+        rows, columns = proved.pairs_of(shape, answer)
+        own = [numbers.flat[numbers.place(row, column)] for row, column in zip(rows, columns)]
         if not hasattr(self._costs, "dtype"):
-            columns = [item - 1 for item in answer.objects]
-            return proved.ResultParts(shape, answer, list(range(n)), columns, own, False)
+            return proved.ResultParts(shape, answer, rows, columns, own, False)
         numpy: Any = reading.numpy_of(self._costs)
-        chosen = numpy.frombuffer(answer.objects, numpy.uint32).astype(numpy.intp)
-        chosen -= 1
-        return proved.ResultParts(shape, answer, numpy.arange(n), chosen, own, True)
+        rows, columns = (numpy.array(side, numpy.intp) for side in (rows, columns))
+        return proved.ResultParts(shape, answer, rows, columns, own, True)
 
 
 def row_of_any(costs: Any, row: int) -> Any:
@@ -187,48 +310,151 @@ def copied(costs: Any) -> Any:
         return [list(row_in_list(row, _AS_PRINTED)) for row in held(costs, _AS_PRINTED)]
     costs = reading.array_of_frame(numpy, costs, _AS_PRINTED) if naming.is_frame(costs) else reading.array_of(numpy,
                                                                                                               costs)
-    return as_printed(numpy, numpy.array(costs, subok=isinstance(costs, numpy.ma.MaskedArray)))
+    return as_printed(numpy.array(costs, subok=isinstance(costs, numpy.ma.MaskedArray)))
 
 
-def as_printed(numpy: Any, costs: Any) -> Any:
+def as_printed(costs: Any) -> Any:
     """An array whose floats of fewer than 64 bits are the doubles that print as they do, unless it has a mask."""
+    numpy = reading.numpy_of(costs)
     is_short = costs.dtype.kind == "f" and costs.dtype.itemsize < 8 and not isinstance(costs, numpy.ma.MaskedArray)
     return printing.of_shape(numpy, costs) if is_short else costs
 
 
-class SquareCosts(NamedTuple):
-    """The costs of a square matrix: doubles, or whole numbers of a decimal unit of so many decimals."""
+class HeldCosts:
+    """Costs as the library takes them, row by row of the fewer side: doubles, or whole numbers of a decimal unit of so
+    many decimals. `state` has the objects and prices of the last plan."""
 
-    n: int
-    decimals: Optional[int]
-    flat: Any
+    def __init__(self, n: int, m: int, is_turned: bool, decimals: Optional[int], flat: Any):
+        self.n, self.m, self.is_turned, self.decimals, self.flat = n, m, is_turned, decimals, flat
+        self.state: Optional[Tuple[Any, Any]] = None
 
-    def write(self, row: int, costs: Any) -> bool:
-        """Whether a row's other costs are of this kind too; then they stand here."""
+    def place(self, row: int, column: int) -> int:
+        """Where the cost of a pair stands."""
+        return column * self.m + row if self.is_turned else row * self.m + column
+
+    def _numbers(self, costs: Any) -> Any:
+        """Other costs as numbers of this kind; None where one is none."""
         found = doubles_of(costs)
-        own = found if found is None or self.decimals is None else in_decimal_units(found, self.decimals)
+        return found if found is None or self.decimals is None else in_decimal_units(found, self.decimals)
+
+    def write(self, number: int, costs: Any, is_column: bool) -> bool:
+        """Whether other costs of a row or column are of this kind too; then they stand here."""
+        own = self._numbers(costs)
         if own is None:
             return False
-        self.flat[self.n * row:self.n * (row + 1)] = own
+        if is_column == self.is_turned:
+            self.flat[self.m * number:self.m * (number + 1)] = own
+            if self.state:
+                self.state[0][number] = 0
+        else:
+            self.flat[number::self.m] = own
+            self._let_go(number)
         return True
 
+    def _let_go(self, item: int) -> None:
+        """Lets nobody have an object."""
+        if self.state:
+            objects, _ = self.state
+            for person, held in enumerate(objects):
+                if held == item + 1:
+                    objects[person] = 0
 
-def numbers_of(costs: Any) -> Optional[SquareCosts]:
-    """The numbers of a square matrix; None where it is none, or has others."""
-    n = len(costs)
-    if not n or n > MOST_PERSONS or any(not hasattr(row, "__len__") or len(row) != n for row in costs):
+    def add_row(self, costs: Any) -> bool:
+        """Whether a row more is of this kind too, and leaves the same side the fewer; then it stands here."""
+        own = None if self.n == self.m and not self.is_turned else self._numbers(costs)
+        if own is None:
+            return False
+        if self.is_turned:
+            self._relay(lambda person, held: held.extend(own[person:person + 1]))
+            self.m += 1
+            if self.state:
+                self.state[1].append(min(self.state[1]))
+            return True
+        self.flat.extend(own)
+        self.n += 1
+        if self.state:
+            self.state[0].append(0)
+        return True
+
+    def remove_row(self, row: int) -> bool:
+        """Whether the same side is the fewer without a row; then it is gone here."""
+        if self.is_turned:
+            return self.m - 1 > self.n and self._remove_item(row)
+        del self.flat[self.m * row:self.m * (row + 1)]
+        self.n -= 1
+        if self.state:
+            del self.state[0][row]
+        return self.n > 0
+
+    def _remove_item(self, item: int) -> bool:
+        self._let_go(item)
+        self._relay(lambda _, held: held.pop(item))
+        self.m -= 1
+        if self.state:
+            objects, prices = self.state
+            self.state = array("I", [held - (held > item) for held in objects]), prices
+            del prices[item]
+        return True
+
+    def _relay(self, change: Any) -> None:
+        """Changes the costs of each person, which change their number."""
+        flat = array(self.flat.typecode)
+        for person in range(self.n):
+            held = self.flat[self.m * person:self.m * (person + 1)]
+            change(person, held)
+            flat.extend(held)
+        self.flat = flat
+
+    def answer(self, maximize: bool) -> Optional[proved.Assignment]:
+        """The best plan, from the one of before; None where this way finds nothing that is sure to be best."""
+        found = self._of_doubles(maximize) if self.decimals is None else self._of_whole(maximize)
+        if found is None:
+            self.state = None
+        return found
+
+    def _of_whole(self, maximize: bool) -> Optional[proved.Assignment]:
+        n, m, first = self.n, self.m, None
+        objects, prices = self.state or (array("I", bytes(4 * n)), array("q", bytes(8 * m)))
+        if self.state:
+            first = array("q", prices)
+        code, info = library.searched(maximize, n, m, [self.flat], first, [objects, array("I", bytes(4 * n)), prices])
+        if code != "BEST":
+            return None
+        self.state = objects, prices
+        return proved.Assignment(n, m, info.total, array("I", objects), array("q", prices))
+
+    def _of_doubles(self, maximize: bool) -> Optional[proved.Assignment]:
+        n, m = self.n, self.m
+        objects, prices = self.state or doubles.start(maximize, n, m, self.flat)
+        plan = doubles.search(maximize, n, m, self.flat, objects, prices)
+        if plan is None or not plan.by_margin:
+            return None
+        self.state = objects, prices
+        return proved.Assignment(n, m, None, array("I", objects), None)
+
+
+def numbers_of(costs: Any, width: int) -> Optional[HeldCosts]:
+    """The numbers of a matrix; None where it has others."""
+    height = len(costs)
+    if not height or not width or max(height, width) > MOST_PERSONS:
         return None
     flat = array("d")
     for row in costs:
-        own = doubles_of(row)
+        own = doubles_of(row) if len(row) == width else None
         if own is None:
             return None
         flat.extend(own)
+    is_turned = height > width
+    if is_turned:
+        flat, rows = array("d"), flat
+        for column in range(width):
+            flat.extend(rows[column::width])
+    n, m = sorted((height, width))
     for decimals in range(reading.MOST_UNIT_DECIMALS + 1):
         whole = in_decimal_units(flat, decimals)
         if whole is not None:
-            return SquareCosts(n, decimals, whole)
-    return SquareCosts(n, None, flat)
+            return HeldCosts(n, m, is_turned, decimals, whole)
+    return HeldCosts(n, m, is_turned, None, flat)
 
 
 def doubles_of(row: Any) -> Optional[Any]:

@@ -9,12 +9,13 @@ from ..lap import library, proved
 from ..lap.matching import most_served
 from ..lap.solving import prove_most, solved
 from .results import Result
+from .shown import Matrix, Missing
 from .solve import solve_problem
 from .solved import result_parts
 
 
-def bottleneck(costs: Any, maximize: bool = False, decimals: Optional[int] = None, partial: bool = False,
-               missing: str = "refuse", timeout: Optional[float] = None) -> Result:
+def bottleneck(costs: Matrix, maximize: bool = False, decimals: Optional[int] = None, partial: bool = False,
+               missing: Missing = "refuse", timeout: Optional[float] = None) -> Result:
     """A plan whose dearest pair is as cheap as possible, and among these one of the best sum.
 
     Parameters
@@ -41,6 +42,8 @@ def bottleneck(costs: Any, maximize: bool = False, decimals: Optional[int] = Non
     -----
     Solves twice; matchings find which pairs no plan needs.
 
+    Examples
+    --------
     >>> import nushbaret
     >>> nushbaret.bottleneck([[0, 5], [5, 9]]).pairs
     [(0, 1), (1, 0)]

@@ -6,9 +6,10 @@ from ..costs import naming, reading as exact, source as sources
 from ..costs.numbers import exactly_less
 from ..costs.problem import AssignmentProblem, costs_of_pairs
 from ..costs.source import Source
-from ..lap.checking import counted
+from ..lap.plan_check import counted
 from ..lap.proved import read_prices
 from .results import Result
+from .shown import Matrix, Missing
 from .solve import solve_problem
 from .solved import ratios_of, sum_of
 from .verdicts import Verdict, verdict_on
@@ -18,6 +19,8 @@ class Comparison(NamedTuple):
     """A plan made by hand compared with the best one: its cost, the best cost, by how much it is worse (0 or more), and
     the best one's result.
 
+    Examples
+    --------
     >>> import nushbaret
     >>> nushbaret.compare([[1, 2], [3, 5]], columns=[0, 1])[:3]
     (6, 5, 1)
@@ -62,8 +65,8 @@ def _listed(values: Any, what: str) -> List[Any]:
     return list(values)
 
 
-def check(costs: Any, columns: Any, prices: Any, rows: Any = None, maximize: bool = False,
-          decimals: Optional[int] = None, missing: str = "refuse") -> Verdict:
+def check(costs: Matrix, columns: Any, prices: Any, rows: Any = None, maximize: bool = False,
+          decimals: Optional[int] = None, missing: Missing = "refuse") -> Verdict:
     """Checks a plan of any origin against a problem: whether these prices prove that it is best.
 
     Parameters
@@ -100,6 +103,8 @@ def check(costs: Any, columns: Any, prices: Any, rows: Any = None, maximize: boo
     that what they prove they still prove. Beyond it Python compares exactly: the plan is proved if what all rows pay
     above their best adds up to less than the unit of the costs.
 
+    Examples
+    --------
     >>> import nushbaret
     >>> nushbaret.check([[1, 2], [3, 5]], columns=[1, 0], prices=[1, 0])
     <nushbaret.Verdict: proved>
@@ -110,8 +115,8 @@ def check(costs: Any, columns: Any, prices: Any, rows: Any = None, maximize: boo
                       read_prices(problem, prices))
 
 
-def compare(costs: Any, columns: Any, rows: Any = None, maximize: bool = False,
-            decimals: Optional[int] = None, missing: str = "refuse") -> Comparison:
+def compare(costs: Matrix, columns: Any, rows: Any = None, maximize: bool = False,
+            decimals: Optional[int] = None, missing: Missing = "refuse") -> Comparison:
     """By how much a plan made by hand is worse than the best one.
 
     Parameters
@@ -128,6 +133,8 @@ def compare(costs: Any, columns: Any, rows: Any = None, maximize: bool = False,
     ValueError, TypeError
         As in `check`, or if the plan uses a forbidden pair or a column twice, or has fewer pairs than possible.
 
+    Examples
+    --------
     >>> import nushbaret
     >>> nushbaret.compare([[1, 2], [3, 5]], columns=[0, 1]).worse
     1

@@ -1,21 +1,28 @@
 """Plans in which rows and columns count from so many to so many: the call."""
 import operator
+from array import array
 from collections import Counter
+from fractions import Fraction
 from functools import cached_property
-from typing import Any, Dict, List, Optional, Tuple
+from itertools import islice
+from operator import le, neg
+from typing import Any, Dict, List, Optional, Sequence, Tuple
 
 from ..costs import naming
+from ..costs.kinds import Costs, plain
 from ..costs.numbers import Number
-from ..costs.problem import AssignmentProblem, Labels, in_whole_numbers, lists_of
+from ..costs.problem import AssignmentProblem, Labels, kept, listed
 from ..costs.reading import is_nan, manner
 from ..costs.source import lasting, problem_of
 from ..counts.lack import Lack
-from ..counts.nodes import Bounds, Counted, Pair
-from ..counts.planned import missing, planned
+from ..counts.count_levels import Given
+from ..counts.planned import Plans, missing, planned
+from ..counts.counted import Bounds, Counted
 from ..lap import library
 from .infeasible import Infeasible, Shortage, numbered
 from .results import Lasting
 from .shown import FixedDict, FixedList, fixed, frame_of
+from .solve import Progress
 
 ONE_AT_MOST = Bounds(0, 1)
 
@@ -84,59 +91,88 @@ class CountsResult(Lasting):
     NumPy arrays if the costs are one, and lists otherwise. These can't be changed, and attributes can't be set. A
     result can be pickled.
 
-    Attributes
-    ----------
-    rows, columns : list of int, or NumPy array
-        The pairs.
-    cost : int, decimal.Decimal or fractions.Fraction
-        The sum of their costs, exactly.
-    pairs : list of tuple
-        The pairs by the labels of a DataFrame, or else by numbers.
-    missing_rows, missing_columns : dict
-        By how many each row, or column, misses its least count; those that meet it aren't there.
-    maximize : bool
-        Whether this is the greatest sum, not the least.
-
     >>> import nushbaret
     >>> result = nushbaret.assign_counts([[4, 1, 3], [2, 0, 5]], (1, 2), 1)
     >>> result.rows, result.columns, result.cost
     ([0, 1, 1], [2, 0, 1], 5)
     """
 
+    #: The rows of the pairs, rising, from 0.
     rows: Any
+    #: The column of each of `rows`.
     columns: Any
-    cost: Number
+    #: By how many each row misses its least count; those that meet it aren't there.
     missing_rows: Dict[int, int]
+    #: The same of columns.
     missing_columns: Dict[int, int]
+    #: Whether this is the greatest sum, not the least.
     maximize: bool
     _labels: Labels
-    _found: List[Pair]
-    _costs: List[Number]
+    _kind: Costs
+    _costs: List[Any]
+    _numbers: Optional[Tuple[Sequence[int], Sequence[int]]]
+    _denominator: int
 
-    def __init__(self, problem: AssignmentProblem, counted: Counted, pairs: List[Pair]):
-        sign = -1 if problem.maximize else 1
-        numbers = [sign * cost for cost in _costs_of(counted, pairs)]
-        rows, columns = ([pair[side] for pair in pairs] for side in range(2))
+    def __init__(self, problem: AssignmentProblem, plans: Plans):
+        counted, best = plans.problem, plans.best
+        rows, columns, costs = _chosen(problem, plans)
+        missed = [missing(bounds, Counter(_listed(own))) if plans.cut else {}
+                  for bounds, own in ((counted.row_bounds, rows), (counted.column_bounds, columns))]
         self.__dict__.update(
             rows=fixed(problem.numbers(rows)), columns=fixed(problem.numbers(columns)), maximize=problem.maximize,
-            cost=problem.unit.shown(sum(numbers)), missing_rows=FixedDict(missing(counted.row_bounds, Counter(rows))),
-            missing_columns=FixedDict(missing(counted.column_bounds, Counter(columns))), _labels=problem.labels,
-            _found=pairs,
-            _costs=list(map(problem.unit.shown, numbers)))
+            missing_rows=FixedDict(missed[0]), missing_columns=FixedDict(missed[1]), _labels=problem.labels,
+            _kind=problem.costs.without_numbers(), _costs=costs,
+            _numbers=None if plans.cut else (best.row_numbers, best.column_numbers), _denominator=best.denominator)
 
     def __setstate__(self, state: Any) -> None:
         super().__setstate__({**state, "rows": fixed(state["rows"]), "columns": fixed(state["columns"])})
 
     def __repr__(self) -> str:
-        return f"<nushbaret.CountsResult: cost {self.cost}, {len(self._found)} pairs>"
+        return f"<nushbaret.CountsResult: cost {self.cost}, {len(self.rows)} pairs>"
+
+    @cached_property
+    def cost(self) -> Number:
+        """The exact sum of the pairs' costs: an int, a Decimal where costs have decimal places, or a Fraction where one
+        was given."""
+        return self._kind.total(self._kind.ratios_in_unit(self._costs))
 
     @cached_property
     def pairs(self) -> List[Tuple[Any, Any]]:
         """The pairs, by the labels of a DataFrame, or else by numbers."""
+        found = zip(_listed(self.rows), _listed(self.columns))
         if self._labels is None:
-            return FixedList(self._found)
+            return FixedList(found)
         rows, columns = self._labels
-        return FixedList((rows[row], columns[column]) for row, column in self._found)
+        return FixedList((rows[row], columns[column]) for row, column in found)
+
+    @cached_property
+    def row_numbers(self) -> Optional[List[Number]]:
+        """The exact number (dual) of each row; None where least counts are missed.
+
+        Let e = cost - row's number - column's number. Numbers of rows and columns prove the plan best: each of its
+        pairs has e <= 0, and the least e of those that its row may have of its group; each other allowed pair has e >=
+        0, or its row has another column of its group; a number is above 0 only where a row or a column has its least
+        count, and below 0 only where it has its greatest. Under maximize all these signs are reversed. Other numbers
+        may prove the same plan.
+
+        >>> import nushbaret
+        >>> result = nushbaret.assign_counts([[4, 1, 3], [2, 0, 5]], 1, (0, 1))
+        >>> result.pairs, result.row_numbers, result.column_numbers
+        ([(0, 1), (1, 0)], [2, 2], [0, -1, 0])
+        """
+        return self._shown(0)
+
+    @cached_property
+    def column_numbers(self) -> Optional[List[Number]]:
+        """The exact number of each column, as `row_numbers` says."""
+        return self._shown(1)
+
+    def _shown(self, side: int) -> Optional[List[Number]]:
+        if self._numbers is None:
+            return None
+        sign = -1 if self.maximize else 1
+        return FixedList(self._kind.all_shown([Fraction(sign * number, self._denominator).as_integer_ratio()
+                                               for number in self._numbers[side]]))
 
     def to_frame(self) -> Any:
         """The pairs as a DataFrame of pandas, which must be installed.
@@ -152,15 +188,25 @@ class CountsResult(Lasting):
         0    0       0     4
         1    0       1     1
         """
-        return frame_of(self.pairs, self._costs)
+        return frame_of(self.pairs, self._kind.all_shown(self._kind.ratios_in_unit(self._costs)))
 
 
-def _costs_of(counted: Counted, pairs: List[Pair]) -> List[int]:
-    """The costs of some pairs."""
-    wanted = set(pairs)
-    held = {(row, column): cost for row, column, cost in zip(counted.rows, counted.columns, counted.costs)
-            if (row, column) in wanted}
-    return [held[pair] for pair in pairs]
+def _listed(values: Any) -> List[int]:
+    return list(values.tolist()) if hasattr(values, "tolist") else list(values)
+
+
+def _chosen(problem: AssignmentProblem, plans: Plans) -> Tuple[Any, Any, List[Any]]:
+    """The rows and columns of a plan's pairs, in order, and their costs."""
+    plan = plans.part.plan(plans.best.plan, len(plans.problem.rows)) if plans.cut else plans.best.plan
+    if problem.numpy is None:
+        places = [place for place, is_chosen in enumerate(plan) if is_chosen]
+        persons, objects, costs = _listed(problem.persons), _listed(problem.objects), problem.costs.listed()
+        order = sorted((persons[place] - 1, objects[place] - 1, place) for place in places)
+        return [row for row, _, _ in order], [column for _, column, _ in order], [costs[place] for _, _, place in order]
+    found = problem.numpy.frombuffer(plan, "uint8").nonzero()[0]
+    found = found[problem.numpy.lexsort((problem.objects[found], problem.persons[found]))]
+    rows, columns = (numbers[found].astype(problem.numpy.intp) - 1 for numbers in (problem.persons, problem.objects))
+    return rows, columns, list(problem.costs.numbers[found].tolist())
 
 
 # What the caller says of counts and groups.
@@ -253,22 +299,35 @@ def _of_labels(values: List[Any], given: List[Optional[int]]) -> int:
     return len(numbers)
 
 
+def _by_rows(problem: AssignmentProblem) -> AssignmentProblem:
+    """The problem as a list of pairs, rows rising."""
+    problem = listed(problem)
+    persons = problem.persons
+    if problem.numpy:
+        return problem if (persons[1:] >= persons[:-1]).all() else kept(problem, persons.argsort(kind="stable"))
+    if all(map(le, persons, islice(persons, 1, None))):
+        return problem
+    return kept(problem, sorted(range(len(persons)), key=persons.__getitem__))
+
+
 def _counted(problem: AssignmentProblem, rows: List[Bounds], columns: List[Bounds],
-             groups: Tuple[List[int], int]) -> Counted:
-    """The problem of counts; its costs are to be least."""
-    of_rows: List[int] = []
-    of_columns: List[int] = []
-    costs: List[int] = []
-    for row, (own, values) in enumerate(lists_of(problem)):
-        of_rows += [row] * len(own)
-        of_columns += own
-        costs += list(values)
-    return Counted(rows, columns, *groups, of_rows, of_columns, costs)
+             groups: Tuple[List[int], int]) -> Tuple[Counted, Optional[Given]]:
+    """The problem of counts, for pairs whose rows rise, and its costs, where they aren't in the library's range."""
+    costs, sign = problem.costs.of_64_bits(), -1 if problem.maximize else 1
+    own, others = ((numbers - 1 if problem.numpy else [number - 1 for number in numbers])
+                   for numbers in (problem.persons, problem.objects))
+    counted = Counted(rows, columns, *groups, own, others, [] if costs is None else plain(costs))
+    if costs is None or not counted.in_range():
+        return counted._replace(costs=[]), Given(problem.costs, sign)
+    if problem.maximize:
+        numbers = counted.costs
+        counted = counted._replace(costs=-numbers if problem.numpy else array("q", map(neg, numbers)))
+    return counted, None
 
 
 def assign_counts(costs: Any, row_counts: Any = None, column_counts: Any = None, column_groups: Any = None,
                   maximize: bool = False, decimals: Optional[int] = None, partial: bool = False,
-                  missing: str = "refuse", timeout: Optional[float] = None) -> CountsResult:
+                  missing: str = "refuse", timeout: Optional[float] = None, progress: Progress = None) -> CountsResult:
     """A best plan in which each row takes from so many to so many columns, and each column rows.
 
     Each pair is made at most once, and of a group of columns a row takes at most one.
@@ -286,6 +345,9 @@ def assign_counts(costs: Any, row_counts: Any = None, column_counts: Any = None,
         None for no group.
     maximize, decimals, missing, timeout
         As in `solve`.
+    progress : callable, optional
+        Is called with how many rows have their least count, and a pair if they take any, and how many rows there are:
+        after each piece of a long search, and at its end.
     partial : bool, optional
         If not all least counts can be met, misses them by as little as can be, summed over all rows and columns, and
         takes a plan of the best sum among these, instead of raising. Greatest counts and groups are kept.
@@ -303,12 +365,13 @@ def assign_counts(costs: Any, row_counts: Any = None, column_counts: Any = None,
 
     Notes
     -----
-    Rows and columns become as many nodes as they count at most, and what counts once needs two more where a plan would
-    break it; the library takes 4194304 nodes of each side. Each plan and each shortage is then checked on rows that say
-    just the counts and groups: that no plan that meets them costs less, or that the names can't have more. Where all
-    numbers are within 64 bits the library's proved check does this. That the rows say what was asked is tested, not
-    proved.
+    The library solves the problem itself (an auction with similar objects, after Bertsekas and Castanon 1989), and
+    checks the plan by the numbers of rows and columns; the check is proved. At most 4194304 rows and columns and
+    1073741824 pairs. Costs beyond 10**12 in their unit, and doubles, are solved by levels. Each shortage, and each plan
+    that misses least counts, is checked on rows that say just the counts and groups.
 
+    Examples
+    --------
     >>> import nushbaret
     >>> shifts = [[4, 1, 3, 2], [2, 3, 5, 1]]
     >>> nushbaret.assign_counts(shifts, (2, 3), (1, 2), column_groups=["Mon", "Mon", "Tue", "Tue"]).pairs
@@ -316,13 +379,14 @@ def assign_counts(costs: Any, row_counts: Any = None, column_counts: Any = None,
     """
     if row_counts is None and column_counts is None:
         raise TypeError("row_counts and column_counts are both missing: give one, or call solve")
-    with library.limited(timeout):
-        problem = in_whole_numbers(problem_of(lasting(costs), None, None, None, manner(maximize, decimals, missing)))
+    with library.limited(timeout, progress):
+        problem = _by_rows(problem_of(lasting(costs), None, None, None, manner(maximize, decimals, missing)))
         of_rows, of_columns = problem.labels or (None, None)
         rows, columns = bounds_of(row_counts, "row", problem.n_rows, of_rows), bounds_of(column_counts, "column",
                                                                                          problem.n_columns, of_columns)
-        counted = _counted(problem, rows, columns, groups_of(column_groups, problem.n_columns, of_columns))
-        lacks, pairs, _ = planned(counted, partial)
-    if pairs is None:
-        raise CountsInfeasible(shortages_of(counted, lacks), problem.labels)
-    return CountsResult(problem, counted, pairs)
+        counted, given = _counted(problem, rows, columns,
+                                  groups_of(column_groups, problem.n_columns, of_columns))
+        lacks, plans = planned(counted, partial, given)
+        if plans is not None:
+            return CountsResult(problem, plans)
+    raise CountsInfeasible(shortages_of(counted.listed(), lacks), problem.labels)

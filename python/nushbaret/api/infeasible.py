@@ -20,6 +20,8 @@ class Shortage(NamedTuple):
     it is true, these columns must have `wanted` rows and can have no more than `had`: as many as `rows` take at most,
     and for each of `once` one.
 
+    Examples
+    --------
     >>> import nushbaret
     >>> try:
     ...     nushbaret.assign_counts([[4, 1], [2, 3]], (0, 1), (2, 2))
@@ -52,6 +54,8 @@ class Infeasible(ValueError):
     shortages : list of Shortage
         What `assign_counts` is short of; empty for any other call.
 
+    Examples
+    --------
     >>> import nushbaret
     >>> try:
     ...     nushbaret.solve([[1, None], [2, None]])

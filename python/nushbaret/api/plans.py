@@ -1,5 +1,5 @@
 """Plans in the order of their costs."""
-from typing import Any, Iterator, Optional
+from typing import Iterator, Optional
 
 from ..costs import source as sources
 from ..costs.reading import manner, whole_number
@@ -7,6 +7,7 @@ from ..costs.source import Source
 from ..lap import library
 from ..lap.ranking import Ranking
 from .results import Plan, Result
+from .shown import Matrix, Missing
 from .solve import solve_problem
 
 
@@ -17,15 +18,15 @@ def _in_order(ranking: Ranking, result: Result, count: int, timeout: Optional[fl
             part = ranking.take()
             if part is None:
                 return
-            plan = Plan(*result._solved.plan_of(ranking, part))
+            plan = result._plan(*result._solved.plan_of(ranking, part))
         yield plan
         with library.limited(timeout):
             if left > 1:
                 ranking.split(part, left - 1)
 
 
-def k_best(costs: Any, k: int, maximize: bool = False, decimals: Optional[int] = None, partial: bool = False,
-           missing: str = "refuse", timeout: Optional[float] = None) -> Iterator[Plan]:
+def k_best(costs: Matrix, k: int, maximize: bool = False, decimals: Optional[int] = None, partial: bool = False,
+           missing: Missing = "refuse", timeout: Optional[float] = None) -> Iterator[Plan]:
     """The k best plans, from the best on.
 
     Parameters
@@ -58,6 +59,8 @@ def k_best(costs: Any, k: int, maximize: bool = False, decimals: Optional[int] =
     plans and are taken in order is tested, not proved. Plans differ in their rows or columns; equal rows make plans of
     one cost, and there may be very many.
 
+    Examples
+    --------
     >>> import nushbaret
     >>> [(plan.columns, plan.cost) for plan in nushbaret.k_best([[4, 1], [2, 3]], 2)]
     [([1, 0], 3), ([0, 1], 7)]

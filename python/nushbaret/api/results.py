@@ -2,33 +2,73 @@
 import copy
 import pickle
 from functools import cached_property
-from typing import Any, Dict, List, NamedTuple, Optional, Tuple
+from typing import Any, Dict, Iterable, Iterator, List, NamedTuple, Optional, Tuple
 
 from ..costs import source as sources
 from ..costs.naming import Numbers
 from ..costs.numbers import Number
-from ..costs.problem import AssignmentProblem
-from ..costs.reading import manner
+from ..costs.problem import AssignmentProblem, Labels
+from ..costs.reading import Manner, manner
 from ..costs.source import Source, problem_of
 from ..lap import library, proved
 from ..lap.ranking import has_other
 from .infeasible import infeasible
-from .shown import FixedList, fixed, frame_of, numbers
+from .shown import ByNames, FixedList, Missing, fixed, frame_of, numbers
 from .solved import SolvedProblem, WholeDuals, ratios_of, result_parts, sum_of
 from .verdicts import Verdict, verdict_on
 
 
-class Plan(NamedTuple):
-    """A plan: row rows[k] has column columns[k], and all pairs together cost `cost`.
+class _PlanParts(NamedTuple):
+    """What a plan consists of."""
 
+    rows: Any
+    columns: Any
+    cost: Number
+
+
+class Plan(_PlanParts, ByNames):
+    """A plan: row rows[k] has column columns[k], and all pairs together cost `cost`. `pairs` has the labels of a frame.
+
+    Examples
+    --------
     >>> import nushbaret
     >>> nushbaret.solve([[4, 1], [2, 3]]).next_best()
     Plan(rows=[0, 1], columns=[0, 1], cost=7)
     """
 
-    rows: Any
-    columns: Any
-    cost: Number
+    labels: Labels = None
+
+    @property
+    def pairs(self) -> List[Tuple[Any, Any]]:
+        """The pairs, by the labels of a frame, or else by numbers."""
+        rows, columns = self.labels or (None, None)
+        return [(rows[row] if rows else int(row), columns[column] if columns else int(column))
+                for row, column in zip(self.rows, self.columns)]
+
+    def to_frame(self) -> Any:
+        """The pairs as a DataFrame of pandas, which must be installed, with the columns row and column.
+
+        Returns
+        -------
+        pandas.DataFrame
+
+        Examples
+        --------
+        >>> import nushbaret
+        >>> nushbaret.solve([[4, 1], [2, 3]]).next_best().to_frame()  # doctest: +SKIP
+           row  column
+        0    0       0
+        1    1       1
+        """
+        return frame_of(self.pairs, None)
+
+
+def plan_of(rows: Any, columns: Any, cost: Number, labels: Labels) -> Plan:
+    """A plan with the labels of a frame."""
+    plan = Plan(rows, columns, cost)
+    if labels:
+        plan.labels = labels
+    return plan
 
 
 class Lasting:
@@ -53,7 +93,7 @@ class Lasting:
         return self
 
 
-class Result(Lasting):
+class Result(ByNames, Lasting):
     """A best assignment, with exact duals that prove it.
 
     Row `rows[k]` has column `columns[k]`; numbers are from 0, and rows rise. They are NumPy arrays if the costs are
@@ -64,6 +104,8 @@ class Result(Lasting):
     the costs of its pairs, duals and the verdict: what needs the costs raises ValueError, until `with_costs` gives
     them.
 
+    Examples
+    --------
     >>> import nushbaret
     >>> result = nushbaret.solve([[4, 1, 3], [2, 0, 5], [3, 2, 2]])
     >>> result.columns, result.cost
@@ -100,11 +142,11 @@ class Result(Lasting):
                                          "its costs again")
         source, found, duals, known = state
         pairs = (numbers(values, found.as_arrays) for values in proved.pairs_of(found.shape, found.answer))
-        Result.__init__(self, source, found.with_pairs(*pairs), duals)
+        type(self).__init__(self, source, found.with_pairs(*pairs), duals)
         self.__dict__.update(known)
 
     def __deepcopy__(self, memo: Dict[int, Any]) -> "Result":
-        return Result(copy.deepcopy(self._source, memo), self._found, self._duals)
+        return type(self)(copy.deepcopy(self._source, memo), self._found, self._duals)
 
     def __repr__(self) -> str:
         return f"<nushbaret.Result: cost {self.cost}, {len(self.rows)} pairs>"
@@ -115,21 +157,32 @@ class Result(Lasting):
         given."""
         return sum_of(self._shape, ratios_of(self._shape, self._found.costs))
 
+    @property
+    def labels(self) -> Labels:
+        """The labels of all rows and of all columns, if the costs have them; else None."""
+        held = self._shape.labels
+        return held and (list(held[0]), list(held[1]))
+
     @cached_property
     def pairs(self) -> List[Tuple[Any, Any]]:
         """The pairs, by the labels of a DataFrame, or else by numbers."""
-        return FixedList((self._shape.row_name(row), self._shape.column_name(column))
-                         for row, column in zip(*self._solved.pairs))
+        return FixedList(self._named(zip(*self._solved.pairs)))
+
+    def _named(self, pairs: Iterable[Tuple[int, int]]) -> Iterator[Tuple[Any, Any]]:
+        return ((self._shape.row_name(row), self._shape.column_name(column)) for row, column in pairs)
 
     @cached_property
     def unmatched_rows(self) -> Any:
         """The rows without a pair, rising."""
-        return self._solved.unmatched(0)
+        return self._left(0)
 
     @cached_property
     def unmatched_columns(self) -> Any:
         """The columns without a pair, rising."""
-        return self._solved.unmatched(1)
+        return self._left(1)
+
+    def _left(self, side: int) -> Any:
+        return self._solved.unmatched(side)
 
     @cached_property
     def row_duals(self) -> List[Number]:
@@ -171,6 +224,8 @@ class Result(Lasting):
             None if there is no other plan. Of several, the one that comes first in the order of `k_best`, whose notes
             say how it is checked.
 
+        Examples
+        --------
         >>> import nushbaret
         >>> nushbaret.solve([[4, 1], [2, 3]]).next_best().cost
         7
@@ -178,7 +233,10 @@ class Result(Lasting):
         ranking = self._solved.ranking()
         ranking.split(ranking.whole, 1)
         part = ranking.take()
-        return None if part is None else Plan(*self._solved.plan_of(ranking, part))
+        return None if part is None else self._plan(*self._solved.plan_of(ranking, part))
+
+    def _plan(self, rows: Any, columns: Any, cost: Number) -> Plan:
+        return plan_of(rows, columns, cost, self.labels)
 
     def to_frame(self) -> Any:
         """The pairs as a DataFrame of pandas, which must be installed.
@@ -189,15 +247,20 @@ class Result(Lasting):
             With columns row, column and cost: by labels if the costs were a DataFrame, else by numbers. Costs are whole
             numbers or floats where these print as the exact costs, and Decimals or Fractions otherwise.
 
+        Examples
+        --------
         >>> import nushbaret
         >>> nushbaret.solve([[4, 1], [2, 3]]).to_frame()  # doctest: +SKIP
            row  column  cost
         0    0       1     1
         1    1       0     2
         """
-        return frame_of(self.pairs, self._shape.costs.all_shown(self._solved.ratios))
+        return frame_of(self.pairs, self._costs_of_pairs())
 
-    def verify(self, costs: Any = None, rows: Any = None, columns: Any = None, missing: str = "refuse") -> Verdict:
+    def _costs_of_pairs(self) -> List[Number]:
+        return self._shape.costs.all_shown(self._solved.ratios)
+
+    def verify(self, costs: Any = None, rows: Any = None, columns: Any = None, missing: Missing = "refuse") -> Verdict:
         """Checks the plan and its duals against a problem.
 
         Parameters
@@ -220,6 +283,8 @@ class Result(Lasting):
         ValueError
             If `costs` isn't given and the result comes from a pickle.
 
+        Examples
+        --------
         >>> import nushbaret
         >>> result = nushbaret.solve([[1, 2], [3, 5]])
         >>> result.verify(), bool(result.verify([[1, 2], [3, 3]]))
@@ -228,14 +293,22 @@ class Result(Lasting):
         if costs is None:
             problem = self._source.read()
         else:
-            costs = sources.lasting(costs)
-            how = manner(self.maximize, self._solved.decimals, missing)
-            problem = problem_of(costs, rows, columns, (self._shape.n_rows, self._shape.n_columns), how)
+            problem = self._problem_of(sources.lasting(costs), rows, columns, missing)
         try:
             prices = self._solved.rents
         except ValueError as fault:
             return Verdict(str(fault))
         return verdict_on(problem, self._solved.pairs[0], self._solved.pairs[1], prices)
+
+    @property
+    def _sizes(self) -> Tuple[int, int]:
+        return self._shape.n_rows, self._shape.n_columns
+
+    def _manner(self, missing: str) -> Manner:
+        return manner(self.maximize, self._solved.decimals, missing)
+
+    def _problem_of(self, costs: Any, rows: Any, columns: Any, missing: str) -> AssignmentProblem:
+        return problem_of(costs, rows, columns, self._sizes, self._manner(missing))
 
     @cached_property
     def verdict(self) -> Verdict:
@@ -264,16 +337,18 @@ class Result(Lasting):
         ValueError
             If the plan's pairs have other costs, or the duals don't prove the plan best for these.
 
+        Examples
+        --------
         >>> import nushbaret, pickle
         >>> costs = [[4, 1], [2, 3]]
         >>> again = pickle.loads(pickle.dumps(nushbaret.solve(costs)))
         >>> again.cost, again.verdict, again.with_costs(costs).next_best().cost
         (3, <nushbaret.Verdict: proved>, 7)
         """
-        sizes = None if rows is None else (self._shape.n_rows, self._shape.n_columns)
+        sizes = None if rows is None else self._sizes
         source = self._source._replace(costs=sources.lasting(costs), rows=sources.listed(rows),
                                        columns=sources.listed(columns), sizes=sizes)
-        result = Result(source, self._found, self._duals)
+        result = type(self)(source, self._found, self._duals)
         result._solved.checked()
         return result
 
@@ -302,6 +377,8 @@ class Result(Lasting):
             If the costs were changed after the call, so that the duals no longer prove the plan best, or if the frame
             has the label several times.
 
+        Examples
+        --------
         >>> import nushbaret
         >>> nushbaret.solve([[4, 1], [2, 3]]).without(0, 1).cost
         7
@@ -309,11 +386,15 @@ class Result(Lasting):
         shape = self._shape
         rows, columns = shape.labels or (None, None)
         row, column = Numbers(rows, IndexError).of(row, "row"), Numbers(columns, IndexError).of(column, "column")
-        if not (0 <= row < shape.n_rows and 0 <= column < shape.n_columns):
-            raise IndexError(f"row {row}, column {column}: there are {shape.n_rows} rows and {shape.n_columns} columns")
+        n_rows, n_columns = self._sizes
+        if not (0 <= row < n_rows and 0 <= column < n_columns):
+            raise IndexError(f"row {row}, column {column}: there are {n_rows} rows and {n_columns} columns")
         with library.limited(timeout):
             source, problem, answer = self._solved.without(row, column)
         if isinstance(answer, proved.HallSet):
             raise infeasible(problem)
+        return self._answered(source, problem, answer)
+
+    def _answered(self, source: Source, problem: AssignmentProblem, answer: proved.Assignment) -> "Result":
         return Result(source, result_parts(problem, answer))
 

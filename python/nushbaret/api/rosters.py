@@ -6,15 +6,16 @@ from typing import Any, Dict, Iterable, List, Mapping, NamedTuple, Optional, Seq
 
 from ..costs.numbers import Number, Ratio, in_unit, unit_of
 from ..costs.reading import exact_ratio
-from ..counts.nodes import Bounds
+from ..counts.counted import Bounds
 from ..roster.answer import Request
-from ..roster.by_rules import Proved, Task, answer_by_rules
 from ..roster.month import Before, Month, month_of
 from ..roster.output.rule_texts import sentence_of
-from ..roster.roster import Earlier, Groups, PlanLine, Roster
-from ..roster.roster_rows import OwnRow
-from ..roster.rule_file import RuleLine, Rules, rules_of
-from ..roster.unruled import days_in_order, kinds_alike, left_out, other_holidays, without_day, without_kind
+from ..roster.roster import Earlier, Groups, PlanLine, Roster, Takes
+from ..roster.rules.roster_model import OwnRow
+from ..roster.rules.rule_file import RuleLine, Rules, rules_of
+from ..roster.rules.stages import Proved, Task, answer_by_rules
+from ..roster.rules.unruled import days_in_order, kinds_alike, left_out, other_holidays, without_day, without_kind
+from .shown import frame_of
 from ..rows.model import Certificate
 
 Named = Tuple[str, str]
@@ -46,6 +47,8 @@ class RosterPlan(NamedTuple):
     certificate : Certificate or None
         What proves the answer, for `write_certificate`.
 
+    Examples
+    --------
     >>> import nushbaret
     >>> nushbaret.RosterPlan._fields[:4]
     ('proved', 'pairs', 'cost', 'better')
@@ -59,6 +62,11 @@ class RosterPlan(NamedTuple):
     is_minimal: bool
     even: List[Tuple[str, int, int]]
     certificate: Optional[Certificate]
+
+    def to_frame(self) -> Any:
+        """The pairs as a DataFrame of pandas, which must be installed, with the columns row and column: persons and
+        objects. It has no rows where there is no plan."""
+        return frame_of(self.pairs or [], None)
 
     def write_certificate(self, path: str) -> None:
         """Writes what proves the answer; `nushbaret --check FILE` checks it alone.
@@ -128,6 +136,8 @@ def plan_roster(costs: Mapping[Named, Any], days: Mapping[str, Union[str, date]]
         without a cost or at a holiday on another day; kinds differ in case or spaces alone; or days that aren't dates
         have other days of the week than their order.
 
+    Examples
+    --------
     >>> import nushbaret
     >>> try:
     ...     nushbaret.plan_roster({("Ada", "Early Mon"): 1}, {"Early Mon": "Mon"}, [("rest", "Late > Early")])
@@ -225,10 +235,7 @@ def _roster(pairs: List[Named], costs: List[int], days: Mapping[str, Union[str, 
 def _with_counts(roster: Roster, tasks: Mapping[str, Count], places: Mapping[str, Count]) -> Roster:
     of_persons = _bounds("tasks", roster.person_numbers, tasks, Bounds(0, len(roster.objects)))
     of_objects = _bounds("places", roster.object_numbers, places, Bounds(1, 1))
-    least = tuple({number: bounds.least for number, bounds in own.items()} for own in (of_persons, of_objects))
-    return roster._replace(least=(least[0], least[1]),
-                           tasks={number: bounds.most for number, bounds in of_persons.items()},
-                           capacities={number: bounds.most for number, bounds in of_objects.items()})
+    return roster._replace(takes=Takes(of_persons, of_objects, False))
 
 
 def _bounds(what: str, numbers: Mapping[str, int], counts: Mapping[str, Count], default: Bounds) -> Dict[int, Bounds]:

@@ -1,9 +1,28 @@
-"""What results show: lists, dicts and arrays that can't be changed, and frames of pandas."""
+"""What calls take, as types, and what results show: lists, dicts and arrays that can't be changed, and frames of
+pandas."""
 import decimal
 import importlib
-from typing import Any, Dict, Iterable, List, NoReturn, Sequence, Tuple
+from typing import (TYPE_CHECKING, Any, Dict, Iterable, List, Literal, NoReturn, Optional, Protocol, Sequence, Tuple,
+                    Union)
 
 from ..costs.numbers import Number
+
+if TYPE_CHECKING:
+    from numpy.typing import ArrayLike
+
+    class SparseMatrix(Protocol):
+        """A sparse matrix or array, of SciPy's or of pydata's."""
+
+        @property
+        def shape(self) -> Any: ...
+
+        def tocsr(self, *words: Any, **named: Any) -> Any: ...
+
+    Matrix = Union[ArrayLike, Iterable[Iterable[Any]], SparseMatrix]
+else:
+    Matrix = Any
+# How NaN and what a mask covers are taken.
+Missing = Literal["refuse", "forbid"]
 
 
 class FixedList(List[Any]):
@@ -51,11 +70,55 @@ def numbers(values: Iterable[int], as_array: bool) -> Any:
     return fixed(numpy.array(list(values), numpy.intp))
 
 
-def frame_of(pairs: Sequence[Tuple[Any, Any]], costs: List[Number]) -> Any:
-    """A DataFrame with columns row, column and cost."""
+def frame_of(pairs: Sequence[Tuple[Any, Any]], costs: Optional[List[Number]]) -> Any:
+    """A DataFrame with columns row, column and, where they are known, cost."""
     import pandas  # type: ignore
     rows, columns = zip(*pairs) if pairs else ((), ())
-    return pandas.DataFrame({"row": list(rows), "column": list(columns), "cost": _in_floats(costs)})
+    held: Dict[str, Any] = {"row": list(rows), "column": list(columns)}
+    return pandas.DataFrame(held if costs is None else {**held, "cost": _in_floats(costs)})
+
+
+class ByNames:
+    """A plan whose pairs are known by the labels of a frame, or else by numbers."""
+
+    pairs: Any
+
+    def to_series(self) -> Any:
+        """The column of each row that has one, as a Series of pandas, which must be installed.
+
+        Returns
+        -------
+        pandas.Series
+            By labels if the costs had them, else by numbers.
+
+        Examples
+        --------
+        >>> import nushbaret
+        >>> nushbaret.solve([[4, 1], [2, 3]]).to_series()  # doctest: +SKIP
+        row
+        0    1
+        1    0
+        Name: column, dtype: int64
+        """
+        import pandas
+        rows, columns = zip(*self.pairs) if self.pairs else ((), ())
+        index = pandas.Index(list(rows), name="row", tupleize_cols=False)
+        return pandas.Series(list(columns), index, None if columns else object, "column")
+
+    def as_dict(self) -> Dict[Any, Any]:
+        """The column of each row that has one, by labels if the costs had them, else by numbers.
+
+        Returns
+        -------
+        dict
+
+        Examples
+        --------
+        >>> import nushbaret
+        >>> nushbaret.solve([[4, 1], [2, 3]]).as_dict()
+        {0: 1, 1: 0}
+        """
+        return dict(self.pairs)
 
 
 def _in_floats(costs: List[Any]) -> List[Any]:

@@ -1,4 +1,5 @@
 """The solving calls."""
+import time
 from typing import Any, Callable, List, Optional, Sequence, Tuple, Union, overload
 
 from ..costs import problem as reading, reading as exact, source as sources
@@ -8,6 +9,7 @@ from ..lap import direct, library, proved
 from ..lap.solving import Began, most, solved
 from .infeasible import infeasible
 from .results import Result
+from .shown import Matrix, Missing
 from .solved import result_parts
 
 Start = Union[Result, Sequence[Any], None]
@@ -45,15 +47,21 @@ def solve_problem(problem: AssignmentProblem, source: Source, start: Start = Non
 
 
 def solve_source(source: Source, start: Start = None, partial: bool = False, timeout: Optional[float] = None,
-                 progress: Progress = None) -> Result:
+                 progress: Progress = None, unmatched_cost: Any = None) -> Result:
     """The result of what a call was given."""
+    if unmatched_cost is not None and (partial or start is not None):
+        raise ValueError("unmatched_cost leaves out what is best left out, from the beginning: give it without partial "
+                         "and start")
     with library.limited(timeout, progress):
+        if unmatched_cost is not None:
+            from .unmatched import solve_unmatched
+            return solve_unmatched(source, unmatched_cost)
         return solve_problem(source.read(), source, start, partial)
 
 
-def solve(costs: Any, maximize: bool = False, decimals: Optional[int] = None, start: Start = None,
-          partial: bool = False, missing: str = "refuse", timeout: Optional[float] = None,
-          progress: Progress = None) -> Result:
+def solve(costs: Matrix, maximize: bool = False, decimals: Optional[int] = None, start: Start = None,
+          partial: bool = False, missing: Missing = "refuse", timeout: Optional[float] = None,
+          progress: Progress = None, *, unmatched_cost: Any = None) -> Result:
     """A best assignment of the rows and columns of a matrix, with exact duals that prove it.
 
     Each row gets a column, no column twice. With unequal numbers as many pairs as possible are made, and some rows or
@@ -86,6 +94,11 @@ def solve(costs: Any, maximize: bool = False, decimals: Optional[int] = None, st
         Is called as progress(served, all) after each piece of a search, some tenth of a second: so many of all rows
         have a column then, or of columns a row where these are fewer. Where levels or dummies take several searches,
         each counts from 0. What it raises ends the call.
+    unmatched_cost : number, or pair of numbers or lists, optional
+        What it costs to leave a row and a column out. Then any may be left out, and the sum of the pairs' costs and of
+        these is the best. Of a number, half counts for each row and half for each column that is left out, so that no
+        pair costs more. A pair has what a row costs and what a column costs: a number, or one for each, in a list or by
+        name. No row and column are both left out whose pair costs just as much. `cost` has all of it.
 
     Returns
     -------
@@ -111,21 +124,31 @@ def solve(costs: Any, maximize: bool = False, decimals: Optional[int] = None, st
     The time grows as the cube of the size at worst. The interpreter's lock is free while the library works, and Ctrl-C
     ends the call.
 
+    Examples
+    --------
     >>> import nushbaret
     >>> nushbaret.solve([[0.1 + 0.2, 2.5], [3, 1e15]]).cost
     Decimal('5.5')
     """
-    if decimals is None and start is None and timeout is None and progress is None and missing == "refuse":
-        found = direct.found(costs, bool(maximize))
+    end = direct.end_of(timeout)
+    if unmatched_cost is None and decimals is None and start is None and end is not None and progress is None \
+            and missing == "refuse":
+        found = direct.found(costs, bool(maximize), end)
         if found:
             return Result(Source(costs, None, None, None, exact.Manner(found.shape.maximize)), found)
     source = Source(sources.lasting(costs), None, None, None, exact.manner(maximize, decimals, missing))
-    return solve_source(source, start, partial, timeout, progress)
+    return solve_source(source, start, partial, _left(end, timeout), progress, unmatched_cost)
+
+
+def _left(end: Optional[float], timeout: Any) -> Any:
+    """What is left of a time."""
+    return timeout if timeout is None or end is None else max(0.0, end - time.monotonic())
 
 
 def solve_sparse(n_rows: Any, n_columns: Optional[int] = None, rows: Any = None, columns: Any = None, costs: Any = None,
                  maximize: bool = False, decimals: Optional[int] = None, start: Start = None, partial: bool = False,
-                 missing: str = "refuse", timeout: Optional[float] = None, progress: Progress = None) -> Result:
+                 missing: Missing = "refuse", timeout: Optional[float] = None, progress: Progress = None, *,
+                 unmatched_cost: Any = None) -> Result:
     """A best assignment where only the listed pairs may be used.
 
     Parameters
@@ -137,7 +160,7 @@ def solve_sparse(n_rows: Any, n_columns: Optional[int] = None, rows: Any = None,
     rows, columns, costs : lists or NumPy arrays of one length
         Row rows[k] may have column columns[k] at costs[k]; numbers from 0. A pair that is given several times counts
         once, at its least cost, also under maximize. Costs are as those of `solve`.
-    maximize, decimals, start, partial, missing, timeout, progress
+    maximize, decimals, start, partial, missing, timeout, progress, unmatched_cost
         As in `solve`.
 
     Returns
@@ -149,6 +172,8 @@ def solve_sparse(n_rows: Any, n_columns: Optional[int] = None, rows: Any = None,
     Infeasible, ValueError, TypeError, TimeoutError, MemoryError, LibraryNotFound
         As in `solve`.
 
+    Examples
+    --------
     >>> import nushbaret
     >>> nushbaret.solve_sparse(2, 2, rows=[0, 0, 1], columns=[0, 1, 0], costs=[4, 1, 2]).pairs
     [(0, 1), (1, 0)]
@@ -164,21 +189,30 @@ def solve_sparse(n_rows: Any, n_columns: Optional[int] = None, rows: Any = None,
     else:
         source = Source(sources.listed(costs), sources.listed(rows), sources.listed(columns), (n_rows, n_columns),
                         manner)
-    return solve_source(source, start, partial, timeout, progress)
+    end = direct.end_of(timeout)
+    if unmatched_cost is None and decimals is None and start is None and end is not None and progress is None \
+            and not manner.forbid_nan:
+        found = direct.found_listed((n_rows, *lists), manner.maximize, end)
+        if found:
+            return Result(source, found)
+    return solve_source(source, start, partial, _left(end, timeout), progress, unmatched_cost)
 
 
 @overload
-def linear_sum_assignment(cost_matrix: Sequence[Sequence[Any]], maximize: bool = ..., *, missing: str = ...,
-                          timeout: Optional[float] = ..., progress: Progress = ...) -> Tuple[List[int], List[int]]: ...
+def linear_sum_assignment(cost_matrix: Sequence[Sequence[Any]], maximize: bool = ..., *, missing: Missing = ...,
+                          timeout: Optional[float] = ..., progress: Progress = ...,
+                          unmatched_cost: Any = ...) -> Tuple[List[int], List[int]]: ...
 
 
 @overload
-def linear_sum_assignment(cost_matrix: Any, maximize: bool = ..., *, missing: str = ...,
-                          timeout: Optional[float] = ..., progress: Progress = ...) -> Tuple[Any, Any]: ...
+def linear_sum_assignment(cost_matrix: Matrix, maximize: bool = ..., *, missing: Missing = ...,
+                          timeout: Optional[float] = ..., progress: Progress = ...,
+                          unmatched_cost: Any = ...) -> Tuple[Any, Any]: ...
 
 
-def linear_sum_assignment(cost_matrix: Any, maximize: bool = False, *, missing: str = "refuse",
-                          timeout: Optional[float] = None, progress: Progress = None) -> Tuple[Any, Any]:
+def linear_sum_assignment(cost_matrix: Any, maximize: bool = False, *, missing: Missing = "refuse",
+                          timeout: Optional[float] = None, progress: Progress = None,
+                          unmatched_cost: Any = None) -> Tuple[Any, Any]:
     """The call of scipy.optimize, with its results and errors. The plan is best for exactly these costs; a float is its
     double.
 
@@ -190,6 +224,8 @@ def linear_sum_assignment(cost_matrix: Any, maximize: bool = False, *, missing: 
         Whether to find the greatest sum.
     missing, timeout, progress
         As in `solve`; but without "forbid" a mask isn't seen, as in SciPy.
+    unmatched_cost
+        As in `solve`. Only the pairs are returned. A float is its double.
 
     Returns
     -------
@@ -203,10 +239,16 @@ def linear_sum_assignment(cost_matrix: Any, maximize: bool = False, *, missing: 
     TimeoutError, MemoryError, LibraryNotFound
         As in `solve`.
 
+    Examples
+    --------
     >>> import nushbaret
     >>> nushbaret.linear_sum_assignment([[0.3, 0.1, 1e15], [0.1, 0.3, 1e15], [1e15, 1e15, 0.5]])
     ([0, 1, 2], [1, 0, 2])
     """
     with library.limited(timeout, progress):
-        problem = reading.of_matrix(cost_matrix, exact.manner(maximize, None, missing, True))
+        how = exact.manner(maximize, None, missing, True)
+        problem = reading.of_matrix(cost_matrix, how)
+        if unmatched_cost is not None:
+            from .unmatched import unmatched_pairs
+            return unmatched_pairs(problem, unmatched_cost, how)
         return proved.rows_and_columns(problem, _answer(problem, None, False))

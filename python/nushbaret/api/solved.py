@@ -8,8 +8,8 @@ from ..costs.numbers import Number, Ratio, Unit
 from ..costs.problem import AssignmentProblem, costs_of_pairs
 from ..costs.source import Source
 from ..lap import duals as exact_duals, proved
-from ..lap.checking import check_wholly
 from ..lap.paths import Subproblem
+from ..lap.plan_check import check_wholly
 from ..lap.ranking import Ranking
 from ..lap.solving import Outcome, solved
 from .shown import FixedList, numbers

@@ -3,7 +3,7 @@ from fractions import Fraction
 from typing import List, Optional, Sequence
 
 from ..costs.problem import AssignmentProblem
-from ..lap.checking import check_wholly
+from ..lap.plan_check import check_wholly
 
 
 class Verdict:
@@ -19,6 +19,8 @@ class Verdict:
     row, column : int or None
         Which row and column these are, from 0, if any.
 
+    Examples
+    --------
     >>> import nushbaret
     >>> verdict = nushbaret.check([[1, 2], [3, 5]], columns=[0, 1], prices=[1, 0])
     >>> bool(verdict), verdict.row, verdict.column

@@ -5,10 +5,10 @@ import numpy
 
 from ..api.verdicts import Verdict
 from . import blocks, bounds
+from .calls import options_of, prices_of
 from .core import Duals, Form
 from .engines import engine_of
 from .search import TASK
-from .solving import options_of, prices_of
 from .sources import source_of
 
 

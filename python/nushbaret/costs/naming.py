@@ -1,7 +1,7 @@
 """Values that a caller gives for rows or columns: in their order, or by their names."""
 import sys
 from collections.abc import Mapping, Set
-from typing import Any, Dict, List, Optional, Sequence, Type
+from typing import Any, Dict, List, Optional, Sequence, Tuple, Type
 
 from . import printing
 from .reading import array_of, numpy_of, whole_number
@@ -10,6 +10,11 @@ from .reading import array_of, numpy_of, whole_number
 def is_frame(costs: Any) -> bool:
     """Whether this is a DataFrame of pandas."""
     return _is_of_pandas(costs, "DataFrame")
+
+
+def labels_of(costs: Any) -> Optional[Tuple[List[Any], List[Any]]]:
+    """The labels of a frame's rows and columns; None of anything else."""
+    return (list(costs.index), list(costs.columns)) if is_frame(costs) else None
 
 
 def is_named(values: Any) -> bool:

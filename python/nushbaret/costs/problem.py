@@ -419,8 +419,8 @@ def _pair_costs(costs: Any, manner: exact.Manner, where: exact.Where) -> exact.R
     return exact.of_rows([costs], len(costs), manner, where)
 
 
-def of_pairs(n_rows: Any, n_columns: Any, rows: Any, columns: Any, costs: Any,
-             manner: exact.Manner) -> AssignmentProblem:
+def of_pairs(n_rows: Any, n_columns: Any, rows: Any, columns: Any, costs: Any, manner: exact.Manner,
+             labels: Labels = None) -> AssignmentProblem:
     """The problem of listed pairs, whose costs may be infinite or None to forbid a pair after all."""
     n_rows, n_columns = exact.whole_number(n_rows, "n_rows"), exact.whole_number(n_columns, "n_columns")
     _judge_size(n_rows, n_columns)
@@ -428,9 +428,12 @@ def of_pairs(n_rows: Any, n_columns: Any, rows: Any, columns: Any, costs: Any,
     persons, objects = _numbered(rows, n_rows, "rows"), _numbered(columns, n_columns, "columns")
 
     def where(place: int) -> str:
-        pair = f" (row {persons[place] - 1}, column {objects[place] - 1})" if place < min(len(persons),
-                                                                                          len(objects)) else ""
-        return f"costs[{place}]{pair}"
+        if place >= min(len(persons), len(objects)):
+            return f"costs[{place}]"
+        row, column = int(persons[place]) - 1, int(objects[place]) - 1
+        if labels:
+            return f"row {labels[0][row]}, column {labels[1][column]}"
+        return f"costs[{place}] (row {row}, column {column})"
 
     read = _pair_costs(costs, manner, where)
     costs = read.costs.in_array(arrays) if arrays else read.costs
@@ -441,7 +444,7 @@ def of_pairs(n_rows: Any, n_columns: Any, rows: Any, columns: Any, costs: Any,
         persons, objects = costs.numpy.asarray(persons, "uint32"), costs.numpy.asarray(objects, "uint32")
     elif arrays:
         persons, objects = array("I", map(int, persons)), array("I", map(int, objects))
-    problem = AssignmentProblem(n_rows, n_columns, manner.maximize, costs, persons, objects, arrays)
+    problem = AssignmentProblem(n_rows, n_columns, manner.maximize, costs, persons, objects, arrays, labels)
     if len(read.forbidden):
         forbidden = set(map(int, read.forbidden))
         problem = kept(problem, [place for place in range(len(persons)) if place not in forbidden])

@@ -2,9 +2,9 @@
 import copy
 from typing import Any, Dict, NamedTuple, Optional, Tuple
 
-from . import problem as reading, reading as exact
+from . import problem as reading, reading as exact, unmatched
 from .numbers import Ratio
-from .problem import AssignmentProblem
+from .problem import AssignmentProblem, Labels
 
 NO_COSTS = "a pickled result has no costs: give them to it by with_costs(costs), or to verify(costs)"
 
@@ -26,7 +26,8 @@ def listed(values: Any) -> Any:
 
 class Source(NamedTuple):
     """What a call was given: costs, for listed pairs also their rows, columns and the sizes, how they are read, the
-    pairs that are left out, and the worst cost that a pair may have. Without costs it is what a pickle has of them."""
+    pairs that are left out, the worst cost that a pair may have, what rows and columns cost that stay out, and the
+    names of those of listed pairs. Without costs it is what a pickle has of them."""
 
     costs: Any
     rows: Any
@@ -35,15 +36,23 @@ class Source(NamedTuple):
     manner: exact.Manner
     less: Tuple[Tuple[int, int], ...] = ()
     worst: Optional[Ratio] = None
+    out: Optional[unmatched.Unmatched] = None
+    labels: Labels = None
 
     def read(self) -> AssignmentProblem:
         """The problem, as its costs are now."""
         if self.costs is None:
             raise ValueError(NO_COSTS)
-        problem = problem_of(self.costs, self.rows, self.columns, self.sizes, self.manner)
+        problem = self.own_problem()
+        if self.out is not None:
+            problem = unmatched.extended(problem, self.out)
         for row, column in self.less:
             problem = reading.without_pair(problem, row, column)
         return problem if self.worst is None else reading.within(problem, self.worst)
+
+    def own_problem(self) -> AssignmentProblem:
+        """The problem of the costs alone."""
+        return problem_of(self.costs, self.rows, self.columns, self.sizes, self.manner, self.labels)
 
     def without_costs(self) -> "Source":
         """What of it is no longer than the plan."""
@@ -62,13 +71,14 @@ def _copied(values: Any, memo: Dict[int, Any]) -> Any:
         return reading.native(memoryview(values)).tolist()
 
 
-def problem_of(costs: Any, rows: Any, columns: Any, sizes: Optional[Tuple[Any, Any]],
-               manner: exact.Manner) -> AssignmentProblem:
-    """The problem of a matrix, of a sparse matrix, or of listed pairs. If sizes are given, it must have these."""
+def problem_of(costs: Any, rows: Any, columns: Any, sizes: Optional[Tuple[Any, Any]], manner: exact.Manner,
+               labels: Labels = None) -> AssignmentProblem:
+    """The problem of a matrix, of a sparse matrix, or of listed pairs, whose rows and columns may have names. If sizes
+    are given, it must have these."""
     if (rows is None) != (columns is None):
         raise TypeError("rows and columns of listed pairs are given together")
     if rows is not None and sizes is not None:
-        return reading.of_pairs(*sizes, rows, columns, costs, manner)
+        return reading.of_pairs(*sizes, rows, columns, costs, manner, labels)
     found = reading.of_matrix(costs, manner)
     if sizes is not None and sizes != (found.n_rows, found.n_columns):
         raise ValueError(f"the costs have {found.n_rows} rows and {found.n_columns} columns, the plan was made for "

@@ -2,17 +2,17 @@
 of pairs.
 
 Pair k is variable k. Where least counts are missed, further variables say by how much each name misses its own. The
-multipliers of a best plan's leaf are differences of the potentials of its changes. Those of a shortage are 1 for what
-the names take together, and -1 for each count and group that limits it."""
+multipliers of a best plan's leaf are the numbers that prove it. Those of a shortage are 1 for what the names take
+together, and -1 for each count and group that limits it; where some are missed, a plan's leaf has its numbers and a
+great multiple of these."""
 from collections import Counter
 from itertools import chain
-from typing import Dict, List, NamedTuple, Sequence, Tuple
+from typing import Dict, List, NamedTuple, Optional, Sequence, Tuple
 
-from ..rows.check import shows
+from ..rows.certificate_check import shows
 from ..rows.model import Certificate, Leaf, Limits, Terms, flat
-from .exchanges import Exchanges
-from .lack import Lack
-from .nodes import Bounds, Counted, RowGroup
+from .lack import Cut, Lack
+from .counted import Bounds, Counted, Pair, RowGroup
 
 
 class CountTerms(NamedTuple):
@@ -67,12 +67,14 @@ def certificate_of_lack(counted: Counted, terms: CountTerms, lack: Lack) -> Cert
     return Certificate(len(counted.rows), tuple(rows), None, flat(leaf))
 
 
-def check_best(counted: Counted, lacks: Sequence[Lack], exchanges: Exchanges) -> None:
-    """Checks that a plan meets counts and groups, misses no more than the shortages say, and that no plan like that
-    costs less; RuntimeError where its certificate doesn't show it."""
-    if not shows(certificate_of_best(counted, lacks, exchanges)):
-        raise RuntimeError("a plan was found to be the best by its counts, and the check of these doesn't show it: "
-                           "please report this problem")
+class Shown(NamedTuple):
+    """A best plan to be shown: its pairs, the numbers of rows and columns that prove it, and by the shortages, where
+    least counts are missed, their cut."""
+
+    pairs: Sequence[Pair]
+    rows: Sequence[int]
+    columns: Sequence[int]
+    cut: Optional[Cut] = None
 
 
 class _Missed(NamedTuple):
@@ -84,15 +86,14 @@ class _Missed(NamedTuple):
     total: int
 
 
-def certificate_of_best(counted: Counted, lacks: Sequence[Lack], exchanges: Exchanges) -> Certificate:
-    """The certificate of a plan, from the potentials of its changes."""
-    terms = terms_of(counted)
-    pairs = list(zip(counted.rows, counted.columns))
-    values = [int(pair in exchanges.chosen) for pair in pairs]
+def certificate_of_best(counted: Counted, lacks: Sequence[Lack], plan: Shown) -> Certificate:
+    """The certificate of a plan, from the numbers that prove it."""
+    terms, chosen = terms_of(counted), set(plan.pairs)
+    values = [int(pair in chosen) for pair in zip(counted.rows, counted.columns)]
     sides = []
     for side, bounds in enumerate((counted.row_bounds, counted.column_bounds)):
         total = sum(lack.wanted - lack.had for lack in lacks if lack.of_columns == bool(side))
-        sides.append(_missed(bounds, Counter(pair[side] for pair in exchanges.chosen), total, len(values)))
+        sides.append(_missed(bounds, Counter(pair[side] for pair in plan.pairs), total, len(values)))
         values += sides[side].values
     rows = [Limits(bound.least, own + more, bound.most) for bounds, their, missed in
             zip((counted.row_bounds, counted.column_bounds), (terms.of_rows, terms.of_columns), sides)
@@ -102,7 +103,7 @@ def certificate_of_best(counted: Counted, lacks: Sequence[Lack], exchanges: Exch
              if missed.total]
     costs = tuple((pair, cost) for pair, cost in enumerate(counted.costs) if cost)
     rows.append(Limits(None, costs, sum(cost for cost, value in zip(counted.costs, values) if value) - 1))
-    factors = _multipliers(counted, list(terms.of_row_groups), exchanges, [missed.total > 0 for missed in sides])
+    factors = _multipliers(counted, list(terms.of_row_groups), plan, [missed.total > 0 for missed in sides])
     leaf = Leaf(tuple((row, factor) for row, factor in enumerate(factors) if factor))
     return Certificate(len(values), tuple(rows), tuple(values), flat(leaf))
 
@@ -136,15 +137,18 @@ def _taken(parts: Sequence[int], number: int) -> List[int]:
     return values
 
 
-def _multipliers(counted: Counted, row_groups: Sequence[RowGroup], exchanges: Exchanges,
+def _multipliers(counted: Counted, row_groups: Sequence[RowGroup], plan: Shown,
                  has_missed: Sequence[bool]) -> List[int]:
     """The multiplier of each row of the certificate."""
-    potentials, n_rows = exchanges.potentials, exchanges.first_column
-    free = potentials[n_rows + len(counted.column_bounds)]
-    must = potentials[n_rows + len(counted.column_bounds) + 1:]
-    factors = [free - potential for potential in potentials[:n_rows]]
-    factors += [potential - free for potential in potentials[n_rows:n_rows + len(counted.column_bounds)]]
-    factors += [min(0, potentials[row_group[0]] - potentials[exchanges.row_groups[row_group]])
-                for row_group in row_groups]
-    factors += [must[0] - free] * has_missed[0] + [free - must[1]] * has_missed[1]
-    return [*factors, -1]
+    rows, columns, weight = plan.rows, plan.columns, 0
+    if plan.cut is not None:
+        # More than any difference of two sums of a cost and numbers.
+        weight = 1 + 2 * sum(max((abs(value) for value in values), default=0)
+                             for values in (counted.costs, rows, columns))
+        rows, columns = ([number + weight * more for number, more in zip(own, others)] for own, others in (
+            (rows, plan.cut.rows), (columns, plan.cut.columns)))
+    least = dict.fromkeys(row_groups, 0)
+    for row_group, row, column, cost in zip(counted.row_groups(), counted.rows, counted.columns, counted.costs):
+        if row_group in least:
+            least[row_group] = min(least[row_group], cost - rows[row] - columns[column])
+    return [*rows, *columns, *least.values(), *(-weight for missed in has_missed if missed), -1]

@@ -2,96 +2,105 @@
 
 Two plans differ by rounds of changes. In a graph of rows, row groups of groups and columns, an arrow leads from a row
 to a column that it could take, and back where it has it. One more vertex is where rows and columns that may take more,
-or less, begin and end; two others do the same for least counts that are missed, of which as many are met in each
-plan."""
-from collections import Counter
+or less, begin and end. The numbers that prove a plan best are potentials under which no arrow costs less than 0."""
+from collections import Counter, deque
 from heapq import heappop, heappush
-from typing import Collection, Dict, List, NamedTuple, Optional, Sequence, Set, Tuple
+from typing import Any, Dict, List, NamedTuple, Optional, Sequence, Set, Tuple
 
-from .graphs import potentials_of, strong_parts
-from .nodes import Bounds, Counted, Pair, RowGroup
+from .counted import Bounds, Counted, Pair, RowGroup
 
 Arrows = List[Dict[int, int]]
 
 
 class Exchanges(NamedTuple):
-    """The graph of changes of a plan: what each arrow costs. Rows are the first vertices, and columns come after them;
-    `row_groups` has the vertices of row groups, and `ends` the two vertices of each pair."""
+    """The graph of changes of a plan: what each arrow costs, and the potentials of the vertices. Rows are the first
+    vertices, and columns come after them; then the one where counts begin and end. `ends` has the two vertices of each
+    pair."""
 
     arrows: Arrows
-    first_column: int
-    row_groups: Dict[RowGroup, int]
     ends: Dict[Pair, Tuple[int, int]]
     chosen: Set[Pair]
     potentials: List[int]
 
 
-def exchanges_of(counted: Counted, chosen: Sequence[Pair], is_partial: bool,
-                 settled: Collection[Pair] = ()) -> Exchanges:
-    """The changes of a plan whose cost is the least of all those that agree with it in the settled pairs, which it may
-    have or not."""
+def exchanges_of(counted: Counted, chosen: Sequence[Pair], rows: Sequence[int], columns: Sequence[int]) -> Exchanges:
+    """The changes of a plan, which numbers of rows and columns prove best."""
     n_rows, n_columns = len(counted.row_bounds), len(counted.column_bounds)
-    row_groups = _row_groups(counted, n_rows + n_columns + 3)
-    arrows: Arrows = [{} for _ in range(n_rows + n_columns + 3 + len(row_groups))]
+    row_groups = _row_groups(counted, n_rows + n_columns + 1)
+    arrows: Arrows = [{} for _ in range(n_rows + n_columns + 1 + len(row_groups))]
     own = set(chosen)
-    ends = _add_pairs(arrows, counted, row_groups, own, settled)
+    ends: Dict[Pair, Tuple[int, int]] = {}
+    least = dict.fromkeys(row_groups, 0)
+    for row_group, row, column, cost in zip(counted.row_groups(), counted.rows, counted.columns, counted.costs):
+        begin, end = ends[row, column] = row_groups.get(row_group, row), n_rows + column
+        if (row, column) in own:
+            arrows[end][begin] = -cost
+        else:
+            arrows[begin][end] = cost
+        if begin != row:
+            least[row_group] = min(least[row_group], cost - rows[row] - columns[column])
     taken = {(row, counted.group_of[column]) for row, column in chosen}
     for row_group, vertex in row_groups.items():
         begin, end = (vertex, row_group[0]) if row_group in taken else (row_group[0], vertex)
         arrows[begin][end] = 0
-    _add_ends(arrows, counted, own, is_partial)
-    return Exchanges(arrows, n_rows, row_groups, ends, own, potentials_of(arrows))
+    _add_ends(arrows, counted, own)
+    return Exchanges(arrows, ends, own, [*(-number for number in rows), *columns, 0,
+                                         *(-rows[row] - least[row, group] for row, group in row_groups)])
 
 
-def _add_pairs(arrows: Arrows, counted: Counted, row_groups: Dict[RowGroup, int], chosen: Set[Pair],
-               settled: Collection[Pair]) -> Dict[Pair, Tuple[int, int]]:
-    """Adds an arrow for each pair that isn't settled; the two vertices of each."""
-    ends: Dict[Pair, Tuple[int, int]] = {}
-    for row_group, row, column, cost in zip(counted.row_groups(), counted.rows, counted.columns, counted.costs):
-        if (row, column) in settled:
-            continue
-        begin, end = ends[row, column] = row_groups.get(row_group, row), len(counted.row_bounds) + column
-        if (row, column) in chosen:
-            arrows[end][begin] = -cost
-        else:
-            arrows[begin][end] = cost
-    return ends
-
-
-def _add_ends(arrows: Arrows, counted: Counted, chosen: Set[Pair], is_partial: bool) -> None:
+def _add_ends(arrows: Arrows, counted: Counted, chosen: Set[Pair]) -> None:
     """Adds the arrows of rows and columns that could have one more or one less."""
     n_rows = len(counted.row_bounds)
     free = n_rows + len(counted.column_bounds)
     had, used = Counter(row for row, _ in chosen), Counter(column for _, column in chosen)
     for row, bounds in enumerate(counted.row_bounds):
-        for begin, end in _ends(row, free, free + 1 if is_partial else None, had[row], bounds):
+        for begin, end in _ends(row, free, had[row], bounds):
             arrows[begin][end] = 0
     for column, bounds in enumerate(counted.column_bounds):
-        for end, begin in _ends(n_rows + column, free, free + 2 if is_partial else None, used[column], bounds):
+        for end, begin in _ends(n_rows + column, free, used[column], bounds):
             arrows[begin][end] = 0
 
 
 def _row_groups(counted: Counted, first: int) -> Dict[RowGroup, int]:
     """A vertex for each row group of a group that was given."""
     row_groups: Dict[RowGroup, int] = {}
-    for row_group in counted.row_groups():
+    for row_group in counted.row_groups() if counted.n_groups else ():
         if row_group[1] < counted.n_groups:
             row_groups.setdefault(row_group, first + len(row_groups))
     return row_groups
 
 
-def _ends(vertex: int, free: int, must: Optional[int], count: int, bounds: Bounds) -> List[Tuple[int, int]]:
+def _ends(vertex: int, free: int, count: int, bounds: Bounds) -> List[Tuple[int, int]]:
     """Arrows of a row that takes one more, and of one that takes one less; those of a column lead the other way."""
-    found = []
-    if count < bounds.most:
-        found.append((free, vertex))
-    if count > bounds.least:
-        found.append((vertex, free))
-    if must is not None and count < bounds.least:
-        found.append((must, vertex))
-    if must is not None and min(count, bounds.least) > 0:
-        found.append((vertex, must))
-    return found
+    return [(free, vertex)] * (count < bounds.most) + [(vertex, free)] * (count > bounds.least)
+
+
+def exact_numbers(counted: Counted, chosen: Sequence[Pair], rows: Sequence[int],
+                  columns: Sequence[int]) -> Tuple[List[int], List[int]]:
+    """The numbers of rows and columns that prove a best plan, from others that may not: Bellman (1958) and Ford.
+    RuntimeError where a round of changes costs less than 0."""
+    exchanges = exchanges_of(counted, chosen, rows, columns)
+    arrows, potentials = exchanges.arrows, exchanges.potentials
+    waiting, waits = deque(range(len(arrows))), [True] * len(arrows)
+    # Of the way that a potential is the cost of: how many arrows. More than there are vertices go along a round below
+    # 0.
+    steps = [0] * len(arrows)
+    while waiting:
+        vertex = waiting.popleft()
+        waits[vertex] = False
+        for end, cost in arrows[vertex].items():
+            if potentials[vertex] + cost < potentials[end]:
+                potentials[end] = potentials[vertex] + cost
+                steps[end] = steps[vertex] + 1
+                if steps[end] > len(arrows):
+                    raise RuntimeError("a plan was found to be the best, and a change of it costs less: please report "
+                                       "this problem")
+                if not waits[end]:
+                    waiting.append(end)
+                    waits[end] = True
+    n_rows, free = len(counted.row_bounds), len(counted.row_bounds) + len(counted.column_bounds)
+    return ([potentials[free] - own for own in potentials[:n_rows]],
+            [own - potentials[free] for own in potentials[n_rows:free]])
 
 
 def free_pairs(exchanges: Exchanges) -> List[List[Pair]]:
@@ -116,15 +125,29 @@ class Other(NamedTuple):
     pairs: Set[Pair]
 
 
+class Round(NamedTuple):
+    """The vertices of a round of changes, and what it costs."""
+
+    length: float
+    vertices: List[int]
+
+
+# A vertex, and whether the round began with a pair of its column.
+State = Tuple[int, bool]
+
+
 def next_plan(exchanges: Exchanges) -> Optional[Other]:
-    """The best other plan of those that agree in the settled pairs; None where there is none. Each changes some
-    column's pairs."""
-    best = Round(float("inf"), [])
+    """The best other plan; None where there is none. Each changes some column's pairs."""
+    potentials = exchanges.potentials
+    leads = [sorted((cost + potentials[begin] - potentials[end], end) for end, cost in ends.items())
+             for begin, ends in enumerate(exchanges.arrows)]
     tails: Dict[int, Set[int]] = {}
     for begin, end in exchanges.ends.values():
         tails.setdefault(end, set()).add(begin)
+    best = Round(float("inf"), [])
     for column in sorted(tails):
-        best = _round(exchanges, column, tails[column], best)
+        if best.length:
+            best = _round(leads, range(min(tails), column), column, tails[column], best)
     if not best.vertices:
         return None
     pairs = {ends: pair for pair, ends in exchanges.ends.items()}
@@ -133,42 +156,29 @@ def next_plan(exchanges: Exchanges) -> Optional[Other]:
     return Other(int(best.length), exchanges.chosen ^ changed)
 
 
-class Round(NamedTuple):
-    """The vertices of a round of changes, and what it costs."""
-
-    length: float
-    vertices: List[int]
-
-
-State = Tuple[int, bool]
-
-
-def _round(exchanges: Exchanges, column: int, tails: Set[int], best: Round) -> Round:
-    """The cheapest round through a column that changes one of its pairs, whose other ends are given; `best` where none
-    costs less (Dijkstra 1959). A state is a vertex, and whether the round began with a pair of the column."""
-    arrows, potentials, most = exchanges.arrows, exchanges.potentials, best.length
+def _round(leads: Sequence[Sequence[Tuple[int, int]]], done: range, column: int, tails: Set[int], best: Round) -> Round:
+    """The cheapest round through a column, and none of those that are done, that changes one of its pairs, whose other
+    ends are given; `best` where none costs less (Dijkstra 1959). Arrows lead from each vertex, the cheapest first."""
+    most = best.length
     far: Dict[State, float] = {}
     back: Dict[State, Optional[State]] = {}
-    waiting: List[Tuple[float, int, bool]] = []
     last: Optional[State] = None
-
-    def go(length: float, state: State, before: Optional[State]) -> None:
-        if length < far.get(state, most):
-            far[state], back[state] = length, before
-            heappush(waiting, (length, *state))
-
-    for end, cost in arrows[column].items():
-        go(cost + potentials[column] - potentials[end], (end, end in tails), None)
+    waiting: List[Tuple[float, int, bool]] = [(0, column, False)]
     while waiting and waiting[0][0] < most:
         length, vertex, by_pair = heappop(waiting)
-        if length > far[vertex, by_pair]:
+        if length > far.get((vertex, by_pair), length):
             continue
-        for end, cost in arrows[vertex].items():
-            longer = length + cost + potentials[vertex] - potentials[end]
-            if end != column:
-                go(longer, (end, by_pair), (vertex, by_pair))
-            elif (by_pair or vertex in tails) and longer < most:
-                most, last = longer, (vertex, by_pair)
+        for cost, end in leads[vertex]:
+            longer = length + cost
+            if longer >= most:
+                break
+            state = end, by_pair or vertex == column and end in tails
+            if end == column:
+                if by_pair or vertex in tails:
+                    most, last = longer, (vertex, by_pair)
+            elif end not in done and longer < far.get(state, most):
+                far[state], back[state] = longer, None if vertex == column else (vertex, by_pair)
+                heappush(waiting, (longer, *state))
     return best if last is None else Round(most, [column, *_way(back, last)])
 
 
@@ -180,3 +190,39 @@ def _way(back: Dict[State, Optional[State]], last: State) -> List[int]:
         way.append(state[0])
         state = back[state]
     return way[::-1]
+
+
+def strong_parts(leads: Sequence[Sequence[int]]) -> List[int]:
+    """A number for each vertex of a graph: the same for two exactly where arrows lead from each to the other (Sharir
+    1981)."""
+    back: List[List[int]] = [[] for _ in leads]
+    for begin, ends in enumerate(leads):
+        for end in ends:
+            back[end].append(begin)
+    part = [-1] * len(leads)
+    for first in reversed(_finished(leads)):
+        waiting = [first] if part[first] < 0 else []
+        while waiting:
+            vertex = waiting.pop()
+            if part[vertex] < 0:
+                part[vertex] = first
+                waiting += back[vertex]
+    return part
+
+
+def _finished(leads: Sequence[Sequence[int]]) -> List[int]:
+    """The vertices in the order in which a search into the depth is done with them."""
+    seen, order = [False] * len(leads), []
+    for first in range(len(leads)):
+        way: List[Tuple[int, Any]] = [] if seen[first] else [(first, iter(leads[first]))]
+        seen[first] = True
+        while way:
+            vertex, ends = way[-1]
+            end = next((end for end in ends if not seen[end]), None)
+            if end is None:
+                order.append(vertex)
+                way.pop()
+            else:
+                seen[end] = True
+                way.append((end, iter(leads[end])))
+    return order

@@ -1,15 +1,15 @@
 """Why counts can't be met: who is short, and by how much.
 
 Each side is looked at alone: whether its least counts can be met within the greatest counts of the other side, where a
-row takes at most one column of a group. If each side's can alone, both can at once (Mendelsohn and Dulmage 1958). Pairs
-are added one by one along augmenting paths (Ford and Fulkerson 1956). What the searches that fail have reached is
+row takes at most one column of a group. If each side's can alone, both can at once (Mendelsohn and Dulmage 1958). The
+library finds as many pairs as can be; what changes of them reach from those that lack some (Ford and Fulkerson 1956) is
 short, in connected parts."""
-from array import array
-from bisect import bisect_left
-from collections import deque
-from typing import Any, Dict, Iterator, List, NamedTuple, Optional, Set, Tuple, Type
+from collections import Counter
+from typing import Any, Collection, Dict, List, NamedTuple, Sequence, Set
 
-from .nodes import Bounds, Counted, Pair, RowGroup, Served
+from .counted import Bounds, Counted, Marked, RowGroup, solved
+from .exchanges import exchanges_of
+from .narrowed import Part, narrowed
 
 
 class Lack(NamedTuple):
@@ -26,252 +26,124 @@ class Lack(NamedTuple):
     had: int
 
 
-class _Step(NamedTuple):
-    """A step of a path to a row or a column (by its vertex) or to a row group, with the pair that it gives up and the
-    one that it makes."""
-
-    end: Any
-    leave: Optional[Pair]
-    take: Optional[Pair]
+def lacks_of(counted: Counted) -> List[Lack]:
+    """What is short, in the order of the first rows, and then of the first columns; nothing where there is a plan."""
+    return [lack for of_columns in (False, True) for lack in _of_side(counted, of_columns)]
 
 
-class _Flow:
-    """Pairs that meet least counts of one side, as many as can be. A row is the vertex of its number, and the columns
-    come after the rows. A row group that has a column is a vertex too."""
-
-    def __init__(self, counted: Counted):
-        self.counted, self.first_column = counted, len(counted.row_bounds)
-        self.taken: Dict[RowGroup, int] = {}
-        self.of_rows: List[Set[int]] = [set() for _ in counted.row_bounds]
-        self.of_columns: List[Set[int]] = [set() for _ in counted.column_bounds]
-        # What searches that failed have reached: no later one finds more there.
-        self.closed: Set[Any] = set()
-
-    def row_group(self, row: int, column: int) -> RowGroup:
-        return row, self.counted.group_of[column]
-
-    def is_full(self, vertex: int) -> bool:
-        if vertex < self.first_column:
-            return len(self.of_rows[vertex]) >= self.counted.row_bounds[vertex].most
-        column = vertex - self.first_column
-        return len(self.of_columns[column]) >= self.counted.column_bounds[column].most
-
-    def take(self, row: int, column: int) -> None:
-        self.taken[self.row_group(row, column)] = column
-        self.of_rows[row].add(column)
-        self.of_columns[column].add(row)
-
-    def leave(self, row: int, column: int) -> None:
-        del self.taken[self.row_group(row, column)]
-        self.of_rows[row].remove(column)
-        self.of_columns[column].remove(row)
-
-    def near(self, vertex: Any) -> Iterator[_Step]:
-        """What can be changed from a vertex on."""
-        raise NotImplementedError
-
-    def is_goal(self, vertex: Any) -> bool:
-        """Whether a vertex of the other side can have one more."""
-        raise NotImplementedError
-
-    def begin(self) -> None:
-        """Makes pairs as long as nothing has to change for them, each vertex from where the one before ended."""
-        raise NotImplementedError
-
-    def lacks(self) -> List[Lack]:
-        """What is short, in the order of the first rows or columns."""
-        raise NotImplementedError
-
-    def serve(self, start: int) -> bool:
-        """Gives a vertex one more pair, if that is possible, where others may change theirs."""
-        if start in self.closed:
-            return False
-        reached: Dict[Any, Tuple[Any, _Step]] = {}
-        seen, waiting = {start}, deque([start])
-        while waiting:
-            vertex = waiting.popleft()
-            for step in self.near(vertex):
-                if step.end in seen or step.end in self.closed:
-                    continue
-                seen.add(step.end)
-                reached[step.end] = vertex, step
-                if self.is_goal(step.end):
-                    self._change(reached, step.end, start)
-                    return True
-                waiting.append(step.end)
-        self.closed |= seen
-        return False
-
-    def _change(self, reached: Dict[Any, Tuple[Any, _Step]], vertex: Any, start: int) -> None:
-        while vertex != start:
-            vertex, step = reached[vertex]
-            if step.leave:
-                self.leave(*step.leave)
-            if step.take:
-                self.take(*step.take)
-
-    def fill(self, begin: int, bounds: List[Bounds]) -> int:
-        """Serves each vertex from one on as often as its least count says, as far as that can be: how often, summed
-        up."""
-        self.begin()
-        count = 0
-        for start, bound in enumerate(bounds, begin):
-            served = len(self.of_rows[start] if start < self.first_column
-                         else self.of_columns[start - self.first_column])
-            while served < bound.least and self.serve(start):
-                served += 1
-            count += served
-        return count
+def _of_side(counted: Counted, of_columns: bool) -> List[Lack]:
+    """What is short of the least counts of one side."""
+    needs = [Bounds(0, bound.least) for bound in (counted.column_bounds if of_columns else counted.row_bounds)]
+    if not any(bound.most for bound in needs):
+        return []
+    sides = [[Bounds(0, bound.most) for bound in bounds] for bounds in (counted.row_bounds, counted.column_bounds)]
+    sides[of_columns] = needs
+    own = counted._replace(row_bounds=sides[0], column_bounds=sides[1], costs=[-1] * len(counted.rows))
+    found = solved(own, True)
+    if isinstance(found, Marked):
+        raise RuntimeError("no pairs were found to be possible: please report this problem")
+    chosen = own.pairs_of(found.plan)
+    arrows: Sequence[Collection[int]] = exchanges_of(own, chosen, found.row_numbers, found.column_numbers).arrows
+    had, n_rows, n_columns = Counter(pair[of_columns] for pair in chosen), len(sides[0]), len(sides[1])
+    starts = [number + n_rows * of_columns for number, bound in enumerate(needs) if had[number] < bound.most]
+    reached = _reached(_turned(arrows) if of_columns else arrows, starts, n_rows + n_columns)
+    return _parted(counted, of_columns, {vertex for vertex in reached if vertex < n_rows},
+                   {vertex - n_rows for vertex in reached if n_rows <= vertex < n_rows + n_columns})
 
 
-class _RowsFlow(_Flow):
-    """Rows need columns: a row takes one of a row group that has none. Where a column is full, a row group that has it
-    takes another of its group, or its row takes one of another group."""
-
-    def __init__(self, counted: Counted):
-        super().__init__(counted)
-        self.lists = [array("I") for _ in counted.row_bounds]
-        for row, column in zip(counted.rows, counted.columns):
-            self.lists[row].append(column)
-
-    def near(self, vertex: Any) -> Iterator[_Step]:
-        if isinstance(vertex, tuple):
-            row, group = vertex
-            held = self.taken[row, group]
-            yield _Step(row, (row, held), None)
-            if group < self.counted.n_groups:
-                yield from (_Step(self.first_column + column, (row, held), (row, column)) for column in self.lists[row]
-                            if column != held and self.counted.group_of[column] == group)
-        elif vertex < self.first_column:
-            for column in self.lists[vertex]:
-                if self.row_group(vertex, column) not in self.taken:
-                    yield _Step(self.first_column + column, None, (vertex, column))
-        else:
-            column = vertex - self.first_column
-            yield from (_Step(self.row_group(row, column), None, None) for row in self.of_columns[column])
-
-    def is_goal(self, vertex: Any) -> bool:
-        return not isinstance(vertex, tuple) and vertex >= self.first_column and not self.is_full(vertex)
-
-    def begin(self) -> None:
-        last = 0
-        for row, bound in enumerate(self.counted.row_bounds):
-            own = self.lists[row]
-            place = bisect_left(own, last)
-            for column in own[place:] + own[:place]:
-                if len(self.of_rows[row]) >= bound.least:
-                    break
-                if self.row_group(row, column) not in self.taken and not self.is_full(self.first_column + column):
-                    self.take(row, column)
-                    last = column
-
-    def lacks(self) -> List[Lack]:
-        rows = sorted(vertex for vertex in self.closed if not isinstance(vertex, tuple) and vertex < self.first_column)
-        once = {row: [row_group for row_group in (self.row_group(row, column) for column in sorted(self.of_rows[row]))
-                      if self.first_column + self.taken[row_group] not in self.closed] for row in rows}
-        links = {row: [self.first_column + column for column in self.lists[row]
-                       if self.row_group(row, column) not in once[row]] for row in rows}
-        return [self._lack(part, once) for part in _parts(rows, links)]
-
-    def _lack(self, part: Set[Any], once: Dict[int, List[RowGroup]]) -> Lack:
-        rows = sorted(vertex for vertex in part if vertex < self.first_column)
-        columns = sorted(vertex - self.first_column for vertex in part if vertex >= self.first_column)
-        row_groups = [row_group for row in rows for row_group in once[row]]
-        wanted = sum(self.counted.row_bounds[row].least for row in rows)
-        had = sum(self.counted.column_bounds[column].most for column in columns) + len(row_groups)
-        return Lack(False, rows, columns, row_groups, wanted, had)
+def _turned(arrows: Sequence[Collection[int]]) -> List[List[int]]:
+    """The arrows the other way round."""
+    turned: List[List[int]] = [[] for _ in arrows]
+    for begin, ends in enumerate(arrows):
+        for end in ends:
+            turned[end].append(begin)
+    return turned
 
 
-class _ColumnsFlow(_Flow):
-    """Columns need rows: a column takes a row that has none of its group, or whose column of the group takes another
-    row instead. Where a row is full, any column that has it may take another."""
-
-    def __init__(self, counted: Counted):
-        super().__init__(counted)
-        self.listed = [array("I") for _ in counted.column_bounds]
-        for row, column in zip(counted.rows, counted.columns):
-            self.listed[column].append(row)
-
-    def near(self, vertex: Any) -> Iterator[_Step]:
-        if vertex < self.first_column:
-            yield from (_Step(self.first_column + column, (vertex, column), None) for column in self.of_rows[vertex])
-            return
-        column = vertex - self.first_column
-        for row in self.listed[column]:
-            held = self.taken.get(self.row_group(row, column))
-            if held is None:
-                yield _Step(row, None, (row, column))
-            elif held != column:
-                yield _Step(self.first_column + held, (row, held), (row, column))
-
-    def is_goal(self, vertex: Any) -> bool:
-        return bool(vertex < self.first_column) and not self.is_full(vertex)
-
-    def begin(self) -> None:
-        last = 0
-        for column, bound in enumerate(self.counted.column_bounds):
-            own = self.listed[column]
-            place = bisect_left(own, last)
-            for row in own[place:] + own[:place]:
-                if len(self.of_columns[column]) >= bound.least:
-                    break
-                if self.row_group(row, column) not in self.taken and not self.is_full(row):
-                    self.take(row, column)
-                    last = row
-
-    def lacks(self) -> List[Lack]:
-        columns = sorted(vertex for vertex in self.closed if vertex >= self.first_column)
-        links: Dict[Any, List[Any]] = {}
-        for vertex in columns:
-            column = vertex - self.first_column
-            links[vertex] = [row if row in self.closed else self.row_group(row, column) for row in self.listed[column]]
-        return [self._lack(part) for part in _parts(columns, links)]
-
-    def _lack(self, part: Set[Any]) -> Lack:
-        row_groups = sorted((vertex[0], vertex[1]) for vertex in part if isinstance(vertex, tuple))
-        plain = sorted(vertex for vertex in part if not isinstance(vertex, tuple))
-        rows = [vertex for vertex in plain if vertex < self.first_column]
-        columns = [vertex - self.first_column for vertex in plain if vertex >= self.first_column]
-        wanted = sum(self.counted.column_bounds[column].least for column in columns)
-        had = sum(self.counted.row_bounds[row].most for row in rows) + len(row_groups)
-        return Lack(True, rows, columns, row_groups, wanted, had)
-
-
-def _parts(starts: List[Any], links: Dict[Any, List[Any]]) -> List[Set[Any]]:
-    """The connected parts of some vertices with those that they are linked to, in the order of the first ones."""
-    back: Dict[Any, List[Any]] = {}
-    for start in starts:
-        for end in links[start]:
-            back.setdefault(end, []).append(start)
-    seen: Set[Any] = set()
-    return [_part(start, seen, links, back) for start in starts if start not in seen]
-
-
-def _part(start: Any, seen: Set[Any], links: Dict[Any, List[Any]], back: Dict[Any, List[Any]]) -> Set[Any]:
-    part, waiting = {start}, [start]
+def _reached(arrows: Sequence[Collection[int]], starts: List[int], barred: int) -> Set[int]:
+    """The vertices to which arrows lead from some, but not through one."""
+    reached, waiting = {barred, *starts}, list(starts)
     while waiting:
-        vertex = waiting.pop()
-        fresh = [end for end in links.get(vertex, back.get(vertex, [])) if end not in part]
-        part.update(fresh)
+        fresh = set(arrows[waiting.pop()]) - reached
+        reached |= fresh
         waiting += fresh
-    seen |= part
-    return part
+    return reached
 
 
-def lacks_of(counted: Counted) -> Tuple[List[Lack], Served]:
-    """What is short, and how much of the least counts can be met. Nothing is short where there is a plan."""
-    of_rows, some = _side_of(_RowsFlow, counted, 0, counted.row_bounds)
-    of_columns, more = _side_of(_ColumnsFlow, counted, len(counted.row_bounds), counted.column_bounds)
-    return some + more, Served(of_rows, of_columns)
+def _parted(counted: Counted, of_columns: bool, rows: Set[int], columns: Set[int]) -> List[Lack]:
+    """The shortages of rows and columns that were reached, in connected parts: each name with what limits it, which is
+    names of the other side and row groups."""
+    outside = {row_group for row_group, column in zip(counted.row_groups(), counted.columns)
+               if row_group[0] in rows and column not in columns}
+    limits: Dict[int, Set[Any]] = {name: set() for name in sorted(columns if of_columns else rows)}
+    for row_group, row, column in zip(counted.row_groups(), counted.rows, counted.columns):
+        if of_columns and column in columns:
+            limits[column].add(row if row in rows else row_group)
+        elif not of_columns and row in rows:
+            limits[row].add(row_group if row_group in outside else column)
+    return [_lack(counted, of_columns, sorted(names), set().union(*map(limits.__getitem__, names)))
+            for names in _parts(limits)]
 
 
-def _side_of(kind: Type[_Flow], counted: Counted, begin: int, bounds: List[Bounds]) -> Tuple[int, List[Lack]]:
-    """How much of the least counts of one side can be met, and what is short there."""
-    if not any(bound.least for bound in bounds):
-        return 0, []
-    flow = kind(counted)
-    served = flow.fill(begin, bounds)
-    lacks = flow.lacks()
-    if served + sum(lack.wanted - lack.had for lack in lacks) != sum(bound.least for bound in bounds):
-        raise RuntimeError("groups were found to be short, and by another sum than what is missed")
-    return served, lacks
+def _lack(counted: Counted, of_columns: bool, names: List[int], limits: Set[Any]) -> Lack:
+    once: List[RowGroup] = sorted((limit[0], limit[1]) for limit in limits if isinstance(limit, tuple))
+    others = sorted(limit for limit in limits if not isinstance(limit, tuple))
+    needs, most = counted.row_bounds, counted.column_bounds
+    if of_columns:
+        needs, most = most, needs
+    wanted, had = sum(needs[name].least for name in names), sum(most[other].most for other in others) + len(once)
+    return Lack(of_columns, *((others, names) if of_columns else (names, others)), once, wanted, had)
+
+
+def _parts(links: Dict[int, Set[Any]]) -> List[Set[int]]:
+    """The connected parts of names, by what they are linked to, in the order of the first ones."""
+    back: Dict[Any, List[int]] = {}
+    for name, ends in links.items():
+        for end in ends:
+            back.setdefault(end, []).append(name)
+    parts: List[Set[int]] = []
+    seen: Set[int] = set()
+    for first in links:
+        part, waiting = {first}, [] if first in seen else [first]
+        while waiting:
+            fresh = {name for end in links[waiting.pop()] for name in back.pop(end, ())} - part
+            part |= fresh
+            waiting += fresh
+        parts += [] if first in seen else [part]
+        seen |= part
+    return parts
+
+
+class Cut(NamedTuple):
+    """The problem whose plans are those that miss as little as can be, and what the shortages say as numbers of rows
+    and columns."""
+
+    part: Part
+    rows: List[int]
+    columns: List[int]
+
+
+def cut_of(counted: Counted, lacks: Sequence[Lack]) -> Cut:
+    """The plans that miss as little of the least counts as can be, summed up over both sides.
+
+    Let S and T be the rows and columns of shortages of rows. In what plans pair of S, no more is counted than what T
+    take at most, and one for each row group of S with a column outside T; and a plan misses least exactly if all of
+    that is counted. Then T take all that they can, from S alone; each of these row groups takes one column outside T;
+    no row of S takes more than its least count, and no other row less. Shortages of columns say the same with rows and
+    columns exchanged. So with r = 1 for S and v = -1 for T, and -r and -v for the others, pairs with e = -r - v are
+    open exactly if their e is min(0, the least e of their row group)."""
+    short = [[set().union(*(own for lack in lacks if lack.of_columns == side for own in (
+        lack.columns if of_columns else lack.rows,))) for side in (False, True)] for of_columns in (False, True)]
+    (rows, full_rows), (full_columns, columns) = short
+    numbers = [[(number in ones) - (number in minus) for number in range(len(bounds))] for bounds, ones, minus in (
+        (counted.row_bounds, rows, full_rows), (counted.column_bounds, columns, full_columns))]
+    spare = [-numbers[0][row] - numbers[1][column] for row, column in zip(counted.rows, counted.columns)]
+    part = narrowed(counted, spare, 0, _cut(counted.row_bounds, rows, full_rows),
+                    _cut(counted.column_bounds, columns, full_columns))
+    return Cut(part, *numbers)
+
+
+def _cut(bounds: Sequence[Bounds], short: Set[int], full: Set[int]) -> List[Bounds]:
+    """The bounds of a side of which some names are short and some must take all that they can."""
+    return [Bounds(bound.most if number in full else 0 if number in short else bound.least,
+                   bound.least if number in short else bound.most) for number, bound in enumerate(bounds)]

@@ -1,46 +1,144 @@
-"""Best plans by counts, each checked on rows that say the counts and groups, and what is short."""
-from collections import Counter
-from typing import Collection, Dict, List, NamedTuple, Optional
+"""Best plans by counts, each with numbers that prove it, and what is short."""
+from heapq import heappop, heappush
+from typing import Any, Collection, Dict, FrozenSet, Iterator, List, NamedTuple, Optional, Sequence, Set, Tuple
 
-from .count_rows import check_best, check_lacks
-from .exchanges import Exchanges, exchanges_of
-from .lack import Lack, lacks_of
-from .nodes import Bounds, Counted, Pair, best_pairs, trimmed
+from ..rows.certificate_check import shows
+from .count_rows import Shown, certificate_of_best, check_lacks
+from .exchanges import Exchanges, Other, exchanges_of, free_pairs, next_plan
+from .lack import Cut, Lack, cut_of, lacks_of
+from .count_levels import Given, Levelled, best_of
+from .narrowed import Part, fixed, narrowed, reduced_costs, settled, whole
+from .counted import Bounds, Counted, Marked, Pair, show_progress
+
+
+class Plans(NamedTuple):
+    """The plans that are compared, those of a part of a problem: of the whole one, or, by the shortages' `cut`, of
+    those that miss as little as can be; and a best one of them with its numbers."""
+
+    problem: Counted
+    part: Part
+    best: Levelled
+    cut: Optional[Cut] = None
+
+    def pairs(self) -> List[Pair]:
+        """The pairs of the best plan."""
+        return self.part.pairs(self.problem, self.part.counted.pairs_of(self.best.plan))
+
+    def exchanges(self) -> Exchanges:
+        """How the plans that are as good as the best one, and others, differ from it."""
+        counted = self.part.counted
+        return exchanges_of(counted, counted.pairs_of(self.best.plan), self.best.row_numbers, self.best.column_numbers)
+
+    def free_pairs(self) -> List[List[Pair]]:
+        """The pairs that are in some best plan and not in all, in groups that depend on each other."""
+        return [sorted(self.part.named(those)) for those in free_pairs(self.exchanges())]
+
+    def after(self) -> Iterator[Other]:
+        """The plans after the best one, each with what it costs more."""
+        for other in _plans_after(self.part.counted, self.best):
+            yield Other(other.more, set(self.part.pairs(self.problem, other.pairs)))
+
+    def shown(self) -> Shown:
+        """The best plan with its numbers, as a certificate shows it."""
+        best = self.best
+        return Shown(self.pairs(), *self.part.numbers(best.row_numbers, best.column_numbers, self.problem), self.cut)
 
 
 class Planned(NamedTuple):
-    """What is short, and the pairs of a best plan with its changes: None where something is short and the plan may not
-    be partial."""
+    """What is short, and the plans with a best one: None where something is short and the plan may not be partial."""
 
     lacks: List[Lack]
-    pairs: Optional[List[Pair]]
-    exchanges: Optional[Exchanges]
+    plans: Optional[Plans]
 
 
-def planned(counted: Counted, partial: bool, kept: Optional[Collection[Pair]] = None) -> Planned:
-    """The shortages and a best plan, each checked on rows that say the counts and groups."""
-    trimmed(counted)
-    lacks, served = lacks_of(counted)
+def planned(counted: Counted, partial: bool, given: Optional[Given] = None) -> Planned:
+    """The shortages and a best plan, for the problem's own costs or for given ones."""
+    found = best_of(counted, given)
+    if not isinstance(found, Marked):
+        return Planned([], Plans(counted, whole(counted), found))
+    counted = counted.listed()
+    lacks = lacks_of(counted)
     check_lacks(counted, lacks)
-    if lacks and not partial:
-        return Planned(lacks, None, None)
-    pairs = best_pairs(counted, served if lacks else None, kept)
-    _judge(counted, pairs)
-    exchanges = exchanges_of(counted, pairs, bool(lacks))
-    check_best(counted, lacks, exchanges)
-    return Planned(lacks, pairs, exchanges)
+    if not lacks:
+        raise RuntimeError("counts were found to be short, and then nothing was: please report this problem")
+    if not partial:
+        return Planned(lacks, None)
+    cut = cut_of(counted, lacks)
+    part, own = cut.part, given and given.at(cut.part.places)
+    if given is None:
+        part = part._replace(counted=part.counted._replace(costs=[counted.costs[place] for place in part.places]))
+    found = best_of(part.counted, own, True)
+    if isinstance(found, Marked):
+        raise RuntimeError("a plan was found to miss as little as can be, and there is none: please report this "
+                           "problem")
+    plans = Plans(counted, part, found, cut)
+    show_progress(counted, part.plan(found.plan, len(counted.rows)))
+    if given is None and not shows(certificate_of_best(counted, lacks, plans.shown())):
+        raise RuntimeError("a plan was found to be the best by its counts, and the check of these doesn't show it: "
+                           "please report this problem")
+    return Planned(lacks, plans)
 
 
-def _judge(counted: Counted, pairs: List[Pair]) -> None:
-    """Whether pairs pass no greatest count, and keep groups."""
-    of_rows, of_columns = Counter(row for row, _ in pairs), Counter(column for _, column in pairs)
-    row_groups = {(row, counted.group_of[column]) for row, column in pairs}
-    if (len(row_groups) < len(pairs) or any(count > counted.row_bounds[row].most for row, count in of_rows.items())
-            or any(count > counted.column_bounds[column].most for column, count in of_columns.items())):
-        raise RuntimeError("a plan was found that passes a greatest count or takes two of a group")
+def with_fewest_changes(plans: Plans, kept: Collection[Pair]) -> Plans:
+    """The same with a best plan of the fewest changes: pairs that aren't kept, and kept ones that it doesn't have."""
+    counted, best = plans.part.counted.listed(), plans.best
+    face = narrowed(counted, reduced_costs(counted, counted.costs, best.row_numbers, best.column_numbers), 0,
+                    fixed(counted.row_bounds, best.row_numbers, 0), fixed(counted.column_bounds, best.column_numbers, 0))
+    named = plans.part.named((counted.rows[place], counted.columns[place]) for place in face.places)
+    found = best_of(face.counted._replace(costs=[-1 if pair in kept else 1 for pair in named]), None, True)
+    if isinstance(found, Marked):
+        raise RuntimeError("a best plan was found, and then there was none: please report this problem")
+    plan = face.plan(found.plan, len(counted.rows))
+    if _sum(counted, plan) != _sum(counted, best.plan):
+        raise RuntimeError("a plan was found to be as good as the best, and isn't: please report this problem")
+    return plans._replace(best=best._replace(plan=plan))
 
 
-def missing(bounds: List[Bounds], had: Dict[int, int]) -> Dict[int, int]:
+def _sum(counted: Counted, plan: Any) -> int:
+    return sum(cost for cost, is_chosen in zip(counted.costs, plan) if is_chosen)
+
+
+def missing(bounds: Sequence[Bounds], had: Dict[int, int]) -> Dict[int, int]:
     """By how many the least counts are missed."""
     return {number: bound.least - had.get(number, 0) for number, bound in enumerate(bounds)
             if had.get(number, 0) < bound.least}
+
+
+# The plans in the order of their costs.
+
+_Waiting = List[Tuple[int, int, Other, int, Set[Pair], FrozenSet[Pair]]]
+
+
+def _plans_after(counted: Counted, best: Levelled) -> Iterator[Other]:
+    """The plans after a best one, each with what it costs more than that one.
+
+    Hamacher and Queyranne (1985): all plans are split into parts, each with its best plan and its second best one. The
+    next plan is the best of the second ones. A pair that only one of its part's two plans has splits the part: those
+    that have it, and those that haven't."""
+    waiting: _Waiting = []
+    number = 0
+
+    def wait(more: int, pairs: Set[Pair], those: FrozenSet[Pair]) -> None:
+        nonlocal number
+        second = _second(counted, best, pairs, those)
+        if second is not None:
+            number += 1
+            heappush(waiting, (more + second.more, number, second, more, pairs, those))
+
+    wait(0, set(counted.pairs_of(best.plan)), frozenset())
+    while waiting:
+        cost, _, second, more, pairs, those = heappop(waiting)
+        yield Other(cost, second.pairs)
+        those |= {min(pairs ^ second.pairs)}
+        wait(more, pairs, those)
+        wait(cost, second.pairs, those)
+
+
+def _second(counted: Counted, best: Levelled, pairs: Set[Pair], those: FrozenSet[Pair]) -> Optional[Other]:
+    """The best other plan of those that agree with a best one of them in some pairs, which it may have or not."""
+    own: Any = best
+    if those:
+        counted = settled(counted, pairs & those, those - pairs)
+        own = best_of(counted, None, True)
+    other = next_plan(exchanges_of(counted, sorted(pairs - those), own.row_numbers, own.column_numbers))
+    return None if other is None else Other(other.more, other.pairs | (pairs & those))

@@ -6,19 +6,21 @@ The extension has the limited API of CPython 3.9, with a lock and without traces
 process of several that has a lock of its own refuses it, and goes the longer way."""
 import importlib.machinery
 import importlib.util
+import math
 import sys
+import time
 from array import array
-from typing import Any, Optional
+from typing import Any, Optional, Tuple
 
 from ..costs import kinds, printing, reading
-from ..costs.naming import is_frame
+from ..costs.naming import is_frame, labels_of
 from ..costs.problem import AssignmentProblem
 from . import library, proved
 
 NAME = "nushbaret._extension"
 FILE = "_extension.abi3.so"
 # What the extension calls.
-EXPORTS = "nushbaret_doubles", "nushbaret_check_doubles", "nushbaret_dense_from"
+EXPORTS = "nushbaret_doubles", "nushbaret_check_doubles", "nushbaret_dense_from", "nushbaret_sparse_from"
 
 
 def extension() -> Any:
@@ -72,11 +74,18 @@ def over(longer: Any) -> Any:
     if held is None:
         return longer
     signature = (f"{longer.__name__}(cost_matrix, maximize=False, *, missing='refuse', timeout=None, "
-                 "progress=None)\n--\n\n")
+                 "progress=None, unmatched_cost=None)\n--\n\n")
     return held.function(longer, signature + (longer.__doc__ or ""), "nushbaret")
 
 
-def found(costs: Any, maximize: bool) -> Optional[proved.ResultParts]:
+def end_of(timeout: Optional[float]) -> Optional[float]:
+    """When a call has to end, by the clock; None where the longer way is to judge its timeout."""
+    if timeout is None:
+        return math.inf
+    return time.monotonic() + timeout if type(timeout) in (int, float) and 0 < timeout < 10**9 else None
+
+
+def found(costs: Any, maximize: bool, end: float = math.inf) -> Optional[proved.ResultParts]:
     """What a result is made of, for a small array, a frame or a list of rows, where floats are the decimals that they
     print as; None where the longer way is to be taken."""
     held = extension()
@@ -84,14 +93,19 @@ def found(costs: Any, maximize: bool) -> Optional[proved.ResultParts]:
         return None
     is_list = type(costs) is list
     matrix = costs if is_list else _matrix(costs)
-    answer = None if matrix is None else held.found(matrix, maximize)
+    answer = None if matrix is None else held.found(matrix, maximize, end)
     if answer is None:
         return None
-    (rows, columns), (own, objects, prices, total, decimals) = answer
+    own, _, _, _, decimals = answer[1]
     if is_list and decimals < 0 and not _is_long(own[0]):
         return None
     n_rows, n_columns = (len(costs), len(costs[0])) if is_list else costs.shape
-    labels = (list(costs.index), list(costs.columns)) if not is_list and is_frame(costs) else None
+    labels = None if is_list else labels_of(costs)
+    return _parts(n_rows, n_columns, maximize, answer, labels)
+
+
+def _parts(n_rows: int, n_columns: int, maximize: bool, answer: Any, labels: Any = None) -> proved.ResultParts:
+    (rows, columns), (own, objects, prices, total, decimals) = answer
     kind = kinds.shape(None if decimals < 0 else decimals)
     shape = AssignmentProblem(n_rows, n_columns, maximize, kind, labels=labels)
     n, m = sorted((n_rows, n_columns))
@@ -117,3 +131,37 @@ def _matrix(costs: Any) -> Any:
         costs = costs.data
     # Floats of 16 bits as what they print as.
     return printing.of_shape(numpy, costs) if costs.dtype.char == "e" else costs
+
+
+def found_listed(given: Tuple[Any, Any, Any, Any, Any], maximize: bool,
+                 end: float = math.inf) -> Optional[proved.ResultParts]:
+    """The same of listed pairs: how many rows and columns there are, arrays of their numbers, and of costs; or of a
+    sparse matrix in the place of the first."""
+    held = extension()
+    if held is None or reading.loaded_numpy() is None:
+        return None
+    listed = (*given, 0) if given[1] is not None else _of_sparse(given[0])
+    if listed is None or type(listed[0]) is not int or type(listed[1]) is not int:
+        return None
+    answer = held.listed(*listed, maximize, end)
+    return None if answer is None else _parts(listed[0], listed[1], maximize, answer)
+
+
+def _of_sparse(matrix: Any) -> Optional[Tuple[Any, ...]]:
+    """The shape of a sparse matrix, its rows and columns or where these begin, its entries, and which of these it
+    is."""
+    kind = getattr(matrix, "format", None)
+    if len(getattr(matrix, "shape", ())) != 2:
+        return None
+    n_rows, n_columns = map(int, matrix.shape)
+    if hasattr(matrix, "coords") and hasattr(matrix, "fill_value"):
+        # Of pydata's, with 0 where nothing is stored.
+        rows, columns = matrix.coords
+        return (n_rows, n_columns, rows, columns, matrix.data, 0) if matrix.fill_value == 0 else None
+    if kind == "coo" and hasattr(matrix, "row"):
+        return n_rows, n_columns, matrix.row, matrix.col, matrix.data, 0
+    if kind == "csr" and hasattr(matrix, "indptr"):
+        return n_rows, n_columns, matrix.indptr, matrix.indices, matrix.data, 1
+    if kind == "csc" and hasattr(matrix, "indptr"):
+        return n_rows, n_columns, matrix.indices, matrix.indptr, matrix.data, 2
+    return None

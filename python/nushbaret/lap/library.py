@@ -33,6 +33,8 @@ PATHS = (_PACKAGE / NAME, _PACKAGE.parent.parent / "c" / "out" / _FOLDER / NAME)
 class LibraryNotFound(OSError):
     """The shared library is missing, or it is of another version; the text says which command builds it.
 
+    Examples
+    --------
     >>> import nushbaret
     >>> issubclass(nushbaret.LibraryNotFound, OSError)
     True
@@ -102,7 +104,7 @@ _KEPT = 2**25 - 2**16
 _FEW_BYTES = 8 * FEW
 
 
-def _address_and_count(values: Any) -> Tuple[Union[int, bytes], int]:
+def address_and_count(values: Any) -> Tuple[Union[int, bytes], int]:
     """Address, or bytes that stand for it, and count; the address is never null."""
     if isinstance(values, array):
         begin, count = values.buffer_info()
@@ -115,7 +117,7 @@ def _address_and_count(values: Any) -> Tuple[Union[int, bytes], int]:
     return (begin, count) if count else (_SPARE.buffer_info()[0], 0)
 
 
-def _loaded() -> Dict[str, Any]:
+def loaded() -> Dict[str, Any]:
     """The calls by their names."""
     if not _calls:
         with _loading:
@@ -126,7 +128,7 @@ def _loaded() -> Dict[str, Any]:
 
 def address(export: str) -> int:
     """The address of an export."""
-    return ctypes.cast(getattr(_loaded()["library"], export), ctypes.c_void_p).value or 0
+    return ctypes.cast(getattr(loaded()["library"], export), ctypes.c_void_p).value or 0
 
 
 def call(name: str, sense: Optional[bool], n: int, m: int, *lists: Any, piece: Sequence[int] = ()) -> Tuple[str, Info]:
@@ -135,8 +137,8 @@ def call(name: str, sense: Optional[bool], n: int, m: int, *lists: Any, piece: S
     info = Info()
     words: List[Any] = [n, m] if sense is None else [1 if sense else 0, n, m]
     for values in lists:
-        words += _address_and_count(values)
-    code = CODES[_loaded()[name](*words, *piece, ctypes.addressof(info))]
+        words += address_and_count(values)
+    code = CODES[loaded()[name](*words, *piece, ctypes.addressof(info))]
     if code == "MEMORY":
         raise MemoryError("the library was refused memory")
     return code, info
@@ -151,10 +153,10 @@ def searched(sense: bool, n: int, m: int, lists: Sequence[Any], first: Optional[
     A search that may take long is done in pieces, so that Ctrl-C ends it, and TimeoutError is raised where the time of
     `limited` is over. After each piece its `progress` is called with how many persons are served."""
     name, pairs = "dense" if len(lists) == 1 else "sparse", len(lists[-1])
-    progress: Optional[Callable[[int, int], Any]] = getattr(_limits, "progress", None)
+    progress = progress_asked()
     if first is None and _end() is None and progress is None and n * pairs < LONG:
         return call(name, sense, n, m, *lists, *written)
-    record, code, info, pace = Record(), "STOPPED", Info(), _Pace(PIECES[name], pairs)
+    record, code, info, pace = Record(), "STOPPED", Info(), Pace(PIECES[name], pairs)
     while code == "STOPPED":
         look_at_time()
         start = _SPARE[:0] if first is None else first
@@ -165,6 +167,12 @@ def searched(sense: bool, n: int, m: int, lists: Sequence[Any], first: Optional[
     return code, info
 
 
+def progress_asked() -> Optional[Callable[[int, int], Any]]:
+    """What this thread's call is to be called with after each piece of a search."""
+    found: Optional[Callable[[int, int], Any]] = getattr(_limits, "progress", None)
+    return found
+
+
 class PieceSize(NamedTuple):
     """How many looks at pairs a piece of a search has at least: so many, and so many for each pair, since each piece
     reads all of them."""
@@ -173,7 +181,7 @@ class PieceSize(NamedTuple):
     passes: int
 
 
-class _Pace:
+class Pace:
     """How long the pieces of a search are. Each has up to a quarter of the looks that all before it had, since a search
     may lose by many short ones; but no more than the time that is left."""
 
@@ -196,7 +204,7 @@ _limits = threading.local()
 LONG = 2**27
 # The same of doubles, which mostly take a tenth of a second, for linear_sum_assignment and an Assigner.
 LONGEST = 2**33
-PIECES = {"dense": PieceSize(2 * 10**7, 10), "sparse": PieceSize(5 * 10**6, 4)}
+PIECES = {"dense": PieceSize(2 * 10**7, 10), "sparse": PieceSize(5 * 10**6, 4), "counts": PieceSize(5 * 10**6, 4)}
 _LONGEST_WAIT = 10.0**5
 _TIME_IS_OVER = "the time is over; nothing of the caller's was changed"
 

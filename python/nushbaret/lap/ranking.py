@@ -18,10 +18,10 @@ from ..costs.kinds import WholeNumbers, whole_numbers
 from ..costs.numbers import ONE, Ratio, Unit, in_unit, unit_of
 from ..costs.problem import AssignmentProblem, costs_of_pairs, in_whole_numbers, lists_of
 from . import library
-from .checking import check_problem
 from .duals import duals_of_whole
 from .matching import Group, prove_short
 from .paths import INFINITE, NOBODY, Choice, PathSearch, Paths, Subproblem
+from .plan_check import check_problem
 from .proved import Duals
 from .solving import BestPlan, least_sum
 

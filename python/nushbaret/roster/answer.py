@@ -4,6 +4,7 @@ from itertools import islice
 from typing import List, Mapping, NamedTuple, Optional, Sequence, Set, Tuple
 
 from ..costs.limits import Numbers
+from ..counts.counted import Bounds
 from ..lap.duals import duals_of_whole
 from ..lap.matching import short_groups
 from ..lap.proved import rents
@@ -11,9 +12,9 @@ from ..lap.ranking import plans_in_order
 from ..lap.solving import BestPlan, best_plan
 from .groups import missing_of, order_of
 from .names import NamesShown, joined, numbered
-from .nodes import (Edges, RosterNodes, Swap, changed, face_of, fewest_changes, is_only_one, least_costs,
-    nodes_without, problem_of, swaps_of)
 from .roster import PlanLine, Roster
+from .single_nodes import (Edges, RosterNodes, Swap, changed, face_of, fewest_changes, is_only_one, least_costs,
+    nodes_without, problem_of, swaps_of)
 
 MOST_NAMES_SHOWN = 20
 
@@ -161,20 +162,19 @@ def plan_of(roster: Roster, fixed: Sequence[PlanLine], chosen: Sequence[Tuple[in
     pairs += [Pair(person, object_, costs[person, object_], False) for person, object_ in chosen]
     pairs.sort(key=lambda pair: (pair.person, ranks[pair.object]))
     had, used = Counter(pair.person for pair in pairs), Counter(pair.object for pair in pairs)
-    least_tasks, least_staff = roster.least or ({}, {})
     without = [person for person in range(len(roster.persons))
-               if had[person] < _wanted(roster, roster.tasks_of(person), least_tasks.get(person, 0))]
+               if had[person] < _wanted(roster, roster.of_person(person))]
     unused = [object_ for object_ in range(len(roster.objects)) if object_ not in roster.past
-              and used[object_] < _wanted(roster, roster.capacity_of(object_), least_staff.get(object_, 0))]
+              and used[object_] < _wanted(roster, roster.of_object(object_))]
     return NamedPlan(pairs, sum(pair.cost for pair in pairs), without, unused, rents)
 
 
-def _wanted(roster: Roster, most: int, least: int) -> int:
+def _wanted(roster: Roster, bounds: Bounds) -> int:
     """How many a name has that isn't left out. With bounds one is enough, and what misses its least count is
     missing."""
-    if roster.least is None:
-        return most
-    return min(most, 1) if least == 0 else 0
+    if not roster.has_bounds:
+        return bounds.most
+    return 0 if bounds.least else min(bounds.most, 1)
 
 
 class Out(NamedTuple):
@@ -189,7 +189,7 @@ def left_out(roster: Roster, plan: NamedPlan) -> List[Out]:
     """Who gets less than it should, and what isn't full, as far as there are any; with bounds what misses its
     least count, and who and what is in no pair."""
     had, used = Counter(pair.person for pair in plan.pairs), Counter(pair.object for pair in plan.pairs)
-    by_bounds = roster.least is not None
+    by_bounds = roster.has_bounds
     without = [_part_of(roster.persons[number], had[number], 1 if by_bounds else roster.tasks_of(number))
                for number in plan.without]
     unused = [_part_of(roster.objects[number], used[number], 1 if by_bounds else roster.capacity_of(number))

@@ -3,37 +3,30 @@ from collections import Counter
 from itertools import islice
 from typing import List, Sequence, Tuple
 
-from ..costs.problem import TooLarge
-from ..counts.exchanges import free_pairs
 from ..counts.lack import Lack
-from ..counts.nodes import Bounds, Counted, TooManyNodes
-from ..counts.planned import planned
-from ..counts.ranked import plans_after
-from .answer import Answer, Request, ShortGroup, plan_of, plural, with_following
-from .nodes import Swap
+from ..counts.planned import planned, with_fewest_changes
+from ..counts.counted import Bounds, Counted
+from .answer import Answer, Request, ShortGroup, plan_of, with_following
 from .roster import PlanLine, Roster
 from .sentences import sentence_of
+from .single_nodes import Swap
 
 
 def answer_by_counts(roster: Roster, request: Request) -> Answer:
     """The answer to a roster with counts or groups; TooLarge where it is so for the library."""
     counted = counted_of(roster, request)
-    try:
-        lacks, pairs, exchanges = planned(counted, request.fullest, request.kept if request.change is None else None)
-    except TooManyNodes as fault:
-        persons, objects = map(plural, roster.titles[:2])
-        raise TooLarge(fault.said(f"{objects} that {persons} may take", f"places at {objects}")) from fault
+    lacks, plans = planned(counted, request.fullest)
     groups = [_short(roster, counted, lack, _around(roster, request.fixed)) for lack in lacks]
-    if pairs is None or exchanges is None:
+    if plans is None:
         return Answer(None, groups)
-    plan = plan_of(roster, request.fixed, pairs)
     if request.kept is not None and request.change is not None:
-        return Answer(plan, groups)
-    swaps = [Swap(those) for those in free_pairs(exchanges)]
-    plan = plan._replace(swaps=swaps, is_only_one=not swaps)
+        return Answer(plan_of(roster, request.fixed, plans.pairs()), groups)
+    if request.kept is not None:
+        plans = with_fewest_changes(plans, request.kept)
+    swaps = [Swap(those) for those in plans.free_pairs()]
+    plan = plan_of(roster, request.fixed, plans.pairs())._replace(swaps=swaps, is_only_one=not swaps)
     count = max(request.plans - 1, int(request.others and not swaps))
-    following = [plan_of(roster, request.fixed, sorted(other.pairs))
-                 for other in islice(plans_after(counted, pairs, bool(lacks)), count)]
+    following = [plan_of(roster, request.fixed, sorted(other.pairs)) for other in islice(plans.after(), count)]
     return Answer(with_following(plan, following, request.others and not swaps), groups)
 
 
@@ -46,7 +39,7 @@ def counted_of(roster: Roster, request: Request) -> Counted:
     rows: List[int] = []
     columns: List[int] = []
     costs: List[int] = []
-    for person, object_, cost in zip(roster.of_persons, roster.of_objects, roster.costs):
+    for person, object_, cost in sorted(zip(roster.of_persons, roster.of_objects, roster.costs)):
         if object_ not in roster.past and (not taken or (person, group_of[object_]) not in taken):
             rows.append(person)
             columns.append(object_)
@@ -70,17 +63,18 @@ def bounds_around(roster: Roster, fixed: Sequence[PlanLine]) -> Tuple[List[Bound
     """How many each person and each object takes in addition to fixed pairs, in the past none. With single numbers the
     smaller side takes all."""
     had, used = Counter(pair.person for pair in fixed), Counter(pair.object for pair in fixed)
-    tasks = [roster.tasks_of(person) - had[person] for person in range(len(roster.persons))]
-    capacities = [0 if object_ in roster.past else roster.capacity_of(object_) - used[object_]
-              for object_ in range(len(roster.objects))]
-    if roster.least is None:
-        all_served = sum(tasks) <= sum(capacities)
-        return ([Bounds(most if all_served else 0, most) for most in tasks],
-                [Bounds(0 if all_served else most, most) for most in capacities])
-    of_persons, of_objects = roster.least
-    return ([Bounds(max(0, of_persons.get(person, 0) - had[person]), most) for person, most in enumerate(tasks)],
-            [Bounds(max(0, of_objects.get(object_, 0) - used[object_]), most)
-             for object_, most in enumerate(capacities)])
+    persons = [_less(roster.of_person(person), had[person]) for person in range(len(roster.persons))]
+    objects = [Bounds(0, 0) if object_ in roster.past else _less(roster.of_object(object_), used[object_])
+               for object_ in range(len(roster.objects))]
+    if roster.has_bounds:
+        return persons, objects
+    served = persons if sum(own.most for own in persons) <= sum(own.most for own in objects) else objects
+    served[:] = [Bounds(own.most, own.most) for own in served]
+    return persons, objects
+
+
+def _less(bounds: Bounds, count: int) -> Bounds:
+    return Bounds(max(0, bounds.least - count), bounds.most - count)
 
 
 def _around(roster: Roster, fixed: Sequence[PlanLine]) -> str:

@@ -1,8 +1,8 @@
 """The check of a certificate's file, alone: without SciPy, and without the roster."""
 from typing import Tuple
 
+from ..rows.certificate_check import lists_show
 from ..rows.certificates import CertificateFault, Lists, read_lists
-from ..rows.check import lists_show
 from .names import shown_path
 
 SHOWN, NOT_SHOWN, REFUSED = 0, 1, 3

@@ -16,18 +16,19 @@ from ..costs.reading import MOST_UNIT_DECIMALS
 from .answer import Answer, Fair, Request, answer_of
 from .files import (STANDARD_OUTPUT, Output, OutputFault, is_device, make_folder, print_content, refuse_existing,
     write_files)
+from .forms import read_roster
 from .groups import read_counts, read_groups, refuse_two_of_a_group, with_rules
 from .names import quoted, shown_path, without_marks
 from .output.texts import (Hand, Report, as_csv, first_lines, forgotten_line, gone_line, in_encoding_of, printed,
     read_lines)
-from .roster import OldPlan, PlanLine, Roster, read_hand_plan, read_old_plan, read_plan, read_roster
+from .roster import OldPlan, PlanLine, Roster, read_hand_plan, read_old_plan, read_plan
 from .sheets import Reading, RosterFault, heading_of
 from .words import Options, WordsFault, read_words
 
 if TYPE_CHECKING:
-    from .by_rules import Proved
+    from .rules.stages import Proved
     from .past import Past
-    from .ruling import Ruling
+    from .rules.ruling import Ruling
 
 PLANNED, NONE, WORDS, REFUSED, DEVICE = range(5)
 UNDECIDED = 6
@@ -150,34 +151,34 @@ def _report(options: Options, roster: Roster) -> Report:
     proved: Optional["Proved"] = None
     try:
         if ruling is not None:
-            from .ruling import answered_by
-            answer, proved = answered_by(ruling, roster, request, options)
+            from .rules.ruling import answered_by
+            answer, proved = answered_by(ruling, roster, request, options, hand.plan if hand else None)
         else:
             answer, fair = _answered(roster, request, options.fair)
     except TooLarge as fault:
         raise RosterFault(options.roster, str(fault)) from fault
     if hand is not None and answer.plan is not None:
-        from .rules import lack_of
+        from .rules.broken_rules import lack_of
         hand = hand._replace(best_lack=lack_of(roster, answer.plan.pairs, fixed))
-    return Report(options, roster, answer, kept, hand, fair, proved)
+    return Report(options, roster, answer, kept, hand, fair, proved, ruling)
 
 
 def _read_rules(options: Options, roster: Roster) -> Optional["Ruling"]:
     """The rules of a file, if there is one."""
     if options.rules is None:
         return None
-    from .ruling import read_ruling
+    from .rules.ruling import read_ruling
     return read_ruling(options, roster, _say)
 
 
 def _read_hand(path: str, roster: Roster, fixed: List[PlanLine], ruling: Optional["Ruling"]) -> Hand:
     """The plan that is to be compared, and the rules that it breaks."""
-    from .rules import broken_rules, lack_of
+    from .rules.broken_rules import broken_rules, lack_of
     plan, repeated = read_hand_plan(path, roster)
     broken = broken_rules(roster, plan, repeated, fixed)
     missed = 0
     if ruling is not None:
-        from .ruling import broken_rules_of, missed_cost_of
+        from .rules.ruling import broken_rules_of, missed_cost_of
         pairs = [*plan.known, *(PlanLine(*pair, 0) for pair in plan.forbidden)]
         broken += broken_rules_of(ruling, roster, pairs)
         missed = missed_cost_of(ruling, roster, pairs)
@@ -221,6 +222,7 @@ def _read(options: Options) -> Roster:
         if capacities is not None and capacities.wanted and options.rules is None:
             raise RosterFault(capacities.path, "what is wanted has a price, which a plan by --rules weighs; a rules' "
                               "file may have its title line alone")
+        _refuse_without_groups(options, roster)
         roster = with_rules(roster, tasks, capacities, read_groups(options.groups, roster, options.before is not None)
                             if options.groups else None)
         if capacities is not None and tasks is None and not any(bounds.least for bounds in capacities.bounds.values()):
@@ -234,9 +236,19 @@ def _read(options: Options) -> Roster:
     return roster
 
 
+def _refuse_without_groups(options: Options, roster: Roster) -> None:
+    """Refuses what needs the day of each object, where no file says it."""
+    if not options.groups and roster.groups is None:
+        if options.rules is not None:
+            raise WordsFault("nushbaret: --rules needs --groups, which says the day of each object")
+        if options.past is not None:
+            raise WordsFault("nushbaret: --past needs --keep and --groups")
+
+
 def _say_nobody(roster: Roster, path: str) -> None:
     """Says that no plan has to have anybody, where all that places take is nobody at least."""
-    if roster.least is not None and not any(roster.least[1].values()) and not roster.wanted:
+    takes_nobody = not any(roster.of_object(object_).least for object_ in range(len(roster.objects)))
+    if roster.has_bounds and takes_nobody and not roster.wanted:
         _say(f"{path}: each place may stay empty, and without --tasks nobody has to be placed")
 
 
@@ -286,6 +298,9 @@ def _write(report: Report, lines: List[str]) -> bool:
     if report.proved is not None and report.proved.certificate is not None and options.certificate is not None:
         from ..rows.certificates import certificate_text
         files.append((options.certificate, certificate_text(report.proved.certificate).encode()))
+        stem, end = os.path.splitext(options.certificate)
+        files += [(f"{stem}-{number}{end}", certificate_text(found.certificate).encode())
+                  for number, found in enumerate(report.proved.following, 2) if found.certificate is not None]
     if options.each and report.answer.plan is not None:
         from .output.each import files_of
         files += files_of(report.roster, report.answer.plan, report.kept, options.each)

@@ -46,7 +46,7 @@ def _dearest(plan: Optional[NamedPlan], request: Request) -> Optional[Pair]:
 def _fullness(roster: Roster, plan: NamedPlan) -> Tuple[int, int]:
     """How many are missing, and of how many pairs a plan is where the smaller side takes all."""
     lack = sum(missing.least - missing.had for missing in missing_of(roster, plan.pairs))
-    return lack, len(plan.pairs) if roster.least is None else 0
+    return lack, 0 if roster.has_bounds else len(plan.pairs)
 
 
 def _values(roster: Roster, request: Request, enough: int) -> List[int]:

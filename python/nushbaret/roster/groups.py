@@ -4,12 +4,12 @@ from collections import Counter
 from typing import Dict, Iterator, List, NamedTuple, Optional, Protocol, Sequence, Tuple
 
 from ..costs.limits import MOST_PERSONS
-from ..counts.nodes import Bounds
+from ..counts.counted import Bounds
 from .dates import spellings
 from .names import quoted
-from .roster import Earlier, Groups, PlanLine, Roster, Wanted, known, looks_like_number
+from .roster import Earlier, Groups, PlanLine, Roster, Takes, Wanted, known, looks_like_number
 from .sheets import RosterFault, Sheet, item_of
-from .times import Times, columns_of, times_of
+from .times_of_day import Times, columns_of, times_of
 
 
 class Counts(NamedTuple):
@@ -30,7 +30,8 @@ def read_counts(path: str, roster: Roster, of_objects: bool) -> Counts:
 
     Raises `RosterFault` for the first name that the roster doesn't have or that stands twice, number that is none from
     0 to 4194304, or least number that is greater than the most. Objects whose titles say so also have how many they
-    should take, and a price for each that is missing.
+    should take, and a price for each that is missing. In a roster by days a line of a shift's kind is for each of its
+    days that has no line of its own.
     """
     sheet = Sheet(path, reading=roster.reading)
     line, title = sheet.title()
@@ -45,8 +46,13 @@ def read_counts(path: str, roster: Roster, of_objects: bool) -> Counts:
     limit = len(roster.persons if of_objects else roster.objects)
     teams: Dict[Tuple[str, str], List[int]] = {}
     first = len(title) if of_objects else _first_team(sheet, title)
+    of_kinds: Dict[str, Bounds] = {}
     for line, cells in _lines(sheet, len(title), first):
         others, cells = (cells[first:], cells[:first]) if first < len(title) else ([], cells)
+        if of_objects and _is_kind(roster, cells[0]) and cells[0] not in of_kinds:
+            of_kinds[cells[0]] = _bounds(sheet, cells[1:], limit, line)
+            are_ranges = are_ranges or len(cells) == 3
+            continue
         number = known(sheet, roster, cells[0], line, 2 if of_objects else 1, 1)
         if number in bounds:
             sheet.refuse(f"the name {quoted(cells[0])} a second time", line, 1)
@@ -55,7 +61,16 @@ def read_counts(path: str, roster: Roster, of_objects: bool) -> Counts:
         for column, name in zip(title[first:], others):
             if column and name:
                 teams.setdefault((column, name), []).append(number)
+    if roster.groups is not None:
+        for number, kind in roster.groups.kinds.items():
+            bounds.update({number: of_kinds[kind]} if kind in of_kinds and number not in bounds else {})
     return Counts(bounds, are_ranges, path, teams=teams)
+
+
+def _is_kind(roster: Roster, name: str) -> bool:
+    """Whether a name is a kind of a roster by days, and no object."""
+    return (roster.groups is not None and name not in roster.object_numbers
+            and name in roster.groups.kinds.values())
 
 
 def _first_team(sheet: Sheet, title: Sequence[str]) -> int:
@@ -271,14 +286,13 @@ def with_rules(roster: Roster, tasks: Optional[Counts], capacities: Optional[Cou
                groups: Optional[Groups]) -> Roster:
     """The roster with counts and groups. Where any line has two numbers bounds alone decide: then an object without a
     line takes exactly one, and a person at most one."""
-    most = [None if counts is None else {number: bound.most for number, bound in counts.bounds.items()}
-            for counts in (tasks, capacities)]
-    least = None
-    if any(counts is not None and counts.are_ranges for counts in (tasks, capacities)):
-        of_persons, of_objects = ({number: bound.least for number, bound in counts.bounds.items()} if counts else {}
-                                  for counts in (tasks, capacities))
-        least = of_persons, {**dict.fromkeys(range(len(roster.objects)), 1), **of_objects}
-    return roster._replace(tasks=most[0], capacities=most[1], least=least, groups=groups,
+    given = [counts for counts in (tasks, capacities) if counts is not None]
+    are_sums = not any(counts.are_ranges for counts in given)
+    of_persons, of_objects = ({number: Bounds(0, bound.most) if are_sums else bound
+                               for number, bound in counts.bounds.items()} if counts else {}
+                              for counts in (tasks, capacities))
+    return roster._replace(takes=Takes(of_persons, of_objects, are_sums) if given else None,
+                           groups=groups or roster.groups,
                            wanted=capacities.wanted if capacities else {}, teams=tasks.teams if tasks else {})
 
 
@@ -339,12 +353,13 @@ class Missing(NamedTuple):
 
 def missing_of(roster: Roster, pairs: Sequence[Paired]) -> List[Missing]:
     """Which least counts are missed: of objects in the order of groups, then of persons. Without bounds none."""
-    if roster.least is None:
+    if not roster.has_bounds:
         return []
     ranks = order_of(roster)
     had, used = Counter(pair.person for pair in pairs), Counter(pair.object for pair in pairs)
-    of_persons, of_objects = roster.least
-    objects = sorted((number for number, least in of_objects.items() if used[number] < least), key=ranks.__getitem__)
-    persons = sorted(number for number, least in of_persons.items() if had[number] < least)
-    return ([Missing(1, roster.objects[number], number, used[number], of_objects[number]) for number in objects]
-            + [Missing(0, roster.persons[number], number, had[number], of_persons[number]) for number in persons])
+    found = [Missing(1, name, number, used[number], roster.of_object(number).least)
+             for number, name in enumerate(roster.objects)]
+    found.sort(key=lambda one: ranks[one.number])
+    found += [Missing(0, name, number, had[number], roster.of_person(number).least)
+              for number, name in enumerate(roster.persons)]
+    return [one for one in found if one.had < one.least]

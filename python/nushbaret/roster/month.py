@@ -3,12 +3,12 @@ the first day."""
 from datetime import date
 from typing import Dict, FrozenSet, List, NamedTuple, Optional, Sequence, Set, Tuple
 
-from .blocks import without_group
 from .dates import SATURDAY, are_weekdays, dates_of, has_year, spellings, weekends_among
+from .day_tables import without_group
 from .names import quoted
 from .roster import Groups, Roster
 from .sheets import RosterFault, item_of
-from .times import Times
+from .times_of_day import Times
 
 WEEK = 7
 # The kind of a shift that has none.

@@ -3,12 +3,13 @@ import re
 from collections import Counter
 from typing import Dict, List, NamedTuple, NoReturn, Optional, Sequence, Tuple
 
+from ..counts.counted import Bounds
 from .answer import counted, listed
 from .costs import CostColumn
 from .dates import dates_of
 from .names import quoted, shown_path
 from .plan_json import NamedPair
-from .roster import Groups, OldPlan, PlanLine, Roster, like, old_plan_of
+from .roster import Groups, OldPlan, PlanLine, Roster, Takes, like, old_plan_of
 from .sheets import RosterFault, is_json
 
 Triple = Tuple[int, int, int]
@@ -79,9 +80,9 @@ def _with_persons(roster: Roster, names: Sequence[str]) -> Roster:
     if not new:
         return roster
     numbers = {name: number for number, name in enumerate(new, len(roster.persons))}
-    tasks = {**(roster.tasks or {}), **dict.fromkeys(numbers.values(), 0)}
+    roster = _with_bounds(roster, dict.fromkeys(numbers.values(), Bounds(0, 0)), {})
     return roster._replace(persons=roster.persons + new, person_numbers={**roster.person_numbers, **numbers},
-                           tasks=tasks, gone=frozenset(numbers.values()))
+                           gone=frozenset(numbers.values()))
 
 
 def _with_pairs(roster: Roster, added: Sequence[Triple]) -> Roster:
@@ -99,11 +100,15 @@ def _with_pairs(roster: Roster, added: Sequence[Triple]) -> Roster:
 
 def _with_counts(roster: Roster, most: Dict[int, int]) -> Roster:
     """The roster with some greatest counts of persons, and no least counts in the past."""
-    if roster.least is not None:
-        of_persons, of_objects = roster.least
-        left = {object_: least for object_, least in of_objects.items() if object_ not in roster.past}
-        roster = roster._replace(least=(of_persons, left))
-    return roster._replace(tasks={**(roster.tasks or {}), **most}) if most else roster
+    return _with_bounds(roster, {person: Bounds(roster.of_person(person).least, count)
+                                 for person, count in most.items()},
+                        {object_: Bounds(0, roster.capacity_of(object_)) for object_ in roster.past})
+
+
+def _with_bounds(roster: Roster, persons: Dict[int, Bounds], objects: Dict[int, Bounds]) -> Roster:
+    """The roster with other counts of some names."""
+    takes = roster.takes or Takes({}, {}, True)
+    return roster._replace(takes=Takes({**takes.persons, **persons}, {**takes.objects, **objects}, takes.are_sums))
 
 
 def _cost_in_file(path: str, roster: Roster, pair: NamedPair, rounds: Optional[int]) -> int:

@@ -55,6 +55,22 @@ def read_workbook(path: str, comma: bool, name: Optional[str], preferred: Option
         raise WorkbookFault(f"no workbook that openpyxl reads: {_what_is_wrong(path, fault)}; {SAVE}") from fault
 
 
+def sheets_of(path: str) -> List[str]:
+    """The names of a workbook's sheets of cells; none where it can't be read."""
+    try:
+        import openpyxl
+        with warnings.catch_warnings(), zipfile.ZipFile(path) as archive:
+            warnings.simplefilter("ignore")
+            _refuse_great(archive)
+            book = openpyxl.load_workbook(path, read_only=True)
+            names = [sheet.title for sheet in book.worksheets]
+            book.close()
+            return names
+    except Exception:
+        # Reading the roster says what is wrong.
+        return []
+
+
 def _refuse_great(archive: zipfile.ZipFile) -> None:
     """Refuses a workbook with a part that is too large when unpacked."""
     packed = sum(part.compress_size for part in archive.infolist())

@@ -4,7 +4,7 @@ from collections import Counter
 from typing import Dict, Iterator, List, Sequence, Tuple
 
 from ..counts.lack import Lack
-from ..counts.nodes import Bounds, Counted
+from ..counts.counted import Bounds, Counted
 from .answer import counted
 from .names import MOST_NAMES, NamesShown, joined, marked, numbered, with_counts
 from .roster import Roster

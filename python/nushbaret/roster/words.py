@@ -324,9 +324,30 @@ def read_words(words: Optional[Sequence[str]]) -> Options:
     parser = parser_of()
     words = sys.argv[1:] if words is None else words
     _refuse_unknown(words, parser)
-    options = Options(**vars(parser.parse_args(words)))
+    options = with_sheets(Options(**vars(parser.parse_args(words))))
     _judge(options, parser.refuse)
     return options
+
+
+# Sheets of a workbook that are read with the roster, by the options that name them.
+_SHEETS = ("places", "tasks", "groups", "rules")
+
+
+def with_sheets(options: Options) -> Options:
+    """The options, where the roster is a workbook with sheets for places, tasks, groups or rules: these are read where
+    no option names another file, and the roster is the first other sheet."""
+    if os.path.splitext(options.roster)[1].lower() != ".xlsx" or not os.path.isfile(options.roster):
+        return options
+    from .read_workbook import sheets_of
+    names = sheets_of(options.roster)
+    titled = {name.strip().casefold(): name for name in reversed(names)}
+    own = {word: f"{options.roster}#{titled[word]}" for word in _SHEETS if word in titled}
+    rest = [name for name in names if name.strip().casefold() not in _SHEETS]
+    if not own or not rest:
+        return options
+    return options._replace(sheet=options.sheet or rest[0], places=options.places or own.get("places"),
+                            tasks=options.tasks or own.get("tasks"), groups=options.groups or own.get("groups"),
+                            rules=options.rules or own.get("rules"))
 
 
 def _refuse_unknown(words: Sequence[str], parser: argparse.ArgumentParser) -> None:
@@ -364,7 +385,7 @@ def _judge(options: Options, refuse: Callable[[str], NoReturn]) -> None:
     """Refuses options that don't go together."""
     if options.change_cost is not None and not options.keep:
         refuse("--change-cost needs --keep")
-    if options.past is not None and not (options.keep and options.groups):
+    if options.past is not None and not options.keep:
         refuse("--past needs --keep and --groups")
     if options.others and options.change_cost is not None:
         refuse("--others compares costs alone: not with --change-cost")
@@ -398,10 +419,7 @@ def _judge_rules(options: Options, refuse: Callable[[str], NoReturn]) -> None:
             if value is not None:
                 refuse(f"{word} needs --rules")
         return
-    if not options.groups:
-        refuse("--rules needs --groups, which says the day of each object")
-    for word, is_given in (("--others", options.others), ("--plans", options.plans > 1), ("--fair", options.fair),
-                           ("--rents", options.rents)):
+    for word, is_given in (("--fair", options.fair), ("--rents", options.rents)):
         if is_given:
             refuse(f"{word} is of plans without rules: not with --rules")
 

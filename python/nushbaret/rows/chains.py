@@ -3,9 +3,9 @@ tree over all variables. Needs NumPy and SciPy."""
 import importlib
 from typing import Any, Dict, List, NamedTuple, Optional, Tuple
 
-from .blocks import limits_of
 from .model import Leaf, Limits, Proof, Split, Terms
-from .parts import Part, renamed
+from .model_parts import Part, renamed
+from .persons import limits_of
 from .prices import SCALE, Bound, Pricing
 from .trees import Open, Trees
 

@@ -2,9 +2,13 @@
 import json
 import os
 import threading
+import time
 from typing import Any, Dict, Optional, TextIO
 
 from .model import Model, Row
+
+# Seconds.
+_SHORT_WAIT = 0.01
 
 
 class Channel:
@@ -28,6 +32,12 @@ class Channel:
             self.is_hopeless = self.is_hopeless or "hopeless" in told
         os._exit(0)
 
+    def wait_for_plan(self, seconds: float) -> None:
+        """Waits until a plan is known, or it is said that there is none, or so many seconds have passed."""
+        until = time.monotonic() + seconds
+        while self.cost is None and not self.is_hopeless and time.monotonic() < until:
+            time.sleep(_SHORT_WAIT)
+
     def say(self, **told: Any) -> None:
         self.out.write(json.dumps(told) + "\n")
         self.out.flush()
@@ -43,4 +53,4 @@ def unpacked(told: Dict[str, Any]) -> Model:
     """A model from JSON."""
     rows = tuple(Row(least, tuple((variable, factor) for variable, factor in terms), most, text, person)
                  for least, terms, most, text, person in told["rows"])
-    return Model(told["variables"], tuple(told["costs"]), rows, tuple(told["persons"]))
+    return Model(told["variables"], tuple(told["costs"]), rows, tuple(told["persons"]), tuple(told["days"]))

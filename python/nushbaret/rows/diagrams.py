@@ -10,7 +10,6 @@ from .model import Limits
 np: Any = importlib.import_module("numpy")
 # A diagram with a layer of more nodes isn't made.
 MOST_NODES = 40_000
-_FAR = 2**40
 # More than any sum of costs of a month.
 TOO_MUCH = 2**60
 
@@ -122,7 +121,7 @@ def _disjoint(sets: Sequence[Sequence[int]], count: int) -> Tuple[List[int], int
 
 
 class _Layers:
-    """States of a layer: the sums so far of the rows that have begun and not ended."""
+    """States of a layer: for each row that has begun and not ended a line of the sums so far, one for each node."""
 
     def __init__(self, order: Sequence[int], rows: Sequence[Limits]):
         self.rows = rows
@@ -135,49 +134,47 @@ class _Layers:
         packing = _Packing(order, rows)
         self.mosts = [packing.most_left(dict(row.terms)) for row in rows]
         self.leasts = [packing.most_left({variable: -factor for variable, factor in row.terms}) for row in rows]
-        self.least: List[int] = []
-        self.most: List[int] = []
-        self.open: List[int] = []
-        self.states: Any = np.zeros((1, 0), dtype=np.int64)
+        self.states: Dict[int, Any] = {}
+        self.count = 1
         self.mixers: Any = np.random.default_rng(1).integers(1, 2**62, (2, len(rows)), dtype=np.int64) * 2 + 1
 
     def step(self, at: int) -> Tuple[Any, Any]:
         """Takes the variable of this layer; where 0 and 1 lead from each node."""
-        factors = self.at[at]
-        begun = [row for row in factors if row not in self.open]
-        count = len(self.states)
-        self.open += begun
-        states = np.hstack([self.states, np.zeros((count, len(begun)), dtype=np.int64)])
-        states = np.vstack([states, states + np.array([factors.get(row, 0) for row in self.open], dtype=np.int64)])
-        self.least = [-left[at + 1] for left in self.leasts]
-        self.most = [left[at + 1] for left in self.mosts]
-        wanted, allowed = self._left(states)
-        alive = np.flatnonzero(((wanted <= self._of(self.most)) & (allowed >= self._of(self.least))).all(axis=1))
-        keys = self._keys(wanted[alive], allowed[alive])
+        factors, count = self.at[at], self.count
+        states, alive = {}, np.ones(2 * count, dtype=bool)
+        for row in [*self.states, *(row for row in factors if row not in self.states)]:
+            own = self.states.get(row)
+            own = np.zeros(count, dtype=np.int64) if own is None else own
+            states[row] = np.concatenate([own, own + factors.get(row, 0)])
+            self._refuse_dead(row, at, states[row], alive)
+        places = np.flatnonzero(alive)
+        keys = self._keys(states, places, at)
         _, first, inverse = np.unique(keys, return_index=True, return_inverse=True)
-        kept = [place for place, row in enumerate(self.open) if self.ends[row] > at]
-        self.states = states[alive[first]][:, kept]
-        self.open = [self.open[place] for place in kept]
+        chosen = places[first]
+        self.states = {row: own[chosen] for row, own in states.items() if self.ends[row] > at}
+        self.count = len(first)
         to = np.full(2 * count, len(first), dtype=np.int32)
-        to[alive] = inverse
+        to[places] = inverse
         return to[:count], to[count:]
 
-    def _of(self, values: Sequence[int]) -> Any:
-        return np.array([values[row] for row in self.open], dtype=np.int64)
+    def _refuse_dead(self, row: int, at: int, sums: Any, alive: Any) -> None:
+        """Takes out of `alive` the nodes from which a row can't be met any more."""
+        least, most = self.rows[row].least, self.rows[row].most
+        if least is not None:
+            alive &= sums >= least - self.mosts[row][at + 1]
+        if most is not None:
+            alive &= sums <= most + self.leasts[row][at + 1]
 
-    def _left(self, states: Any) -> Tuple[Any, Any]:
-        """How much each open row still needs at least and has room for at most."""
-        least = np.array([-_FAR if self.rows[row].least is None else self.rows[row].least for row in self.open],
-                         dtype=np.int64)
-        most = np.array([_FAR if self.rows[row].most is None else self.rows[row].most for row in self.open],
-                        dtype=np.int64)
-        return least - states, most - states
-
-    def _keys(self, wanted: Any, allowed: Any) -> Any:
+    def _keys(self, states: Dict[int, Any], places: Any, at: int) -> Any:
         """A number for each state, the same for states from which the same is left to do."""
-        mixers = self.mixers[:, self.open]
-        return np.maximum(wanted, self._of(self.least)) @ mixers[0] + np.minimum(allowed,
-                                                                                 self._of(self.most)) @ mixers[1]
+        keys = np.zeros(len(places), dtype=np.int64)
+        for row, sums in states.items():
+            least, most, own = self.rows[row].least, self.rows[row].most, sums[places]
+            if least is not None:
+                keys += np.maximum(least - own, -self.leasts[row][at + 1]) * self.mixers[0, row]
+            if most is not None:
+                keys += np.minimum(most - own, self.mosts[row][at + 1]) * self.mixers[1, row]
+        return keys
 
 
 def diagram_of(variables: int, rows: Sequence[Limits], most_nodes: int = MOST_NODES) -> Optional[Diagram]:
@@ -189,9 +186,9 @@ def diagram_of(variables: int, rows: Sequence[Limits], most_nodes: int = MOST_NO
         to_zero, to_one = layers.step(at)
         zero.append(to_zero)
         one.append(to_one)
-        if len(layers.states) > most_nodes:
+        if layers.count > most_nodes:
             return None
-    return _reduced(order, zero, one, len(layers.states))
+    return _reduced(order, zero, one, layers.count)
 
 
 def _reduced(order: List[int], zero: List[Any], one: List[Any], ends: int) -> Diagram:

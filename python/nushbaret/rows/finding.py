@@ -8,10 +8,9 @@ import sys
 import time
 from typing import Any, Callable, Dict, List, Optional, Sequence, Tuple
 
-from .check import meets, shows
+from .certificate_check import meets, shows
 from .model import Certificate, Conflict, Finding, Leaf, Limits, Model, Shortage, flat
 from .process import Worker
-from .times import Times
 
 
 def _needs_scipy() -> str:
@@ -147,11 +146,13 @@ def _deeper(tree: Sequence[int], first: int) -> List[int]:
 
 
 def find(model: Model, seconds: float, progress: Optional[Progress] = None, start: Optional[Sequence[int]] = None,
-         without: Optional[float] = None, sums: Sequence[Sequence[int]] = ()) -> Finding:
+         sums: Sequence[Sequence[int]] = (), known: Sequence[Sequence[int]] = ()) -> Finding:
     """Looks for the cheapest plan of a model and for a proof, for so many seconds by the clock.
 
-    `progress` is called with the stage, the cost of the best plan so far and its bound. `start` is a plan known before.
-    While no plan is known, it looks for `without` seconds instead. `sums` are numbers of rows whose least counts are
+    `progress` is called with the stage, the cost of the best plan so far and its bound. `start` is a plan known before,
+    and `known` are others, by the values of the first variables, which may break rows: it is looked for plans near
+    them.
+    `sums` are numbers of rows whose least counts are
     summed up, to say which are short where there is no plan. What is returned has been shown by its certificate.
     Raises ImportError where SciPy isn't there, and RuntimeError where a process fails.
     """
@@ -165,20 +166,23 @@ def find(model: Model, seconds: float, progress: Optional[Progress] = None, star
     if start is not None:
         search.take_plan(start)
     told: "queue.Queue[Dict[str, Any]]" = queue.Queue()
-    times = Times(begin, seconds, seconds if without is None else without)
-    first = {"model": search.scaled._asdict(), "seconds": seconds, "without": times.without, "sums": sums}
+    work = {"model": search.scaled._asdict(), "seconds": seconds, "sums": sums, "known": known,
+            "plan": search.plan, "cost": search.cost}
     workers: List[Worker] = []
     try:
         for role in ("plans", "bounds"):
             workers.append(Worker(told))
-            workers[-1].start({**first, "role": role})
-        if search.plan is not None:
-            _tell(workers, {"plan": search.plan, "cost": search.cost})
-        _follow(search, workers, told, times, progress)
+            workers[-1].start({**work, "role": role, "is_alone": _processors() > 1})
+        _follow(search, workers, told, begin + seconds, progress)
     finally:
         for worker in workers:
             worker.end()
     return search.finding()
+
+
+def _processors() -> int:
+    """On how many processors this process may run."""
+    return len(os.sched_getaffinity(0)) if hasattr(os, "sched_getaffinity") else os.cpu_count() or 1
 
 
 def _without_variables(search: _PlanSearch) -> None:
@@ -204,12 +208,12 @@ def _next_message(told: "queue.Queue[Dict[str, Any]]", deadline: float) -> Optio
                 return None
 
 
-def _follow(search: _PlanSearch, workers: List[Worker], told: "queue.Queue[Dict[str, Any]]", times: Times,
+def _follow(search: _PlanSearch, workers: List[Worker], told: "queue.Queue[Dict[str, Any]]", deadline: float,
             progress: Optional[Progress]) -> None:
     """Takes what the workers report until the model is decided, all have ended, or the time is over."""
     running = len(workers)
     while running and not search.is_best():
-        message = _next_message(told, times.end(search.plan is not None))
+        message = _next_message(told, deadline)
         if message is None:
             return
         running -= "ended" in message

@@ -26,6 +26,8 @@ class Model(NamedTuple):
     # Whose variable each is; None where it is nobody's. A row whose variables are all of one person counts as that
     # person's.
     persons: Tuple[Optional[int], ...]
+    # The day of each variable, None where it has none; empty where no days are known.
+    days: Tuple[Optional[int], ...] = ()
 
 
 class Limits(NamedTuple):

@@ -9,9 +9,9 @@ import math
 import time
 from typing import Any, Callable, Dict, Iterator, List, NamedTuple, Optional, Sequence, Tuple
 
-from .blocks import PersonBlock, blocks_of, limits_of, matrix_of, side_of
 from .diagrams import TOO_MUCH, Diagram, cheapest, cheapest_with, diagram_of
 from .model import Limits, Model
+from .persons import PersonBlock, blocks_of, limits_of, matrix_of, side_of
 
 np: Any = importlib.import_module("numpy")
 optimize: Any = importlib.import_module("scipy.optimize")
@@ -20,6 +20,11 @@ optimize: Any = importlib.import_module("scipy.optimize")
 SCALE = 960
 # The part of the time in which decision diagrams are made with all rows.
 _EXACT_PART = 0.2
+# So many steps against what is missed come first, towards a bound that is so much better; after some in vain they are
+# half as long.
+_STEPS, _AIM, _VAIN, _SHORTEST = 60, 0.01, 4, 0.1
+# The part of a master's prices in the first prices that are tried, and how that grows.
+_SMOOTHED, _LESS_SMOOTHED = 0.3, 1.05
 
 
 class PricedMonth(NamedTuple):
@@ -31,12 +36,14 @@ class PricedMonth(NamedTuple):
 
 
 class Bound(NamedTuple):
-    """Whole prices of the shared rows, the least costs of each block at them, and what no plan costs less than; all
-    times `SCALE`."""
+    """What no plan costs less than at whole prices of the shared rows, these prices, and the least cost of each block;
+    all times `SCALE`."""
 
     value: int
     prices: Any
     least: List[int]
+    # How much the cheapest months take of each shared row.
+    uses: Any
 
 
 def _reaches(bound: Bound, target: Optional[int]) -> bool:
@@ -61,13 +68,14 @@ class Pricing:
         self.columns = [self.matrix[:, block.variables].tocsc() for block in self.blocks]
         self.months: List[Dict[bytes, PricedMonth]] = [{} for _ in self.blocks]
 
-    def add(self, number: int, taken: Any) -> None:
+    def add(self, number: int, taken: Any) -> PricedMonth:
         """Keeps a month of a block."""
         key = taken.tobytes()
         if key not in self.months[number]:
             variables = self.blocks[number].variables
             self.months[number][key] = PricedMonth(taken, int(self.costs[variables] @ taken),
                                                    self.columns[number] @ taken)
+        return self.months[number][key]
 
     def add_plan(self, plan: Any) -> None:
         """Keeps a plan's months."""
@@ -87,14 +95,14 @@ class Pricing:
 
     def bound(self, prices: Any) -> Optional[Bound]:
         """The bound at whole prices, keeping each block's cheapest month; None where a block has no month."""
-        costs, least = self.priced(prices), []
+        costs, least, uses = self.priced(prices), [], np.zeros(len(self.shared))
         for number, (block, diagram) in enumerate(zip(self.blocks, self.diagrams)):
             found = cheapest(diagram, costs[block.variables])
             if found is None:
                 return None
             least.append(found[0])
-            self.add(number, found[1])
-        return Bound(self.side(prices) + sum(least), prices, least)
+            uses = uses + self.add(number, found[1]).uses
+        return Bound(self.side(prices) + sum(least), prices, least, uses)
 
     def rounded(self, prices: Any) -> Any:
         """Float prices as whole multiples of 1 / SCALE, with the signs that the rows allow."""
@@ -110,7 +118,10 @@ class Pricing:
         if best is None:
             return
         yield best
-        near, step = prices, 0.5
+        for better in self._by_steps(best, prices, target, deadline):
+            best = better
+            yield best
+        near, step = best.prices / SCALE, _SMOOTHED
         while not _reaches(best, target()) and time.monotonic() < deadline:
             master = self.master()
             if master is None or math.ceil(master.value - 1e-6) <= -(-best.value // SCALE):
@@ -123,7 +134,37 @@ class Pricing:
                 yield best
             elif self.count() == count and step == 1.0:
                 return
-            step = 1.0 if self.count() == count else 0.5
+            step = 1.0 if self.count() == count else min(1.0, step * _LESS_SMOOTHED)
+
+    def _by_steps(self, best: Bound, prices: Any, target: Callable[[], Optional[int]],
+                  deadline: float) -> Iterator[Bound]:
+        """Better bounds by steps against what the cheapest months miss of the shared rows (Polyak 1969)."""
+        factor, vain, at = 1.0, 0, best
+        for _ in range(_STEPS):
+            wanted = target()
+            aim = best.value * (1 + _AIM) + SCALE if wanted is None else SCALE * wanted + SCALE
+            missed = self.missed(at)
+            length = float((missed * missed).sum())
+            if _reaches(best, wanted) or length == 0 or factor < _SHORTEST or time.monotonic() > deadline:
+                return
+            prices = prices + factor * (aim - at.value) / SCALE / length * missed
+            prices = np.where(np.isinf(self.least) & (prices > 0) | np.isinf(self.most) & (prices < 0), 0.0, prices)
+            found = self.bound(self.rounded(prices))
+            if found is None:
+                return
+            at, vain = found, vain + 1
+            if found.value > best.value:
+                best, vain = found, 0
+                yield best
+            elif vain >= _VAIN:
+                factor, vain, prices, at = factor / 2, 0, best.prices / SCALE, best
+
+    def missed(self, bound: Bound) -> Any:
+        """By how much the months that a bound's prices make cheapest miss the shared rows, towards the sides that the
+        prices take."""
+        sides = np.where((bound.prices > 0) | ((bound.prices == 0) & (bound.uses < self.least)), self.least,
+                         np.where((bound.prices < 0) | (bound.uses > self.most), self.most, bound.uses))
+        return sides - bound.uses
 
     def without_costs(self) -> "Pricing":
         """The same, without costs."""

@@ -4,11 +4,11 @@ import importlib
 import time
 from typing import Any, Dict, Iterator, List, NamedTuple, Optional, Sequence, Set, Tuple
 
-from .blocks import limits_of
-from .check import MOST_DEPTH, meets
+from .certificate_check import MOST_DEPTH, meets
+from .highs import tried
 from .model import Leaf, Limits, Model, Proof, Split, flat
-from .parts import Part
-from .plans import tried
+from .model_parts import Part
+from .persons import limits_of
 from .trees import Open, Trees
 
 np: Any = importlib.import_module("numpy")

@@ -3,9 +3,9 @@ import importlib
 import time
 from typing import Any, Iterator, NamedTuple, Sequence, Set, Tuple
 
-from .blocks import limits_of, matrix_of, side_of
 from .model import Leaf, Limits, Model
-from .parts import Part
+from .model_parts import Part
+from .persons import limits_of, matrix_of, side_of
 from .trees import Open, Trees
 
 np: Any = importlib.import_module("numpy")

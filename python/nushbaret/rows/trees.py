@@ -4,9 +4,9 @@ import math
 import time
 from typing import Any, Dict, List, NamedTuple, Optional, Sequence, Tuple
 
-from .blocks import matrix_of
 from .model import Leaf, Limits, Proof, Split, Terms
-from .parts import Part
+from .model_parts import Part
+from .persons import matrix_of
 
 np: Any = importlib.import_module("numpy")
 sparse: Any = importlib.import_module("scipy.sparse")

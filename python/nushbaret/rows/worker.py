@@ -4,7 +4,9 @@ import sys
 import time
 
 from .channel import Channel, unpacked
-from .times import Times
+
+# On one processor the search for bounds waits so long for a first plan.
+_FINDERS_PART = 0.4
 
 
 def main() -> None:
@@ -12,12 +14,15 @@ def main() -> None:
     channel = Channel(sys.stdin, sys.stdout)
     channel.say(started=True)
     told = json.loads(channel.lines.readline())
+    channel.plan, channel.cost = told["plan"], told["cost"]
     channel.listen()
     model = unpacked(told["model"])
     if told["role"] == "plans":
-        from .plans import look_for_plans
-        look_for_plans(model, channel, Times(time.monotonic(), told["seconds"], told["without"]))
+        from .highs import look_for_plans
+        look_for_plans(model, channel, time.monotonic() + told["seconds"], told["known"])
     else:
-        from .bounds import look_for_bounds
+        if not told["is_alone"]:
+            channel.wait_for_plan(_FINDERS_PART * told["seconds"])
+        from .prover import look_for_bounds
         look_for_bounds(model, channel, told["seconds"], told["sums"])
     channel.say(done=told["role"])

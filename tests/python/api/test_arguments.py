@@ -1,6 +1,8 @@
 """Counts by names, prices by names, plans with too few pairs, greatest counts, and messages that name the argument;
 types for mypy."""
+import contextlib
 import importlib.util
+import io
 import os
 import pathlib
 import pickle
@@ -13,6 +15,7 @@ import unittest
 from decimal import Decimal
 
 import nushbaret
+import user_program
 from optional import np, pd, sparse
 
 COSTS = [[4, 1], [2, 3]]
@@ -206,6 +209,21 @@ class Types(unittest.TestCase):
             nushbaret.solve([[None]])
         self.assertEqual(caught.exception.shortages, [])
         self.assertIn("__version__", nushbaret.__all__)
+
+    def test_a_program_with_each_name(self):
+        """It uses each public name, and runs."""
+        program = pathlib.Path(user_program.__file__).read_text(encoding="utf-8")
+        self.assertEqual([name for name in nushbaret.__all__ if f"nushbaret.{name}" not in program], [])
+        with contextlib.redirect_stdout(io.StringIO()) as shown:
+            user_program.main()
+        self.assertEqual(len(shown.getvalue().splitlines()), 7)
+
+    @unittest.skipUnless(importlib.util.find_spec("mypy"), "mypy isn't there")
+    def test_the_program_strictly(self):
+        env = {**os.environ, "MYPYPATH": str(pathlib.Path(nushbaret.__file__).resolve().parent.parent)}
+        ran = subprocess.run([sys.executable, "-m", "mypy", "--strict", "--no-error-summary", user_program.__file__],
+                             capture_output=True, text=True, env=env, cwd=tempfile.gettempdir())
+        self.assertEqual(ran.stdout, "")
 
     @unittest.skipUnless(importlib.util.find_spec("mypy"), "mypy isn't there")
     def test_strictly(self):

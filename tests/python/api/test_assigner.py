@@ -2,6 +2,7 @@
 import math
 import os
 import pickle
+import random
 import subprocess
 import sys
 import unittest
@@ -316,6 +317,90 @@ class Rows(unittest.TestCase):
                 self.assertEqual(library.searched.call_count, 1)
         rows, columns = longer_call(costs)
         self.assertEqual(sum(map(Decimal, map(repr, costs[rows, columns].tolist()))), cost)
+
+
+class Sides(unittest.TestCase):
+    """Rectangles, changed columns, added and removed rows."""
+
+    VALUES = (lambda draw: draw.randrange(100), lambda draw: round(draw.random() * 10, 2),
+              lambda draw: draw.random() * 10)
+
+    def change(self, draw, assigner, costs, value):
+        """One change, in the assigner and in the list."""
+        width, kind, row = len(costs[0]), draw.randrange(4), draw.randrange(len(costs))
+        if kind == 0:
+            costs[row] = [value(draw) for _ in range(width)]
+            assigner.update(row, costs[row])
+        elif kind == 1:
+            column, own = draw.randrange(width), [value(draw) for _ in costs]
+            for held, cost in zip(costs, own):
+                held[column] = cost
+            assigner.update_column(column, own)
+        elif kind == 2:
+            costs.append([value(draw) for _ in range(width)])
+            self.assertEqual(assigner.add_row(list(costs[-1])), len(costs) - 1)
+        elif len(costs) > 1:
+            del costs[row]
+            assigner.remove_row(row)
+
+    def test_drawn_changes(self):
+        draw = random.Random(3)
+        for number in range(40):
+            value, maximize = self.VALUES[number % 3], draw.random() < 0.4
+            shape = draw.randrange(1, 8), draw.randrange(1, 8)
+            costs = [[value(draw) for _ in range(shape[1])] for _ in range(shape[0])]
+            form = np.array(costs) if np is not None and number % 2 else [list(row) for row in costs]
+            assigner = nushbaret.Assigner(form, maximize)
+            for _ in range(10):
+                self.change(draw, assigner, costs, value)
+                result = assigner.result
+                with self.subTest(number=number, costs=costs):
+                    self.assertEqual(result.cost, nushbaret.solve(costs, maximize).cost)
+                    self.assertTrue(result.verify() and result.verify(costs))
+                    self.assertEqual(list(result.rows), sorted(result.rows))
+
+    def test_searches_begin_at_the_last_plan(self):
+        """Also of a rectangle, whichever side is the fewer."""
+        for shape in ((3, 5), (5, 3), (4, 4)):
+            assigner = nushbaret.Assigner([[7 * row * column % 11 for column in range(shape[1])]
+                                           for row in range(shape[0])])
+            assigner.result
+            for change in (lambda: assigner.update(1, [3] * shape[1]),
+                           lambda: assigner.update_column(1, [2] * shape[0]), lambda: assigner.remove_row(0)):
+                change()
+                self.assertEqual(assigner._numbers is not None and assigner._numbers.state is not None, True)
+                assigner.result
+
+    def test_refusals(self):
+        assigner = nushbaret.Assigner([[4, 1, 3], [2, 0, 5]])
+        for call, fault, text in ((lambda: assigner.update_column(3, [1, 2]), IndexError, "column 3: there are 3"),
+                                  (lambda: assigner.update_column(0, [1]), ValueError, "column 0 has 2 costs"),
+                                  (lambda: assigner.add_row([1, 2]), ValueError, "row 2 has 3 costs, and 2 were"),
+                                  (lambda: assigner.remove_row(-1), IndexError, "row -1: there are 2 rows"),
+                                  (lambda: assigner.add_row(5), TypeError, "must be a list of costs")):
+            with self.assertRaisesRegex(fault, text):
+                call()
+        self.assertEqual((repr(assigner), assigner.result.cost),
+                         ("<nushbaret.Assigner: 2 rows, 3 columns>", 3))
+
+    def test_without_rows(self):
+        assigner = nushbaret.Assigner([[4, 1]])
+        assigner.remove_row(0)
+        self.assertEqual(assigner.result.pairs, [])
+        self.assertEqual((assigner.add_row([3, 2]), assigner.result.pairs), (0, [(0, 1)]))
+
+    @unittest.skipUnless(pd, "pandas isn't there")
+    def test_frames(self):
+        assigner = nushbaret.Assigner(pd.DataFrame([[4, 1], [2, 3]], ["Ada", "Ben"], ["early", "late"]))
+        before = assigner.result
+        assigner.add_row(pd.Series({"late": 0, "early": 9}, name="Cleo"))
+        assigner.update_column(0, {"Cleo": 9, "Ada": 8, "Ben": 2})
+        self.assertEqual(assigner.result.pairs, [("Ben", "early"), ("Cleo", "late")])
+        assigner.remove_row(1)
+        self.assertEqual(assigner.result.pairs, [("Ada", "early"), ("Cleo", "late")])
+        self.assertEqual(before.pairs, [("Ada", "late"), ("Ben", "early")])
+        with self.assertRaisesRegex(ValueError, "needs a name"):
+            assigner.add_row([1, 2])
 
 
 if __name__ == "__main__":

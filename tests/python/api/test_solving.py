@@ -253,7 +253,7 @@ class Results(unittest.TestCase):
                 return getattr(opened, name)
 
         with mock.patch.dict(library._calls, clear=True), mock.patch.object(library, "_open", Watched):
-            self.assertGreater(len(library._loaded()), len(library._LISTS))
+            self.assertGreater(len(library.loaded()), len(library._LISTS))
         self.assertEqual(set(found), {0})
 
 

@@ -15,6 +15,7 @@ from unittest import mock
 import nushbaret
 from nushbaret.lap import levels, library
 from drawn import drawing, matrix
+from optional import np
 
 TOP = os.path.dirname(os.path.dirname(nushbaret.__file__))
 
@@ -42,7 +43,7 @@ def endless_call():
     def stops(*words):
         time.sleep(0.001)
         return library.CODES.index("STOPPED")
-    library._loaded()
+    library.loaded()
     return mock.patch.dict(library._calls, {name: stops for name in ("dense_from", "sparse_from")})
 
 
@@ -176,10 +177,22 @@ class Timeouts(unittest.TestCase):
         """Between two pieces, and no thread goes on."""
         result, threads = nushbaret.solve(self.COSTS), threading.active_count()
         with endless_call():
-            for call in nushbaret.solve, nushbaret.linear_sum_assignment, nushbaret.bottleneck:
+            for call, words in ((nushbaret.solve, {"progress": silent}), (nushbaret.bottleneck, {}),
+                                (nushbaret.linear_sum_assignment, {"progress": silent})):
                 with self.assertRaises(TimeoutError):
-                    call(self.COSTS, timeout=0.05)
+                    call(self.COSTS, timeout=0.05, **words)
         self.assertEqual((nushbaret.solve(self.COSTS).cost, threading.active_count()), (result.cost, threads))
+
+    @unittest.skipUnless(np, "NumPy isn't there")
+    def test_by_the_short_way(self):
+        """A search of any size ends in time."""
+        costs = np.arange(1, 901)[:, None] * np.arange(1, 901)
+        for call in nushbaret.linear_sum_assignment, nushbaret.solve:
+            for form in (costs, costs + 0.3):
+                with self.assertRaisesRegex(TimeoutError, "the time is over"):
+                    call(form, timeout=1e-4)
+                self.assertEqual(len(call(form[:60, :60], timeout=1e4).columns if call is nushbaret.solve
+                                     else call(form[:60, :60], timeout=1e4)[1]), 60)
 
     def test_in_other_threads(self):
         """A limit is that of its own thread."""

@@ -6,8 +6,7 @@ from unittest import mock
 
 import nushbaret
 from nushbaret.counts import count_rows as rows, planned as counts
-from nushbaret.counts.exchanges import exchanges_of
-from nushbaret.rows.check import shows, shows_here
+from nushbaret.rows.certificate_check import shows, shows_here
 import drawn
 import row_models as models
 from counts.test_counts import rosters
@@ -18,10 +17,10 @@ REPORT = "please report this problem"
 
 def certificates(counted):
     """The certificates of each shortage, and of the best plan, and whether least counts are missed."""
-    lacks, pairs, exchanges = counts.planned(counted, True)
+    lacks, plans = counts.planned(counted, True)
     terms = rows.terms_of(counted)
     return ([rows.certificate_of_lack(counted, terms, lack) for lack in lacks],
-            rows.certificate_of_best(counted, lacks, exchanges), bool(lacks))
+            rows.certificate_of_best(counted, lacks, plans.shown()), bool(lacks))
 
 
 class Shown(unittest.TestCase):
@@ -84,25 +83,26 @@ class Faults(unittest.TestCase):
 
     def test_what_is_not_shown_is_a_fault(self):
         with mock.patch.object(rows, "shows", lambda certificate: False):
-            with self.assertRaisesRegex(RuntimeError, f"the best by its counts, .*: {REPORT}"):
-                nushbaret.assign_counts(self.COSTS, (1, 2), 1)
             with self.assertRaisesRegex(RuntimeError, f"a group was found to be short, .*: {REPORT}"):
                 nushbaret.assign_counts(self.COSTS, 1, (2, 2))
+        with mock.patch.object(counts, "shows", lambda certificate: False):
+            with self.assertRaisesRegex(RuntimeError, f"the best by its counts, .*: {REPORT}"):
+                nushbaret.assign_counts(self.COSTS, 1, (2, 2), partial=True)
 
     def test_worse_plans(self):
-        """No other plan of the same roster passes as the best, and none that breaks a rule."""
+        """No other plan of the same roster is shown as the best, and none that breaks a rule."""
         found = 0
         for case, (roster, _) in enumerate(rosters(73, 60)):
             counted = roster.counted()
+            lacks, plans = counts.planned(counted, True)
+            own = plans.shown()
             least = min(plan[:2] for plan in roster.plans())
             for missed, cost, pairs in list(roster.plans())[::7]:
                 if (missed, cost) == least or not pairs:
                     continue
                 found += 1
-                with mock.patch.object(counts, "best_pairs",
-                                       lambda *given, pairs=pairs: pairs), self.subTest(case=case):
-                    with self.assertRaisesRegex(RuntimeError, REPORT):
-                        counts.planned(counted, True)
+                with self.subTest(case=case):
+                    self.assertFalse(shows(rows.certificate_of_best(counted, lacks, own._replace(pairs=pairs))))
         self.assertGreater(found, 100)
 
     def test_wrong_shortages(self):
@@ -110,7 +110,7 @@ class Faults(unittest.TestCase):
         refused = 0
         for case, (roster, _) in enumerate(rosters(74, 200)):
             counted = roster.counted()
-            lacks, _, _ = counts.planned(counted, True)
+            lacks, _ = counts.planned(counted, True)
             for lack in lacks:
                 for other in (lack._replace(had=lack.had - 1), lack._replace(wanted=lack.wanted + 1),
                               lack._replace(had=lack.wanted)):
@@ -119,15 +119,17 @@ class Faults(unittest.TestCase):
                         rows.check_lacks(counted, [other])
         self.assertGreater(refused, 100)
 
-    def test_changed_potentials(self):
-        """Another potential shows the plan only where it still proves it."""
+    def test_changed_numbers(self):
+        """Another number shows the plan only where it still proves it."""
         draw, results = random.Random(75), [0, 0]
         for case, (roster, _) in enumerate(rosters(75, 200)):
             counted = roster.counted()
-            lacks, pairs, _ = counts.planned(counted, True)
-            exchanges = exchanges_of(counted, pairs, bool(lacks))
-            exchanges.potentials[draw.randrange(len(exchanges.potentials))] += draw.choice((-9, -1, 1, 9))
-            certificate = rows.certificate_of_best(counted, lacks, exchanges)
+            lacks, plans = counts.planned(counted, True)
+            own = plans.shown()
+            numbers = [*own.rows, *own.columns]
+            numbers[draw.randrange(len(numbers))] += draw.choice((-9, -1, 1, 9))
+            other = own._replace(rows=numbers[:len(own.rows)], columns=numbers[len(own.rows):])
+            certificate = rows.certificate_of_best(counted, lacks, other)
             results[shows(certificate)] += 1
             with self.subTest(case=case):
                 self.assertEqual(shows(certificate), models.shows(certificate))

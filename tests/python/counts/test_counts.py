@@ -1,17 +1,22 @@
 """Counts from-to with groups, compared with searches through all plans; and what is refused."""
+import os
 import pickle
 import random
+import signal
+import threading
+import time
 import unittest
 from decimal import Decimal
 from fractions import Fraction
 from unittest import mock
 
 import nushbaret
-from nushbaret.counts import nodes
-from nushbaret.counts.nodes import Bounds, Counted
-from nushbaret.counts.planned import planned
+from nushbaret.counts import counted
+from nushbaret.counts.planned import planned, with_fewest_changes
+from nushbaret.counts.counted import Bounds, Counted
 import drawn
-from optional import np as numpy, pd as pandas
+from nushbaret.lap import library
+from optional import np as numpy, pd as pandas, sparse
 
 CASES = 1500
 SMALL = 300
@@ -77,16 +82,6 @@ class Plans(unittest.TestCase):
         self.assertGreater(infeasible, 500)
         self.assertLess(infeasible, 1300)
 
-    def test_transshipments_only_where_a_plan_needs_them(self):
-        solved, more = nodes.best_plan, 0
-        for case, (roster, maximize) in enumerate(rosters(2, SMALL)):
-            least, calls = min(plan[:2] for plan in roster.plans(maximize)), []
-            with mock.patch.object(nodes._Builder, "spare", lambda builder: iter(())), mock.patch.object(
-                    nodes, "best_plan", lambda *lists: calls.append(lists) or solved(*lists)), self.subTest(case=case):
-                self.judge(roster, roster.assign(maximize=maximize, partial=True), maximize, least)
-            more += len(calls) > 1
-        self.assertGreater(more, 50)
-
     def test_kept_pairs_beside_all_best_plans(self):
         draw, changed = random.Random(3), 0
         for case, (roster, _) in enumerate(rosters(3, SMALL)):
@@ -96,7 +91,7 @@ class Plans(unittest.TestCase):
             plans = list(roster.plans())
             least = min(plan[:2] for plan in plans)
             fewest = min(len(set(pairs) - set(kept)) for *worth, pairs in plans if tuple(worth) == least)
-            _, pairs, _ = planned(roster.counted(), True, kept)
+            pairs = with_fewest_changes(planned(roster.counted(), True).plans, kept).pairs()
             with self.subTest(case=case):
                 self.assertIn((*least, pairs), plans)
                 self.assertEqual(len(set(pairs) - set(kept)), fewest)
@@ -104,16 +99,12 @@ class Plans(unittest.TestCase):
         self.assertGreater(changed, 50)
 
     def test_month(self):
-        """100 nurses, one shift a day: at once; and where nodes are few, those come first that a plan may need."""
+        """100 nurses, one shift a day."""
         draw = random.Random(1)
         costs = [[draw.randint(1, 100) if draw.random() < 0.9 else None for _ in range(93)] for _ in range(100)]
         result = nushbaret.assign_counts(costs, (18, 20), (18, 22), [column // 3 for column in range(93)])
         self.assertEqual((result.cost, len(result.pairs)), (25223, 1800))
         self.assertEqual(len({(row, column // 3) for row, column in result.pairs}), 1800)
-        some = [row[:21] for row in costs[:60]]
-        wanted = nushbaret.assign_counts(some, (4, 5), (10, 13)).cost
-        with mock.patch.multiple(nodes, MOST_PERSONS=1200, AT_ONCE=1200, LIKELY=800):
-            self.assertEqual(nushbaret.assign_counts(some, (4, 5), (10, 13)).cost, wanted)
 
 
 class AnyNumbers(unittest.TestCase):
@@ -205,6 +196,55 @@ class Shortages(unittest.TestCase):
         self.assertIn("(the first of 2 groups)", str(short))
 
 
+def stopped():
+    """The library's search, which never ends: each piece of it stops at its budget."""
+    def stops(*words):
+        time.sleep(0.001)
+        return counted._STOPPED
+    return mock.patch.object(counted, "_call", [stops])
+
+
+class Time(unittest.TestCase):
+    COSTS = [[(7919 * row * row + 104729 * column * column + 611953 * row * column) % 1000003 for column in range(20)]
+             for row in range(60)]
+    # Whole numbers, doubles of which not all end at the first level, and too few places, of which the most are taken.
+    CALLS = (((COSTS, 1, (0, 4)), {}), (([[cost + 1e15 / 3 for cost in row] for row in COSTS], (1, 2), (3, 4)), {}),
+             ((COSTS, 1, (0, 2)), {"partial": True}))
+
+    def test_timeout(self):
+        with stopped():
+            for words, named in self.CALLS:
+                self.assertRaises(TimeoutError, nushbaret.assign_counts, *words, timeout=0.05, **named)
+        self.assertRaises(TimeoutError, nushbaret.assign_counts, self.COSTS, 1, (0, 4), timeout=0)
+        self.assertEqual(nushbaret.assign_counts(self.COSTS, 1, (0, 4), timeout=1000).cost,
+                         nushbaret.assign_counts(self.COSTS, 1, (0, 4)).cost)
+
+    @unittest.skipUnless(os.name == "posix", "signals are sent as POSIX has them")
+    def test_ctrl_c(self):
+        self.addCleanup(signal.signal, signal.SIGINT, signal.signal(signal.SIGINT, signal.default_int_handler))
+        with stopped():
+            threading.Timer(0.1, lambda: os.kill(os.getpid(), signal.SIGINT)).start()
+            with self.assertRaises(KeyboardInterrupt):
+                nushbaret.assign_counts(self.COSTS, 1, (0, 4))
+        self.assertEqual(len(nushbaret.assign_counts(self.COSTS, 1, (0, 4)).pairs), 60)
+
+    def test_pieces_and_progress(self):
+        """A search in small pieces finds what one in a single piece does, and says how far it is."""
+        for words, named in self.CALLS:
+            noted, wanted = [], nushbaret.assign_counts(*words, **named)
+            with mock.patch.dict(library.PIECES, counts=library.PieceSize(1, 0)):
+                result = nushbaret.assign_counts(*words, **named, progress=lambda *both: noted.append(both))
+            self.assertEqual(result.cost, wanted.cost)
+            self.assertGreater(len(noted), 0 if named else 3)
+            self.assertTrue(all(0 <= served <= rows == 60 for served, rows in noted))
+            self.assertEqual(noted[-1] == (60, 60), not named)
+
+    def test_progress_may_end_the_call(self):
+        def stop(*both):
+            raise KeyError(both)
+        self.assertRaises(KeyError, nushbaret.assign_counts, self.COSTS, 1, (0, 4), progress=stop)
+
+
 class Words(unittest.TestCase):
     COSTS = [[4, 1, 3], [2, 0, 5]]
 
@@ -228,6 +268,7 @@ class Words(unittest.TestCase):
         self.assertEqual((partial.cost, partial.missing_rows, partial.missing_columns), (6, {0: 1}, {}))
         self.assertEqual(repr(partial), "<nushbaret.CountsResult: cost 6, 3 pairs>")
         self.assertEqual(pickle.loads(pickle.dumps(partial)).pairs, partial.pairs)
+        self.assertEqual((partial.row_numbers, partial.column_numbers), (None, None))
         with self.assertRaises(AttributeError):
             partial.cost = 5
 
@@ -260,24 +301,6 @@ class Words(unittest.TestCase):
                 nushbaret.assign_counts(self.COSTS, *words)
             self.assertEqual(str(caught.exception), text)
 
-    def test_timeout(self):
-        draw = random.Random(2)
-        costs = [[draw.randint(1, 10**6) for _ in range(93)] for _ in range(100)]
-        with self.assertRaises(TimeoutError):
-            nushbaret.assign_counts(costs, (18, 20), (18, 22), timeout=0)
-
-    def test_too_many_nodes(self):
-        costs = [[1] * 100 for _ in range(100)]
-        helps = "can be had: lower the greatest counts, forbid more pairs, or split the problem, as by weeks"
-        for row_counts, column_counts, text in (((0, 90), (0, 2), "9000 columns that rows may take, 200 rows that "
-                                                 "columns may take and 0 rules of at most one need 9000"),
-                                                ((40, 80), (40, 80), "8000 columns that rows may take, 8000 rows that "
-                                                 "columns may take and 0 rules of at most one need 12000")):
-            with mock.patch.object(nodes, "MOST_PERSONS", 8192):
-                with self.assertRaises(ValueError) as caught:
-                    nushbaret.assign_counts(costs, row_counts, column_counts)
-                self.assertEqual(str(pickle.loads(pickle.dumps(caught.exception))), f"{text} nodes, and 8192 {helps}")
-
     @unittest.skipUnless(numpy, "needs NumPy")
     def test_arrays(self):
         result = nushbaret.assign_counts(numpy.array(self.COSTS), numpy.array([[1, 2], [1, 1]]), numpy.ones(3, int),
@@ -285,6 +308,21 @@ class Words(unittest.TestCase):
         self.assertEqual((result.rows.tolist(), result.columns.tolist(), result.cost), ([0, 0, 1], [1, 2, 0], 6))
         self.assertIsInstance(result.rows, numpy.ndarray)
         self.assertEqual(pickle.loads(pickle.dumps(result)).pairs, result.pairs)
+
+    @unittest.skipUnless(sparse, "needs SciPy")
+    def test_sparse(self):
+        """Stored entries are the pairs, in whatever order they stand; each kind of numbers."""
+        matrix = sparse.csr_matrix(numpy.array([[4, 0, 3], [2, 1, 0], [0, 6, 5]]))
+        wanted = [(0, 2), (1, 1), (2, 1), (2, 2)]
+        for costs in (matrix, matrix.tocoo(), matrix.tocsc(), matrix.tolil(), matrix * 0.5, matrix * 0.1,
+                      matrix * 10**15, matrix[::1, :]):
+            result = nushbaret.assign_counts(costs, [1, 1, 2], (0, 2))
+            self.assertEqual((result.pairs, len(result.rows)), (wanted, 4))
+        backwards = sparse.coo_matrix((matrix.tocoo().data[::-1], (matrix.tocoo().row[::-1], matrix.tocoo().col[::-1])))
+        self.assertEqual(nushbaret.assign_counts(backwards, [1, 1, 2], (0, 2)).pairs, wanted)
+        with self.assertRaisesRegex(nushbaret.Infeasible, "row 0 must have 3 columns, and can have 2: "):
+            nushbaret.assign_counts(matrix, [3, 1, 1], (0, 3))
+        self.assertEqual(nushbaret.assign_counts(matrix, [3, 1, 1], (0, 3), partial=True).missing_rows, {0: 1})
 
     @unittest.skipUnless(pandas, "needs pandas")
     def test_frames(self):

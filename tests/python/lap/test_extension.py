@@ -201,11 +201,18 @@ class Reading(unittest.TestCase):
         for words, named in (((), {}), (([[1]], 1), {}), (([[1]], None), {}), (([[1]], False, 3), {}),
                              ((), {"cost_matrix": [[1]]}), (([[1]],), {"missing": "refuse"}),
                              (([[1]],), {"maximise": True}), (([[1]], True), {"maximize": True}),
-                             (([[1]],), {"maximize": 1}), (([[1]],), {"timeout": None, "maximize": True})):
+                             (([[1]],), {"maximize": 1}), (([[1]],), {"timeout": 0}), (([[1]],), {"timeout": "1"}),
+                             (([[1]],), {"timeout": math.inf}), (([[1]],), {"unmatched_cost": math.inf}),
+                             (([[1]],), {"unmatched_cost": (1, 2)}), (([[1]],), {"progress": None}),
+                             (([[1]],), {"unmatched_cost": 2**60}), (([[math.nan]],), {"unmatched_cost": 1})):
             call(*words, **named)
             self.assertEqual(seen.pop(), (words, named))
         self.assertEqual((call([[1, 2]], maximize=True), call([[1, 2]], True), call([[1, 2]], maximize=False)),
                          (([0], [1]), ([0], [1]), ([0], [0])))
+        self.assertEqual((call([[1, 2]], timeout=9), call([[1, 2]], timeout=None, maximize=True)),
+                         (([0], [0]), ([0], [1])))
+        self.assertEqual((call([[1, 2]], unmatched_cost=0.5), call([[1, 2]], unmatched_cost=1),
+                          call([[2], [1]], True, unmatched_cost=2)), (([], []), ([0], [0]), ([0], [0])))
         self.assertEqual(seen, [])
 
     def test_what_the_longer_way_raises(self):

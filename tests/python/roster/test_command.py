@@ -17,7 +17,7 @@ from nushbaret.lap import library
 from nushbaret.roster.answer import ShortGroup, listed, plural, sentence
 from nushbaret.roster.files import OutputFault, write_file
 from nushbaret.roster.names import without_marks
-from nushbaret.roster.roster import read_roster
+from nushbaret.roster.forms import read_roster
 from nushbaret.roster.words import parser_of
 from commands import OTHERS, SQUARE, TOP, Runs, environment, parsed, program, shell, square, without_names
 

@@ -1,9 +1,7 @@
 """The command with bounds and groups: what is printed, written and drawn, and what is refused."""
 import json
 import unittest
-from unittest import mock
 
-from nushbaret.counts import nodes
 from commands import OTHERS, Runs, without_names
 
 WEEK = ("nurse,shift,hours\nAda,early Mon,1\nAda,late Mon,2\nAda,early Tue,3\nBen,early Mon,2\nBen,late "
@@ -172,15 +170,6 @@ class Refusals(Files):
         self.file("f.csv", "a,b\nAda,early Mon\nBen,late Mon\nAda,late Mon\n")
         self.refused(3, "f.csv, line 4: Ada has late Mon and, in line 2, early Mon: two of day Mon", *RULES, "--fixed",
                      "f.csv")
-
-    def test_too_many_nodes(self):
-        self.file("r.csv", "nurse,shift,hours\n" + "".join(f"p{person},o{number},1\n" for person in range(100)
-                                                           for number in range(100)))
-        self.file("t.csv", "nurse,least,most\n" + "".join(f"p{person},0,90\n" for person in range(100)))
-        with mock.patch.object(nodes, "MOST_PERSONS", 8192):
-            self.refused(3, "r.csv: 9000 shifts that nurses may take, 100 places at shifts and 0 rules of at most one "
-                         "need 9000 nodes, and 8192 can be had: lower the greatest counts, forbid more pairs, or split "
-                         "the problem, as by weeks", "r.csv", "--tasks", "t.csv")
 
 
 if __name__ == "__main__":

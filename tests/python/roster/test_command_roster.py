@@ -9,7 +9,8 @@ from array import array
 from unittest import mock
 
 from nushbaret.roster import roster as _roster
-from nushbaret.roster.roster import alike, form_of, read_plan, read_roster
+from nushbaret.roster.forms import form_of, read_roster
+from nushbaret.roster.roster import alike, read_plan
 from nushbaret.roster.sheets import RosterFault, Sheet
 from commands import InFolder
 from optional import openpyxl
@@ -152,7 +153,7 @@ class InOneGo(Folder):
         with contextlib.ExitStack() as patches:
             if not bulk:
                 patches.enter_context(mock.patch("nushbaret.roster.costs.CostColumn.take_plain", return_value=False))
-                patches.enter_context(mock.patch("nushbaret.roster.roster.Lines.take_all", return_value=False))
+                patches.enter_context(mock.patch("nushbaret.roster.forms.Lines.take_all", return_value=False))
             try:
                 roster = read_roster(path, *words)
             except RosterFault as fault:

@@ -6,7 +6,7 @@ from array import array
 
 from nushbaret.roster.answer import Request, answer_of
 from nushbaret.roster.by_counts import answer_by_counts
-from nushbaret.roster.roster import Roster
+from nushbaret.roster.roster import Bounds, Roster, Takes
 
 CASES = 500
 
@@ -14,11 +14,13 @@ CASES = 500
 def roster_of(persons, objects, costs, tasks=None, places=None):
     """A roster of the pairs that a dictionary of costs has."""
     pairs = sorted(costs)
+    takes = [{number: Bounds(0, most) for number, most in (own or {}).items()} for own in (tasks, places)]
     return Roster([f"p{number}" for number in range(persons)], [f"o{number}" for number in range(objects)],
                   {f"p{number}": number for number in range(persons)},
                   {f"o{number}": number for number in range(objects)}, array("q", [pair[0] for pair in pairs]),
                   array("q", [pair[1] for pair in pairs]), array("q", [costs[pair] for pair in pairs]), 0,
-                  ("person", "object", "cost"), ",", False, tasks, places)
+                  ("person", "object", "cost"), ",", False,
+                  takes=Takes(*takes, True) if tasks or places else None)
 
 
 def drawn_costs(draw, persons, objects, share):

@@ -12,7 +12,7 @@ from nushbaret.roster import sentences
 from nushbaret.roster.answer import Request, sentence
 from nushbaret.roster.by_counts import answer_by_counts
 from nushbaret.roster.names import without_marks
-from nushbaret.roster.roster import Groups, Roster
+from nushbaret.roster.roster import Bounds, Groups, Roster, Takes
 import drawn
 from commands import Runs, without_names
 
@@ -41,14 +41,14 @@ class Drawn:
         pairs = self.pairs()
         persons, objects = ([f"{letter}{number}" for number in range(len(those))]
                             for letter, those in (("p", self.persons), ("o", self.objects)))
-        least, most = ([{number: bound[place] for number, bound in enumerate(those)}
-                        for those in (self.persons, self.objects)] for place in range(2))
+        takes = [{number: Bounds(low if self.ranges else 0, most) for number, (low, most) in enumerate(those)}
+                 for those in (self.persons, self.objects)]
         of_objects = {object_: number for number, group in enumerate(self.groups) for object_ in group}
         return Roster(persons, objects, {name: number for number, name in enumerate(persons)},
                       {name: number for number, name in enumerate(objects)},
                       array("q", [person for person, _ in pairs]), array("q", [object_ for _, object_ in pairs]),
-                      array("q", pairs.values()), 0, ("person", "object", "cost"), ",", False, *most,
-                      least=tuple(least) if self.ranges else None,
+                      array("q", pairs.values()), 0, ("person", "object", "cost"), ",", False,
+                      takes=Takes(*takes, not self.ranges),
                       groups=Groups("day", [f"g{number}" for number in range(len(self.groups))], of_objects)
                       if self.groups else None)
 

@@ -20,9 +20,9 @@ def single(case):
 KINDS = (("by counts", drawings(31, 200), answer_by_counts, lambda case: case.roster()),
          ("equal costs", drawings(32, 150, 2), answer_by_counts, lambda case: case.roster()),
          ("single", [single(case) for case in drawings(33, 200)], answer_of,
-          lambda case: case.roster()._replace(tasks=None, capacities=None)),
+          lambda case: case.roster()._replace(takes=None)),
          ("single, equal costs", [single(case) for case in drawings(34, 150, 2)], answer_of,
-          lambda case: case.roster()._replace(tasks=None, capacities=None)))
+          lambda case: case.roster()._replace(takes=None)))
 
 
 class Ranked(unittest.TestCase):

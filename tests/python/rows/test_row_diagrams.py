@@ -7,7 +7,7 @@ import time
 import unittest
 from unittest import mock
 
-from nushbaret.rows.check import shows_here
+from nushbaret.rows.certificate_check import shows_here
 from nushbaret.rows.model import Certificate, Limits, Model, flat
 import row_models as models
 
@@ -15,7 +15,7 @@ if models.scipy:
     import numpy as np
     from nushbaret.rows import diagrams, prices
     from nushbaret.rows.chains import Closing, chain
-    from nushbaret.rows.parts import Part
+    from nushbaret.rows.model_parts import Part
     from nushbaret.rows.prices import SCALE, Pricing
     from nushbaret.rows.trees import Open, Trees
 

@@ -10,7 +10,7 @@ import unittest
 from unittest import mock
 
 from nushbaret.rows import finding
-from nushbaret.rows.check import shows
+from nushbaret.rows.certificate_check import shows
 from nushbaret.rows.model import Model, Row
 import row_models as models
 
@@ -77,8 +77,8 @@ class Months(unittest.TestCase):
     """Months by prices and persons' trees, however small."""
 
     def setUp(self):
-        from nushbaret.rows import bounds
-        patched = mock.patch.object(bounds, "_SMALL", 0)
+        from nushbaret.rows import prover
+        patched = mock.patch.object(prover, "_SMALL", 0)
         patched.start()
         self.addCleanup(patched.stop)
 

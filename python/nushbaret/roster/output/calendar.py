@@ -5,7 +5,7 @@ from datetime import date, datetime, time, timedelta
 from typing import Iterator, List, NamedTuple, Optional, Sequence
 
 from ...lap.library import VERSION
-from ..times import Times
+from ..times_of_day import Times
 
 # Octets of a line, without its end.
 WIDEST = 75

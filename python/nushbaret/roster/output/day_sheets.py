@@ -4,7 +4,7 @@ import re
 from typing import Any, Dict, Iterator, List, NamedTuple, Optional, Sequence, Tuple
 
 from ..answer import NamedPlan
-from ..blocks import Block, Cell, Day, Staff, blocks_of
+from ..day_tables import Block, Cell, Day, Staff, blocks_of
 from ..roster import Roster
 from .page import MOST_CELLS
 from .sheet_looks import Looks, Marked, set_to_print, set_widths

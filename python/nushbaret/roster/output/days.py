@@ -4,7 +4,7 @@ from math import ceil
 from typing import FrozenSet, Iterator, List, NamedTuple, Optional, Sequence, Tuple
 
 from ..answer import NamedPlan
-from ..blocks import Block, Cell, Day, PersonRow, Staff, blocks_of
+from ..day_tables import Block, Cell, Day, PersonRow, Staff, blocks_of
 from ..roster import OldPlan, Roster
 from .html import classes, name, ours, scrolling
 

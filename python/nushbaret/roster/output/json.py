@@ -84,7 +84,7 @@ def _outside(roster: Roster, plan: NamedPlan) -> Content:
     """Who and what has less than it may, or than it must."""
     had, used = Counter(pair.person for pair in plan.pairs), Counter(pair.object for pair in plan.pairs)
     content: Content = {}
-    if roster.least is not None:
+    if roster.has_bounds:
         content["missing"] = [{("person", "object")[missing.side]: missing.name, "had": missing.had,
                                "least": missing.least} for missing in missing_of(roster, plan.pairs)]
     content["without"] = [{"person": roster.persons[person], "had": had[person], "most": roster.tasks_of(person)}

@@ -10,6 +10,7 @@ from ..names import MOST_NAMES, joined, shown_path
 from ..roster import Roster
 from .days import by_days
 from .html import LIGHT_SHADES, classes, document, name, scrolling, style_of, words
+from .month_page import by_month
 from .texts import Hand, Note, Report, broken_rules, first_lines, notes_of, persons_at, with_marks
 
 MOST_CELLS = 250_000
@@ -94,7 +95,7 @@ def page(report: Report, title: str) -> str:
     where even these have more than 250000 cells none is, and the page says so.
     """
     content = _plan_alone(report) if report.options.plan_only else _whole(report)
-    return "".join(document(title, style_of("page.css") + style_of("days.css") + SHADES_STYLE, content))
+    return "".join(document(title, style_of("page.css") + style_of("days.css") + style_of("month.css") + SHADES_STYLE, content))
 
 
 def _whole(report: Report) -> Iterator[str]:
@@ -105,6 +106,7 @@ def _whole(report: Report) -> Iterator[str]:
         if place < len(answer.groups):
             yield from _all_names(marked.roster, answer.groups[place])
     if answer.plan is not None:
+        yield from by_month(report, answer.plan)
         yield from _plan(report, answer.plan)
         yield from _folded(marked.roster, answer.plan)
         yield from _notes(notes_of(marked, answer.plan))
@@ -136,6 +138,7 @@ def _plan_alone(report: Report) -> Iterator[str]:
     plan = report.answer.plan
     if plan is None:
         raise ValueError("there is no plan")
+    yield from by_month(report, plan)
     yield from _plan(report, plan)
     yield from _folded(with_marks(report).roster, plan)
 

@@ -1,12 +1,13 @@
 """What is said of an answer to a roster with rules: exactly what was proved."""
-from typing import Callable, Dict, List, Optional
+from typing import Callable, Dict, Iterator, List, Optional, Tuple
 
 from ..answer import NamedPlan
-from ..by_rules import BEST, BY_COUNTS, Proved, Reason, Why
 from ..names import MOST_NAMES, joined
 from ..roster import Roster, decimal_text
-from ..rules_kept import Missed
-from ..shortages import MOST_LINES
+from ..rules.rules_kept import Missed
+from ..rules.short_sums import MOST_LINES
+from ..rules.stages import BEST, BY_COUNTS, IMPOSSIBLE, UNDECIDED, Next, Proved, Reason, Why
+from ..words import Options
 
 Content = Dict[str, object]
 
@@ -120,6 +121,39 @@ def even_lines(roster: Roster, proved: Proved, maximize: bool) -> List[str]:
     return lines
 
 
+def following_lines(roster: Roster, plan: NamedPlan, proved: Proved,
+                    options: Options) -> Iterator[Tuple[str, NamedPlan, Optional[NamedPlan]]]:
+    """A line on each of the next plans, with the first plan and that one, if there is one."""
+    sign = -1 if options.max else 1
+    first = sign * plan.cost + proved.missed_cost
+    for number, found in enumerate(proved.following, 2):
+        name = f"plan {number}" if options.plans > 1 else ""
+        yield _following_line(roster, name, found, first, proved, sign), plan, found.plan
+
+
+def _following_line(roster: Roster, name: str, found: Next, first: int, proved: Proved, sign: int) -> str:
+    """What is said of a next plan: its cost, beside that of the first, and what is proved of it."""
+    mark = f"{name}: " if name else ""
+    if found.plan is None:
+        few = " and misses no more" if proved.missing else ""
+        return mark + (f"no other plan keeps the rules{few}, proved" if found.is_none
+                       else f"no other plan was found in {proved.seconds:g} s")
+    cost = sign * found.plan.cost + found.missed_cost
+    more = cost - first
+    paid = roster.shown(sign * cost)
+    said = f"{paid}, " + (f"{roster.shown(abs(more))} {'more' if (more > 0) == (sign > 0) else 'less'}" if more
+                          else "as good")
+    if name:
+        end = ("" if found.better == 0 else ", not proved to be the next" if found.better is None
+               else f", proved: none of the others is more than {roster.shown(found.better)} better")
+        return f"{mark}{said}{end}"
+    if not more:
+        return f"another plan is as good: {paid}"
+    if found.better is None or found.better >= more:
+        return f"whether another plan is as good isn't decided; one is {said}"
+    return f"no other plan is as good, proved{': the next best' if not found.better else '; one'} is {said}"
+
+
 def missed_lines(roster: Roster, proved: Proved) -> List[str]:
     """What is missed of rules and counts with a price, and what that costs: a line for all, and one for each."""
     if not proved.has_prices:
@@ -165,8 +199,27 @@ def as_content(roster: Roster, proved: Proved) -> Content:
                               "cost": decimal_text(one.cost, roster.decimals, ".")} for one in proved.missed]
     if proved.even:
         content["even"], content["is_most_even"] = [even._asdict() for even in proved.even], proved.is_most_even
+    if proved.following:
+        content["following"] = [_next_content(roster, found) for found in proved.following]
     if proved.otherwise is not None and proved.otherwise_cost is not None:
         without = as_content(roster, proved.otherwise)
         without["cost"] = decimal_text(proved.otherwise_cost, roster.decimals, ".")
         content["without_evenness"] = without
+    return content
+
+
+def _next_content(roster: Roster, found: Next) -> Content:
+    """A next plan, for JSON: its pairs, what it costs and misses, and by how much others after it may be better."""
+    if found.plan is None:
+        return {"proved": IMPOSSIBLE if found.is_none else UNDECIDED}
+    cost = found.plan.cost
+
+    def text(units: int) -> str:
+        return decimal_text(units, roster.decimals, ".")
+
+    pairs = [{"person": roster.persons[pair.person], "object": roster.objects[pair.object], "cost": text(pair.cost)}
+             for pair in found.plan.pairs]
+    content: Content = {"cost": text(cost), "missed_cost": text(found.missed_cost), "pairs": pairs}
+    if found.better is not None:
+        content["better"] = text(found.better)
     return content

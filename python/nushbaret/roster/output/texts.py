@@ -14,7 +14,8 @@ from ..sheets import SEPARATORS
 from ..words import Options
 
 if TYPE_CHECKING:
-    from ..by_rules import Proved
+    from ..rules.ruling import Ruling
+    from ..rules.stages import Proved
 
 
 class Hand(NamedTuple):
@@ -34,8 +35,8 @@ class Hand(NamedTuple):
 
 
 class Report(NamedTuple):
-    """All that is said of a run: what was asked for, the answer, the plans that were read, what fairness costs, and
-    what was proved of a roster with rules."""
+    """All that is said of a run: what was asked for, the answer, the plans that were read, what fairness costs, what
+    was proved of a roster with rules, and the rules."""
 
     options: Options
     roster: Roster
@@ -44,6 +45,7 @@ class Report(NamedTuple):
     hand: Optional[Hand] = None
     fair: Optional[Fair] = None
     proved: Optional["Proved"] = None
+    ruling: Optional["Ruling"] = None
 
     @property
     def alarms(self) -> int:
@@ -118,7 +120,7 @@ def _rule(roster: Roster) -> str:
     """Which rule decides, where names may count several times."""
     if not roster.ruled:
         return ""
-    return ("; single counts: the side with the smaller sum takes all" if roster.least is None
+    return ("; single counts: the side with the smaller sum takes all" if not roster.has_bounds
             else "; bounds: each name's counts are kept")
 
 
@@ -129,7 +131,7 @@ def forgotten_line(roster: Roster, counts: Counts, side: int) -> Optional[str]:
     numbers = [number for number in range(len(names)) if number not in counts.bounds]
     if not numbers:
         return None
-    bound = "" if roster.least is None else "exactly " if side else "at most "
+    bound = "" if not roster.has_bounds else "exactly " if side else "at most "
     takes = "takes" if len(numbers) == 1 else "each takes"
     return f"{shown_path(counts.path)}: no line for {named(numbers, roster.titles[side], names)}: {takes} {bound}one"
 
@@ -161,7 +163,7 @@ def _cost_line(report: Report, plan: NamedPlan) -> str:
     roster, options = report.roster, report.options
     which, title, own = "greatest" if options.max else "least", roster.titles[2], roster.shown(plan.cost)
     if report.answer.groups:
-        title += f" of {len(plan.pairs)} pairs" + ("" if roster.least is None else " that miss least")
+        title += f" of {len(plan.pairs)} pairs" + (" that miss least" if roster.has_bounds else "")
     title += _bound(report, report.fair) if report.fair else ""
     if options.change_cost is not None:
         return f"{title}: {own}, the {which} with changes at {options.change_cost} each"
@@ -177,7 +179,7 @@ def _rounding_line(report: Report, plan: NamedPlan) -> str:
         return "costs were rounded, and nothing is proved for the exact ones"
     with_changes = report.options.change_cost is not None
     fixed = sum(pair.fixed for pair in plan.pairs)
-    most = len(plan.pairs) if roster.least is None and proved is None else _most_pairs(roster, plan)
+    most = len(plan.pairs) if not roster.has_bounds and proved is None else _most_pairs(roster, plan)
     half_units = len(plan.pairs) + most - 2 * fixed + (better if with_changes else 2 * better)
     counted_in = " with changes" if with_changes else ""
     return (f"costs were rounded: another plan may be better for the exact ones{counted_in}, by "
@@ -225,8 +227,8 @@ def notes_of(report: Report, plan: NamedPlan) -> List[Note]:
     """Other plans, the rents, and how the plan compares with plans that were read."""
     roster, options = report.roster, report.options
     notes = [fairness(report, report.fair)] if report.fair else []
-    notes += others(report, plan) if report.proved is None else _of_rules(report, report.proved)
-    if options.plans > 1:
+    notes += others(report, plan) if report.proved is None else _of_rules(report, plan, report.proved)
+    if options.plans > 1 and report.proved is None:
         notes += [_difference(report, plan, other, f"plan {number}") for number, other in enumerate(plan.following, 2)]
     if options.rents:
         notes += [Note(f"rent of {roster.objects[number]}: {roster.shown(rent)}")
@@ -235,14 +237,16 @@ def notes_of(report: Report, plan: NamedPlan) -> List[Note]:
     return notes + broken_rules(report.hand) + ([compared(report, plan, report.hand)] if report.hand else [])
 
 
-def _of_rules(report: Report, proved: "Proved") -> List[Note]:
-    """How even counts are, and whether fewer changes may be enough."""
-    from .rule_texts import even_lines, missed_lines
+def _of_rules(report: Report, plan: NamedPlan, proved: "Proved") -> List[Note]:
+    """How even counts are, whether fewer changes may be enough, and the next plans."""
+    from .rule_texts import even_lines, following_lines, missed_lines
     missed = missed_lines(report.roster, proved)
     fewer = ([Note(f"{shown_path(report.kept.path)}: fewer changes may be enough")]
              if report.kept and proved.fewer_changes else [])
     return [*([Note(missed[0], missed[1:])] if missed else []),
-            *map(Note, even_lines(report.roster, proved, report.options.max)), *fewer]
+            *map(Note, even_lines(report.roster, proved, report.options.max)), *fewer,
+            *(Note(line, there(report.roster, before, plan.pairs) if plan else ())
+              for line, before, plan in following_lines(report.roster, plan, proved, report.options))]
 
 
 def rows_of(roster: Roster, plan: NamedPlan) -> List[str]:
@@ -275,7 +279,7 @@ def persons_at(roster: Roster, plan: NamedPlan) -> List[Tuple[int, List[str]]]:
 
 def _times(roster: Roster, count: int) -> str:
     """How often a name is used, where that isn't once and isn't what its count says."""
-    return f" ({count})" if count != 1 and (roster.least is not None or roster.groups is not None) else ""
+    return f" ({count})" if count != 1 and (roster.has_bounds or roster.groups is not None) else ""
 
 
 def pair_text(roster: Roster, pair: Pair) -> str:
@@ -316,10 +320,10 @@ def _difference(report: Report, plan: NamedPlan, other: NamedPlan, name: str, ma
     more = abs(other.cost - plan.cost)
     cost = f"{roster.shown(other.cost)}, " + (f"{roster.shown(more)} {'less' if report.options.max else 'more'}" if more
                                               else "as good")
-    return Note(f"{name}{mark}{cost}", _there(roster, plan, other.pairs))
+    return Note(f"{name}{mark}{cost}", there(roster, plan, other.pairs))
 
 
-def _there(roster: Roster, plan: NamedPlan, pairs: Sequence[Pair]) -> List[str]:
+def there(roster: Roster, plan: NamedPlan, pairs: Sequence[Pair]) -> List[str]:
     """What each person has in another plan that it hasn't in the plan; that it has nothing there; and where names
     count, what it hasn't."""
     own, others = ({(pair.person, pair.object) for pair in those} for those in (plan.pairs, pairs))

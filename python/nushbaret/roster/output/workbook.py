@@ -10,6 +10,7 @@ from ..files import OutputFault
 from ..names import shown_path
 from ..roster import PLAN_SHEET, Roster, decimal_text
 from .day_sheets import add_days
+from .month_workbook import add_month
 from .page import MOST_CELLS, costs_by_person, frame_of
 from .sheet_looks import FONT, LETTER_HEIGHT, LINE_HEIGHT, SHORT, Looks, letter, put_text, set_to_print
 from .texts import Report
@@ -40,6 +41,7 @@ def as_xlsx(report: Report, plan: NamedPlan) -> bytes:
     for sheet in book.worksheets[:2]:
         _fit(sheet)
     add_days(book, Looks(openpyxl.styles), report, plan)
+    add_month(book, openpyxl.styles, report, plan)
     book.active = 0
     held = io.BytesIO()
     book.save(held)

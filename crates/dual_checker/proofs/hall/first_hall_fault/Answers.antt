@@ -11,8 +11,8 @@ returns-in-Some c =
     let missing = c.in-Some.ensures in (
       c.are_in_range.ensures.0 c.if-not-are_in_range.false,
       c.are_rising.ensures.0 c.if-not-are_rising.false,
-      told_lacking rows persons objects m c.args.named.now c.mark_objects.new.marks c.requires.named c.mark_objects.ensures (length rows) _ missing.0,
-      told_unnamed rows persons objects m c.args.named.now c.mark_objects.new.marks c.requires.named c.mark_objects.ensures m _ _ missing.1,
+      told_lacking rows persons objects m c.args.named.now c.mark_numbers.new.marks c.requires.named c.mark_numbers.ensures (length rows) _ missing.0,
+      told_unnamed rows persons objects m c.args.named.now c.mark_numbers.new.marks c.requires.named c.mark_numbers.ensures m _ _ missing.1,
     )
 
 pub returns-in-Some-first_unmarked : goal.returns-in-Some-first_unmarked
@@ -24,7 +24,7 @@ returns-in-Some-first_unmarked c =
     let range = c.are_in_range.ensures.0 c.if-not-are_in_range.false in (
       range,
       c.are_rising.ensures.0 c.if-not-are_rising.false,
-      told_neighbours rows persons objects m c.args.named.now c.mark_objects.new.marks c.requires.named c.mark_objects.ensures c.in_default.ensures,
+      told_neighbours rows persons objects m c.args.named.now c.mark_numbers.new.marks c.requires.named c.mark_numbers.ensures c.in_default.ensures,
       told_extra rows persons objects m c.args.listed.now c.mark_listed.new.marks c.requires.listed
           c.mark_listed.ensures m (length c.mark_listed.new.marks) c.in-Some-first_unmarked.object range.1
           c.in-Some-first_unmarked.ensures,
@@ -36,8 +36,8 @@ returns-then-objects-persons c =
     let persons = c.args.persons.now in
     let objects = c.args.objects.now in
     let m = (length c.args.problem.now) in
-    let near = told_neighbours rows persons objects m c.args.named.now c.mark_objects.new.marks c.requires.named
-    c.mark_objects.ensures c.in_default.ensures in (
+    let near = told_neighbours rows persons objects m c.args.named.now c.mark_numbers.new.marks c.requires.named
+    c.mark_numbers.ensures c.in_default.ensures in (
       c.are_in_range.ensures.0 c.if-not-are_in_range.false,
       c.are_rising.ensures.0 c.if-not-are_rising.false,
       told_equal rows persons objects m c.args.listed.now c.mark_listed.new.marks c.requires.listed
@@ -53,7 +53,7 @@ returns c =
     let m = (length c.args.problem.now) in
     let range = c.are_in_range.ensures.0 c.if-not-are_in_range.false in
     let rise = c.are_rising.ensures.0 c.if-not-are_rising.false in
-    let near = told_neighbours rows persons objects m c.args.named.now c.mark_objects.new.marks c.requires.named c.mark_objects.ensures c.in_default.ensures in
+    let near = told_neighbours rows persons objects m c.args.named.now c.mark_numbers.new.marks c.requires.named c.mark_numbers.ensures c.in_default.ensures in
     record {
       persons_rise = rise.0;
       objects_rise = rise.1;

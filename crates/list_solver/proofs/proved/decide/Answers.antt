@@ -4,7 +4,7 @@ use Rattle.hungarian.specs.Outcomes.{IsOutcome}
 use Rattle.list_solver.proofs.proved.decide.Goals as goal
 
 -- the objects are as many as before, since both are as many as the persons
-pub returns-in-Best-clause-objects : goal.returns-in-Best-clause-objects
-returns-in-Best-clause-objects c =
+pub returns-in_ok-total-in-Best-clause-objects : goal.returns-in_ok-total-in-Best-clause-objects
+returns-in_ok-total-in-Best-clause-objects c =
     let best = subst (IsOutcome c.args.lists.now) c.in-Best.is c.in_ok-best.ensures in
     AllZip-long _ _ _ best.assigned.listed ∙ sym c.requires.objects

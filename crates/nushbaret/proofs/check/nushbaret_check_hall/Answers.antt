@@ -2,9 +2,9 @@ use Rattle.std.proofs.Common.{SFits, inl, rules, subst, ◌∙◌}
 use Rattle.std.specs.Int.{w32}
 use Rattle.std.proofs.lemmas.Int.{to_z-of_z}
 use Rattle.exact_checker.specs.HallVerdicts.{IsHallVerdict}
-use Rattle.lent_lists.specs.declared.form.Form.{Form}
-use Rattle.lent_lists.specs.Faults.{IsOfGiven}
-use Rattle.lent_lists.specs.Given.{problem_alone}
+use Rattle.c_calls.specs.declared.lists.form.Form.{Form}
+use Rattle.c_calls.specs.lists.Faults.{IsOfGiven}
+use Rattle.c_calls.specs.lists.Given.{problem_alone}
 use Rattle.nushbaret.proofs.check.nushbaret_check_hall.Goals as goal
 
 pub returns-in-Ok : goal.returns-in-Ok

@@ -1,0 +1,4 @@
+pub mod Sizes
+pub mod Codes
+pub mod lists
+pub mod doubles

@@ -1,0 +1,5 @@
+pub mod Given
+pub mod Faults
+pub mod Answers
+pub mod Ends
+pub mod Checks

@@ -1,0 +1,6 @@
+pub mod Given
+pub mod Faults
+pub mod Shapes
+pub mod Ends
+pub mod Answers
+pub mod Checks

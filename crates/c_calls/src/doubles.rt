@@ -1,0 +1,19 @@
+// Costs in doubles, row by row.
+mod answer;
+mod check;
+mod codes;
+mod costs;
+mod given;
+mod info;
+mod judge;
+mod law;
+mod marks;
+mod solve;
+
+pub use check::check_given;
+pub use codes::refuse;
+pub use costs::judge_costs;
+pub use given::Given;
+pub use info::DoublesInfo;
+pub use law::marked_plans_stay_best;
+pub use solve::{solve_from, solve_given};

@@ -1,0 +1,21 @@
+// Whole costs: row by row, or in listed pairs.
+mod answer;
+mod check;
+mod codes;
+mod costs;
+mod form;
+mod given;
+mod info;
+mod judging;
+mod rule;
+mod solve;
+mod standing;
+
+pub use check::{hall_verdict_on, report_hall_verdict, report_verdict, verdict_on};
+pub use codes::refuse;
+pub use costs::lists_of;
+pub use form::{Form, form_of};
+pub use given::Given;
+pub use info::Info;
+pub use judging::judge;
+pub use solve::{solve_from, solve_given};

@@ -1,8 +1,0 @@
-use Rattle.std.proofs.Common.{◌≡◌, slice_index}
-use Rattle.dual_checker.specs.HallMarks.{AddsMarks}
-use Rattle.dual_checker.proofs.HallMarking.{Earlier}
-use Rattle.dual_checker.proofs.hall_marks.mark_objects.Given as goal
-
--- the objects that were passed are marked
-abbrev pub invariant-loop-object : goal.invariant-loop-object
-invariant-loop-object l = AddsMarks l.initial.marks (Earlier (λ k j. slice_index l.objects k ≡ j) l.object-index) l.marks

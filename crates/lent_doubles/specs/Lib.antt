@@ -1,6 +1,0 @@
-pub mod Given
-pub mod Faults
-pub mod Codes
-pub mod Answers
-pub mod Ends
-pub mod Checks

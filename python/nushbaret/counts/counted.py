@@ -1,0 +1,190 @@
+"""Problems with counts, and the library's calls on them, by ctypes."""
+import ctypes
+import sys
+from array import array
+from itertools import chain, compress
+from operator import itemgetter, le
+from typing import Any, Dict, Iterator, List, NamedTuple, NoReturn, Sequence, Tuple, Union
+
+from ..costs.limits import GREATEST_COST, MOST_PERSONS, Numbers
+from ..costs.problem import TooLarge
+from ..lap.library import PIECES, Pace, address, address_and_count, look_at_time, progress_asked
+
+Pair = Tuple[int, int]
+# A row and a group of which it takes at most one column.
+RowGroup = Tuple[int, int]
+MOST_PAIRS = 2**30
+
+
+class Bounds(NamedTuple):
+    """How many a row or a column takes."""
+
+    least: int
+    most: int
+
+
+class Counted(NamedTuple):
+    """The pairs that may be made, none twice and rows rising, and their costs, whose sum is to be least; how many
+    columns each row takes, and how many rows each column; and the group of each column, of which a row takes at most
+    one. Groups that were given have the numbers below `n_groups`; a column k in none of them is alone in the group
+    `n_groups` + k. Rows, columns and costs are lists, arrays, or all arrays of NumPy's."""
+
+    row_bounds: Sequence[Bounds]
+    column_bounds: Sequence[Bounds]
+    group_of: Sequence[int]
+    n_groups: int
+    rows: Any
+    columns: Any
+    costs: Any
+
+    def listed(self) -> "Counted":
+        """The same in lists of Python's numbers."""
+        return self._replace(rows=_listed(self.rows), columns=_listed(self.columns), costs=_listed(self.costs))
+
+    def row_groups(self) -> Iterator[RowGroup]:
+        """The row group of each pair, in their order."""
+        return zip(self.rows, map(self.group_of.__getitem__, self.columns))
+
+    def most_pairs(self) -> int:
+        """No plan has more pairs."""
+        return min(len(self.rows), *(sum(bound.most for bound in bounds)
+                                     for bounds in (self.row_bounds, self.column_bounds)))
+
+    def in_range(self) -> bool:
+        """Whether the library takes the costs."""
+        costs = self.costs
+        if hasattr(costs, "dtype"):
+            return not costs.size or -GREATEST_COST <= int(costs.min()) <= int(costs.max()) <= GREATEST_COST
+        return -GREATEST_COST <= min(costs, default=0) and max(costs, default=0) <= GREATEST_COST
+
+    def pairs_of(self, plan: Any) -> List[Pair]:
+        """The pairs of a plan, which has a byte for each."""
+        if hasattr(self.rows, "dtype"):
+            places = sys.modules["numpy"].frombuffer(plan, "uint8").nonzero()[0]
+            return list(zip(self.rows[places].tolist(), self.columns[places].tolist()))
+        return list(zip(compress(self.rows, plan), compress(self.columns, plan)))
+
+
+def _listed(values: Any) -> List[int]:
+    return values if isinstance(values, list) else list(values.tolist())
+
+
+class Best(NamedTuple):
+    """A best plan, which has a byte for each pair, and the numbers of rows and columns that prove it.
+
+    With e = cost - row's number - column's number each chosen pair has e <= 0, and the least e that its row lists in
+    its group; each other pair has e >= 0, or its row has chosen another column of its group; a number is above 0 only
+    where its count is the least, and below 0 only where it is the greatest."""
+
+    plan: Any
+    row_numbers: Sequence[int]
+    column_numbers: Sequence[int]
+
+
+class Marked(NamedTuple):
+    """A proof that there is no plan: rows (or columns) whose least counts come to more than they can have, marked by a
+    byte each, and the columns (or rows) that limit them."""
+
+    of_columns: bool
+    rows: Any
+    columns: Any
+
+
+# The library's codes that aren't faults of its lists.
+_BEST, _ROWS_LACK, _COLUMNS_LACK, _MEMORY, _STOPPED = 0, 1, 2, 15, 16
+_MOST_COUNT = 2**32 - 1
+# Lists that are given and written; then the sense comes first, and in the end a budget, a record and an info.
+_LISTS = 13
+_call: List[Any] = []
+
+
+class _Record(ctypes.Structure):
+    _fields_ = [("state", ctypes.c_uint64 * 8)]
+
+
+class _Info(ctypes.Structure):
+    _fields_ = [("total_high", ctypes.c_int64)] + [(name, ctypes.c_uint64) for name in ("total_low", "place", "row",
+                                                                                        "column")]
+
+
+def _loaded() -> Any:
+    if not _call:
+        lists = [ctypes.c_void_p, ctypes.c_size_t] * _LISTS
+        prototype = ctypes.CFUNCTYPE(ctypes.c_int32, ctypes.c_uint32, *lists, ctypes.c_uint64, ctypes.c_void_p,
+                                     ctypes.c_void_p)
+        _call.append(prototype(address("nushbaret_counts_from")))
+    return _call[0]
+
+
+def _from_one(values: Any) -> Any:
+    """Numbers from 0 as those from 1."""
+    if hasattr(values, "dtype"):
+        return (values + 1).astype("uint32")
+    return array("I", [value + 1 for value in values])
+
+
+def _counts(bounds: Sequence[Bounds], side: int) -> Numbers:
+    counts = list(map(itemgetter(side), bounds))
+    return array("I", counts if max(counts) <= _MOST_COUNT else [min(count, _MOST_COUNT) for count in counts])
+
+
+def _given(counted: Counted) -> List[Any]:
+    """The lists of a problem as the library takes them."""
+    costs = counted.costs
+    costs = costs.astype("int64", copy=False) if hasattr(costs, "dtype") else array("q", costs)
+    numbers: Dict[int, int] = {}
+    groups = array("I", [numbers.setdefault(group, len(numbers) + 1) if group < counted.n_groups else 0
+                         for group in counted.group_of] if counted.n_groups else ())
+    return [_from_one(counted.rows), _from_one(counted.columns), costs, *(_counts(bounds, side) for bounds in (
+        counted.row_bounds, counted.column_bounds) for side in range(2)), groups]
+
+
+def solved(counted: Counted, is_part: bool = False) -> Union[Best, Marked]:
+    """The library's answer to a problem whose costs are in its range. The search is done in pieces, as others are;
+    unless it is part of another one, `progress` is called with how many rows have their least count, and at least one
+    pair if they take any."""
+    n, m, pairs = len(counted.row_bounds), len(counted.column_bounds), len(counted.rows)
+    if not n or not m:
+        return _of_one_side(counted)
+    if max(n, m) > MOST_PERSONS or pairs > MOST_PAIRS:
+        raise TooLarge(f"{n} rows, {m} columns and {pairs} pairs: at most {MOST_PERSONS} of each and {MOST_PAIRS} "
+                       "pairs are possible")
+    given = _given(counted)
+    plan, marks = array("B", bytes(pairs)), (array("B", bytes(n)), array("B", bytes(m)))
+    numbers = array("q", bytes(8 * n)), array("q", bytes(8 * m))
+    words = list(chain.from_iterable(map(address_and_count, (*given, plan, *numbers, *marks))))
+    record, info, pace = _Record(), _Info(), Pace(PIECES["counts"], pairs)
+    code = _STOPPED
+    while code == _STOPPED:
+        look_at_time()
+        code = _loaded()(0, *words, pace.budget(), ctypes.addressof(record), ctypes.addressof(info))
+        if code in (_BEST, _STOPPED) and not is_part:
+            show_progress(counted, plan)
+    if code == _BEST:
+        return Best(plan, *numbers)
+    return Marked(code == _COLUMNS_LACK, *marks) if code in (_ROWS_LACK, _COLUMNS_LACK) else _refuse(code)
+
+
+def _of_one_side(counted: Counted) -> Union[Best, Marked]:
+    """The answer where there are no rows, or no columns."""
+    needs = [array("B", [bound.least > 0 for bound in bounds]) for bounds in (counted.row_bounds,
+                                                                              counted.column_bounds)]
+    if any(map(any, needs)):
+        return Marked(any(needs[1]), *needs)
+    return Best(array("B"), *(array("q", bytes(8 * len(own))) for own in needs))
+
+
+def show_progress(counted: Counted, plan: Any) -> None:
+    """Calls `progress`, where it was asked for."""
+    progress = progress_asked()
+    if progress is not None:
+        had = [0] * len(counted.row_bounds)
+        for row, _ in counted.pairs_of(plan):
+            had[row] += 1
+        progress(sum(map(le, (min(max(least, 1), most) for least, most in counted.row_bounds), had)), len(had))
+
+
+def _refuse(code: int) -> NoReturn:
+    if code == _MEMORY:
+        raise MemoryError("the library was refused memory")
+    raise RuntimeError(f"the library gives no answer to counts, by its code {code}: please report this problem")
