@@ -3,7 +3,7 @@
 in one run: the least of several turns, in the thread's processor time. PYTHONPATH=python, with NumPy and SciPy; pandas
 where it is there.
 
-    bench/doors.py [kinds|single|whole|doubles|sparse|thresholds ..]
+    bench/doors.py [kinds|single|whole|doubles|sparse|unmatched|thresholds ..]
 """
 import ctypes
 import sys
@@ -150,6 +150,23 @@ def sparse():
                   f"({found['own'] * 1e6:.0f} us)")
 
 
+def unmatched():
+    """unmatched_cost by SciPy's call on a matrix with dummies of the caller's."""
+    limit = 0.3
+    for n in (10, 20, 50, 100, 300):
+        costs = RNG.random((n, n))
+
+        def dummies():
+            more = np.full((2 * n, 2 * n), limit / 2)
+            more[:n, :n], more[n:, n:] = costs, 0
+            rows, columns = scipys(more)
+            own = (rows < n) & (columns < n)
+            return rows[own], columns[own]
+        found = least({"own": lambda: nushbaret.linear_sum_assignment(costs, unmatched_cost=limit), "scipy": dummies})
+        print(f"unmatched_cost, n = {n}: {found['own'] / found['scipy']:.2f} of SciPy's with dummies "
+              f"({found['own'] * 1e6:.0f} us)")
+
+
 def thresholds():
     """Whole numbers by the doubles' call and by their own, through ctypes: where the second is sooner."""
     call = ctypes.CFUNCTYPE(ctypes.c_int32, ctypes.c_uint32, *[ctypes.c_size_t] * 2,
@@ -169,5 +186,5 @@ def thresholds():
 
 
 if __name__ == "__main__":
-    for part in sys.argv[1:] or ("kinds", "single", "whole", "doubles", "sparse"):
+    for part in sys.argv[1:] or ("kinds", "single", "whole", "doubles", "sparse", "unmatched"):
         globals()[part]()

@@ -4,7 +4,7 @@
 
 The costs of 20,000 x 20,000 points would take 3.2 GB; they are made where they are looked at, and this takes some 300
 MB. With the address of a scheduler of Dask its workers look, else this process does. It needs NumPy, and shows its
-passes by tqdm where that is there. """
+passes by tqdm where that is there."""
 import sys
 
 import numpy
@@ -41,15 +41,15 @@ def progress():
     return show
 
 
-def many_problems(client, count: int) -> int:
-    """The sum of the least costs of many problems of 12 x 12. A task takes some milliseconds, and a problem some
-    microseconds: so each task makes and solves ten thousand of them."""
+def many_problems(client, count: int, together: int = 100000) -> int:
+    """The sum of the least costs of many problems of 12 x 12. A task costs as much as a thousand of them: so each task
+    makes and solves a hundred thousand, in half a second."""
     def batch(seed: int) -> int:
         import nushbaret
-        costs = numpy.random.default_rng(seed).integers(0, 100, (10000, 12, 12))
-        rows, columns = nushbaret.linear_sum_assignment_batch(costs)
-        return int(numpy.take_along_axis(costs, numpy.asarray(columns)[:, :, None], 2).sum())
-    return sum(client.gather(client.map(batch, range(count // 10000))))
+        costs = numpy.random.default_rng(seed).integers(0, 100, (together, 12, 12), numpy.int16)
+        columns = nushbaret.linear_sum_assignment_batch(costs)[1]
+        return int(numpy.take_along_axis(costs, numpy.asarray(columns)[:, :, None], 2).sum(dtype=int))
+    return sum(client.gather(client.map(batch, range(count // together))))
 
 
 def main() -> None:
@@ -60,7 +60,7 @@ def main() -> None:
     from distributed import Client
     with Client(sys.argv[2]) as client:
         print(beyond.solve(costs, costs.shape, client, progress=progress()))
-        print("a hundred thousand small problems:", many_problems(client, 100000))
+        print("a million small problems:", many_problems(client, 10**6))
 
 
 if __name__ == "__main__":

@@ -29,10 +29,9 @@ if TYPE_CHECKING:
     from .api.infeasible import Infeasible, Shortage
     from .api.pairs import solve_pairs
     from .api.plans import k_best
-    from .api.results import Plan, Result
+    from .api.results import Plan, Result, Verdict
     from .api.rosters import RosterPlan, plan_roster
     from .api.solve import linear_sum_assignment, solve, solve_sparse
-    from .api.verdicts import Verdict
     from .costs.limits import GREATEST_COST, MOST_PERSONS
     from .lap.library import VERSION as __version__, LibraryNotFound
 
@@ -52,10 +51,9 @@ _MODULES = {
     "api.infeasible": ("Infeasible", "Shortage"),
     "api.pairs": ("solve_pairs",),
     "api.plans": ("k_best",),
-    "api.results": ("Plan", "Result"),
+    "api.results": ("Plan", "Result", "Verdict"),
     "api.rosters": ("RosterPlan", "plan_roster"),
     "api.solve": ("solve", "solve_sparse"),
-    "api.verdicts": ("Verdict",),
     "costs.limits": ("GREATEST_COST", "MOST_PERSONS"),
     "lap.library": ("VERSION", "LibraryNotFound"),
 }

@@ -52,6 +52,10 @@ unsigned drawn(unsigned *seed);
 int is_right(unsigned *seed);
 int is_deep_right(void);
 
+/* Whether counts are: a worked problem, and a school whose search is long. */
+int are_counts_right(void);
+int is_school_right(void);
+
 void test_answers(void);
 void test_faults(void);
 void test_verdicts(void);

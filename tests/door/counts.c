@@ -1,4 +1,5 @@
-/* Counts: worked problems, each growth refused in turn, budgets of one look, and records that hold anything. */
+/* Counts: worked problems, each growth of each call refused in turn, budgets of one look, records that hold anything, and
+   what threads.c calls. */
 #include "calls.h"
 
 enum { ROWS = 3, COLUMNS = 2, LISTED = 6 };
@@ -91,19 +92,37 @@ static void answered(void) {
     WANT(solved(&c) == NUSHBARET_COUNTS_ROWS_LACK && short_of(&c, NUSHBARET_COUNTS_ROWS_LACK) == NUSHBARET_COUNTS_ROWS_LACK);
 }
 
-static void refused(void) {
+static int32_t from_start(struct counts *c) { return from(c, 0); }
+static int32_t short_of_rows(struct counts *c) { return short_of(c, NUSHBARET_COUNTS_ROWS_LACK); }
+
+/* Each growth of a call refused in turn: the buffers, the record and the infos stay as they were. */
+static void refused(const char *name, int32_t (*call)(struct counts *), struct counts given) {
     long k;
     for (k = 1;; k++) {
-        struct counts c = worked(), before = c;
+        struct counts c = given, before = given;
         int32_t code;
         growths = 0, refuse_at = k;
-        code = solved(&c);
+        code = call(&c);
         refuse_at = 0;
         if (growths < k) break;
         WANT(code == NUSHBARET_COUNTS_MEMORY && memcmp(&c, &before, sizeof c) == 0);
     }
     WANT(k > 1);
-    printf("counts: %ld growths\n", k - 1);
+    printf("%s: %ld growths\n", name, k - 1);
+}
+
+static void all_refused(void) {
+    struct counts c = worked();
+    refused("counts", solved, c);
+    refused("counts from nothing", from_start, c);
+    c.column_most[1] = 0;
+    refused("counts without a plan", solved, c);
+    c = worked(), c.listed = 0;
+    refused("dense counts", solved, c);
+    refused("check_counts", checked, c);
+    refused("check_shortage", short_of_rows, c);
+    c = worked(), c.groups[0] = 1, c.groups[1] = 1, c.groups_count = COLUMNS;
+    refused("counts with groups", solved, c);
 }
 
 static void in_pieces(void) {
@@ -122,9 +141,37 @@ static void in_pieces(void) {
     }
 }
 
+/* Persons and projects of ten places each at costs i * j: the greatest sum has the dearest ten at the dearest project. */
+enum { PERSONS = 300, PLACES = 10, PROJECTS = PERSONS / PLACES };
+static int64_t school_costs[PERSONS * PROJECTS], school_rows[PERSONS], school_columns[PROJECTS];
+static uint32_t school_one[PERSONS], school_none[PROJECTS], school_places[PROJECTS];
+static uint8_t school_plan[PERSONS * PROJECTS], school_row_marks[PERSONS], school_column_marks[PROJECTS];
+
+int is_school_right(void) {
+    struct nushbaret_counts_info info;
+    uint64_t sum = 0;
+    size_t i, j;
+    int32_t code;
+    for (i = 0; i < PERSONS; i++)
+        for (j = 0; j < PROJECTS; j++) school_costs[i * PROJECTS + j] = (int64_t)((i + 1) * (j + 1));
+    for (i = 0; i < PERSONS; i++) school_one[i] = 1, sum += (i + 1) * (i / PLACES + 1);
+    for (j = 0; j < PROJECTS; j++) school_places[j] = PLACES;
+    code = nushbaret_counts(NUSHBARET_MAX, school_one, 0, school_one, 0, school_costs, PERSONS * PROJECTS,
+        school_one, PERSONS, school_one, PERSONS, school_none, PROJECTS, school_places, PROJECTS, school_none, 0,
+        school_plan, PERSONS * PROJECTS, school_rows, PERSONS, school_columns, PROJECTS,
+        school_row_marks, PERSONS, school_column_marks, PROJECTS, &info);
+    return code == NUSHBARET_COUNTS_BEST && info.total_high == 0 && info.total_low == sum && blocks == 0;
+}
+
+/* The worked problem, in the stack of its thread. */
+int are_counts_right(void) {
+    struct counts c = worked();
+    return solved(&c) == NUSHBARET_COUNTS_BEST && c.info.total_low == 4 && checked(&c) == NUSHBARET_COUNTS_BEST;
+}
+
 void test_counts(void) {
     judged();
     answered();
-    refused();
+    all_refused();
     in_pieces();
 }

@@ -13,3 +13,5 @@ pub mod Taking
 pub mod Apart
 pub mod Lacking
 pub mod Verdicts
+pub mod Picked
+pub mod OnesLaw

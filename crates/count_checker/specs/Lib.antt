@@ -6,3 +6,4 @@ pub mod ListFaults
 pub mod CountFaults
 pub mod Shortages
 pub mod inside
+pub mod Ones

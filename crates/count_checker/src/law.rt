@@ -4,6 +4,7 @@ ghost use Rattle.count_checker.specs.Counts.{CountProblem, IsBestPlan, IsCountPr
 ghost use Rattle.count_checker.specs.CountPrices.{AreCountPrices};
 ghost use Rattle.count_checker.specs.CountSets.{ColumnsLack, RowsLack};
 ghost use Rattle.count_checker.specs.CountFaults.{CountVerdictsDiffer};
+ghost use Rattle.count_checker.specs.Ones.{OnesAreAssignments};
 ghost use Rattle.count_checker.specs.Shortages.{ShortageVerdictsDiffer};
 
 /// No plan that keeps counts and groups is better than one with these numbers of rows and columns: weak
@@ -32,4 +33,11 @@ pub fn one_count_verdict()
 /// At most one verdict holds of marks of rows and columns.
 pub fn one_shortage_verdict()
     ensures { ShortageVerdictsDiffer }
+{}
+
+/// Where each row takes exactly one column, each column goes to at most one row and none has a group, the
+/// plans are those of the one-to-one problem's assignments: each assignment is that of one plan, and each
+/// plan that of an assignment, with the same cost, and the one is best just where the other is.
+pub fn ones_are_assignments()
+    ensures { OnesAreAssignments }
 {}

@@ -21,6 +21,7 @@ pub use checked::CheckedLists;
 pub use checker::check;
 pub use law::{
     count_prices_mean_best, count_sets_leave_no_plan, one_count_verdict, one_shortage_verdict,
+    ones_are_assignments,
 };
 pub use list_fault::ListFault;
 pub use lists::CountLists;

@@ -3,7 +3,7 @@ use super::offers::{Offer, select};
 use super::problem::{Problem, Row};
 use super::state::{State, count_chosen};
 use super::values::{FAR, count_at, set_byte, set_count};
-use sparse_search::{NOBODY, place_at};
+use sparse_search::place_at;
 use std::alloc::{AllocError, Global};
 
 /// What rows are offered, one after another.
@@ -56,7 +56,7 @@ fn plain_range_of(state: &State, row: Row<'_>) -> Range {
 // The same with groups, of which those that a row takes aren't open.
 fn grouped_range_of(state: &mut State, row: Row<'_>) -> Range {
     let stamp = state.next_stamp();
-    state.mark_taken(row, NOBODY, stamp);
+    state.mark_taken(row, stamp);
     let mut range = NO_RANGE;
     let pairs = row.columns.iter().zip(row.costs).zip(state.chosen(row));
     for ((column, cost), byte) in pairs {

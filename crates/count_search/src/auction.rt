@@ -1,5 +1,6 @@
 // The auction with similar slots (Bertsekas and Castañon 1989): what a phase of it holds, and how slots
 // change hands. Values are costs times a scale, and prices are in that unit.
+use super::groups::Groups;
 use super::offers::Offer;
 use super::queue::Queue;
 use super::slots::{Slot, Slots};
@@ -49,6 +50,7 @@ pub struct Auction {
     pub queue: Queue,
     pub tournament: Tournament,
     pub offers: Vec<Offer>,
+    pub groups: Groups,
     /// Where the offer of a group stands.
     pub places: Vec<u32>,
 }
@@ -77,6 +79,7 @@ impl Auction {
         sizes: Sizes,
         terms: Terms,
         looks: Looks,
+        groups: Groups,
     ) -> Result<Auction, AllocError> {
         let count = sizes.columns.saturating_add(1);
         let rows = sizes.rows;
@@ -99,6 +102,7 @@ impl Auction {
             queue: Queue::new(alloc, rows.saturating_add(1))?,
             tournament: Tournament::new(alloc, count, is_needed)?,
             offers: Vec::new(alloc),
+            groups,
             places: vec![in alloc; 0u32; sizes.columns]?,
         })
     }
@@ -149,6 +153,7 @@ impl Auction {
             add_count(self.out.as_mut_slice(), slot.row as usize, ONE_LESS);
         } else {
             state.release(slot.row, slot.pair);
+            self.groups.set(slot.pair, 0);
         }
         add_count(self.hands.as_mut_slice(), slot.row as usize, 1);
         self.queue.push(slot.row);
@@ -161,6 +166,7 @@ impl Auction {
             add_count(self.out.as_mut_slice(), slot.row as usize, 1);
         } else {
             state.choose(slot.row, slot.pair);
+            self.groups.set(slot.pair, 1);
         }
         add_count(self.hands.as_mut_slice(), slot.row as usize, ONE_LESS);
     }

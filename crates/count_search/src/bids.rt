@@ -1,45 +1,17 @@
 // Bids of rows and of the dummy row.
 use super::auction::Auction;
-use super::offers::{NO_PLACE, Offer, Two, select, two_best, two_best_open, value_at};
+use super::offers::{NO_PLACE, Offer, Two, select, two_best_open, value_at};
 use super::problem::{Problem, Row};
 use super::slots::Slot;
 use super::state::State;
-use super::values::{FAR, add_count, count_at, price_at, set_count, set_price};
+use super::values::{FAR, add_count, count_at, price_at, set_price};
 use sparse_search::{NOBODY, place_at};
 use std::alloc::AllocError;
 
 // Values from here on are out of reach.
 const OUT_OF_REACH: i64 = 1 << 60;
 
-// The two best of the pairs whose groups the row doesn't take.
-fn two_best_grouped(state: &mut State, row: Row<'_>, scale: i64) -> Two {
-    let stamp = state.next_stamp();
-    state.mark_taken(row, NOBODY, stamp);
-    let mut two = Two::none();
-    for (place, (column, cost)) in row.columns.iter().zip(row.costs).enumerate() {
-        if !state.is_marked(*column, stamp) {
-            two = two.with(
-                place,
-                value_at(*column, *cost, state.prices.as_slice(), scale),
-            );
-        }
-    }
-    two
-}
-
 impl Auction {
-    #[inline(always)]
-    fn two_of(&mut self, state: &mut State, row: Row<'_>, held: u32) -> Two {
-        let scale = self.terms.scale;
-        if held == 0 {
-            two_best(row, state.prices.as_slice(), scale)
-        } else if state.is_grouped {
-            two_best_grouped(state, row, scale)
-        } else {
-            two_best_open(row, state.chosen(row), state.prices.as_slice(), scale)
-        }
-    }
-
     // One hand of a row bids.
     #[inline(always)]
     fn bid_once(
@@ -51,7 +23,8 @@ impl Auction {
         let pairs = problem.row(row);
         self.bids = self.bids.wrapping_add(1);
         self.looks.add(pairs.columns.len());
-        let mut two = self.two_of(state, pairs, state.held_of(row));
+        let closed = self.groups.closed(state, pairs);
+        let mut two = two_best_open(pairs, closed, state.prices.as_slice(), self.terms.scale);
         let outside = state.outside();
         if self.room_outside(state, row) > 0 {
             two = two.with(pairs.columns.len(), state.price(outside));
@@ -92,48 +65,36 @@ impl Auction {
     }
 
     // The best pair of each group that the row doesn't take.
-    fn offer_grouped(&mut self, state: &mut State, row: Row<'_>) -> Result<(), AllocError> {
+    fn offer_grouped(&mut self, state: &State, row: Row<'_>) -> Result<(), AllocError> {
         let scale = self.terms.scale;
-        let taken = state.next_stamp();
-        let seen = state.next_stamp();
-        state.mark_taken(row, NOBODY, taken);
+        let prices = state.prices.as_slice();
+        let mut two = Two::none();
         for (k, (column, cost)) in row.columns.iter().zip(row.costs).enumerate() {
-            if !state.is_marked(*column, taken) {
-                let offer = Offer {
-                    value: value_at(*column, *cost, state.prices.as_slice(), scale),
-                    next: FAR,
-                    pair: place_at(row.first.wrapping_add(k)),
-                };
-                let key = state.key(*column);
-                self.add_offer(offer, key, state.mark(*column, seen))?;
+            let pair = row.first.wrapping_add(k);
+            if self.groups.begins(pair) {
+                self.add_offer(two)?;
+                two = Two::none();
+            }
+            if !self.groups.is_taken(pair) {
+                two = two.with(pair, value_at(*column, *cost, prices, scale));
             }
         }
-        Ok(())
+        self.add_offer(two)
     }
 
-    // One more pair of a group.
+    // The best pair of a group, if there is one.
     #[inline(always)]
-    fn add_offer(&mut self, offer: Offer, key: usize, is_new: bool) -> Result<(), AllocError> {
-        if is_new {
-            set_count(self.places.as_mut_slice(), key, place_at(self.offers.len()));
-            return Ok(self.offers.push(offer)?);
+    fn add_offer(&mut self, two: Two) -> Result<(), AllocError> {
+        if two.place == NO_PLACE {
+            return Ok(());
         }
-        let place = count_at(self.places.as_slice(), key) as usize;
-        if place < self.offers.len() {
-            let old = self.offers[place];
-            self.offers[place] = if offer.value < old.value {
-                Offer {
-                    next: old.value,
-                    ..offer
-                }
-            } else {
-                Offer {
-                    next: old.next.min(offer.value),
-                    ..old
-                }
-            };
-        }
-        Ok(())
+        Ok(
+            self.offers.push(Offer {
+                value: two.best,
+                next: two.second,
+                pair: place_at(two.place),
+            })?,
+        )
     }
 
     fn offer_outside(&mut self, state: &State, row: u32, hands: u32) -> Result<(), AllocError> {

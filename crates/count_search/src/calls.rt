@@ -1,4 +1,5 @@
 // The call of a search.
+use super::arranged::{Arranged, is_better_exchanged, scattered_groups};
 use super::auction::Auction;
 use super::layout::Layout;
 use super::numbers::Numbers;
@@ -8,7 +9,6 @@ use super::record::{AUCTION, COLD, REPAIR, Record, WARM};
 use super::repair::{PathEnd, Repair, answer_all};
 use super::shortage::{Lack, Marks, find_shortage};
 use super::state::State;
-use super::transposed::{Transposed, is_better_exchanged};
 use super::values::{count_at, set_byte, sum_of, unsigned};
 use sparse_search::{Looks, place_at};
 use std::alloc::{AllocError, Global};
@@ -141,7 +141,13 @@ impl Run<'_, '_> {
         let Some(layout) = Layout::of(self.problem, &self.state) else {
             return Ok(Bids::Done);
         };
-        let mut auction = Auction::for_layout(self.alloc, layout, self.looks)?;
+        let mut auction = Auction::for_layout(
+            self.alloc,
+            self.problem,
+            &self.state,
+            layout,
+            self.looks,
+        )?;
         if self.record.stage == AUCTION {
             self.resume(&mut auction, layout, answer)?;
         } else {
@@ -384,8 +390,8 @@ fn search_exchanged(
     budget: u64,
     record: &mut Record,
 ) -> Result<Found, AllocError> {
-    let transposed = Transposed::of(alloc, problem)?;
-    let mut plan = transposed.plan_of(alloc, answer.plan)?;
+    let arranged = Arranged::exchanged(alloc, problem)?;
+    let mut plan = arranged.plan_of(alloc, answer.plan)?;
     let mut exchanged = Answer {
         plan: plan.as_mut_slice(),
         row_numbers: &mut *answer.column_numbers,
@@ -393,14 +399,38 @@ fn search_exchanged(
         row_marks: &mut *answer.column_marks,
         column_marks: &mut *answer.row_marks,
     };
-    let own = transposed.problem(problem);
+    let own = arranged.exchanged_problem(problem);
     let found = search_whole(alloc, &own, &mut exchanged, budget, record)?;
-    transposed.write_plan(plan.as_slice(), answer.plan);
+    arranged.write_plan(plan.as_slice(), answer.plan);
     Ok(match found {
         Found::RowsLack => Found::ColumnsLack,
         Found::ColumnsLack => Found::RowsLack,
         other => other,
     })
+}
+
+// The same with the pairs of each row by groups.
+fn search_grouped(
+    alloc: Global,
+    problem: &Problem<'_>,
+    keys: &[u32],
+    answer: &mut Answer<'_>,
+    budget: u64,
+    record: &mut Record,
+) -> Result<Found, AllocError> {
+    let arranged = Arranged::grouped(alloc, problem, keys)?;
+    let mut plan = arranged.plan_of(alloc, answer.plan)?;
+    let mut grouped = Answer {
+        plan: plan.as_mut_slice(),
+        row_numbers: &mut *answer.row_numbers,
+        column_numbers: &mut *answer.column_numbers,
+        row_marks: &mut *answer.row_marks,
+        column_marks: &mut *answer.column_marks,
+    };
+    let own = arranged.problem(problem);
+    let found = search_whole(alloc, &own, &mut grouped, budget, record)?;
+    arranged.write_plan(plan.as_slice(), answer.plan);
+    Ok(found)
 }
 
 /// Searches for a best plan with row numbers and column numbers that prove it, or for a shortage. With r
@@ -424,8 +454,12 @@ pub fn search(
         return Ok(Found::Nothing);
     }
     if is_better_exchanged(problem) {
-        search_exchanged(alloc, problem, answer, budget, record)
-    } else {
-        search_whole(alloc, problem, answer, budget, record)
+        return search_exchanged(alloc, problem, answer, budget, record);
+    }
+    match scattered_groups(alloc, problem)? {
+        Some(keys) => {
+            search_grouped(alloc, problem, keys.keys.as_slice(), answer, budget, record)
+        }
+        None => search_whole(alloc, problem, answer, budget, record),
     }
 }

@@ -1,4 +1,5 @@
 // Edges between columns: a row that leaves one and takes another, and what that costs.
+use super::groups::Groups;
 use super::problem::{Problem, Row};
 use super::repair::Holder;
 use super::state::State;
@@ -44,7 +45,8 @@ impl Edge {
 #[derive(Drop)]
 pub struct Scan<'a, 'b> {
     pub problem: &'a Problem<'b>,
-    pub state: &'a mut State,
+    pub state: &'a State,
+    pub groups: &'a mut Groups,
     pub looks: &'a mut Looks,
 }
 
@@ -66,18 +68,12 @@ fn fill_lone(table: &mut [Edge], row: Row<'_>, holder: Holder, cost: i64) {
     }
 }
 
-// The edges of a row to pairs whose groups don't have this stamp.
-fn fill_open(
-    table: &mut [Edge],
-    state: &State,
-    row: Row<'_>,
-    holder: Holder,
-    cost: i64,
-    stamp: u64,
-) {
-    for (k, (column, other)) in row.columns.iter().zip(row.costs).enumerate() {
+// The edges of a row to pairs whose byte is 0.
+fn fill_open(table: &mut [Edge], row: Row<'_>, bytes: &[u8], holder: Holder, cost: i64) {
+    let pairs = row.columns.iter().zip(row.costs).zip(bytes);
+    for (k, ((column, other), byte)) in pairs.enumerate() {
         let to = place_at(row.first.wrapping_add(k));
-        if to != holder.pair && !state.is_marked(*column, stamp) {
+        if *byte == 0 && to != holder.pair {
             let edge = Edge::of(other.wrapping_sub(cost), holder, to);
             improve(table, *column as usize, edge);
         }
@@ -94,9 +90,10 @@ impl Scan<'_, '_> {
         if held <= own {
             fill_lone(table, row, holder, cost);
         } else {
-            let stamp = self.state.next_stamp();
-            self.state.mark_taken(row, holder.pair, stamp);
-            fill_open(table, self.state, row, holder, cost, stamp);
+            self.groups.set(holder.pair, 0);
+            let closed = self.groups.closed(self.state, row);
+            fill_open(table, row, closed, holder, cost);
+            self.groups.set(holder.pair, 1);
         }
         if holder.pair != NOBODY && held > self.state.least_of(holder.row) {
             let edge = Edge::of(cost.wrapping_neg(), holder, NOBODY);

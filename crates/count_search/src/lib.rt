@@ -4,11 +4,13 @@
 #![tactic(auto)]
 
 mod answers;
+mod arranged;
 mod auction;
 mod bids;
 mod calls;
 mod cut;
 mod edges;
+mod groups;
 mod layout;
 mod numbers;
 mod offers;
@@ -22,7 +24,6 @@ mod shortage;
 mod slots;
 mod state;
 mod tournament;
-mod transposed;
 mod values;
 
 pub use calls::{Answer, Found, search};

@@ -20,6 +20,9 @@ pub struct Two {
     pub second: i64,
 }
 
+// A byte of 1, shifted so far to the left, puts a value out of reach.
+const CLOSED: u32 = 61;
+
 /// The place of no pair.
 pub const NO_PLACE: usize = usize::MAX;
 
@@ -57,27 +60,59 @@ pub fn value_at(column: u32, cost: i64, prices: &[i64], scale: i64) -> i64 {
         .wrapping_add(price_at(prices, column as usize))
 }
 
-/// The two best of a row's pairs.
-#[inline(always)]
-pub fn two_best(row: Row<'_>, prices: &[i64], scale: i64) -> Two {
-    let mut two = Two::none();
-    for (place, (column, cost)) in row.columns.iter().zip(row.costs).enumerate() {
-        two = two.with(place, value_at(*column, *cost, prices, scale));
-    }
-    two
+// The values of a row's pairs: out of reach where the byte is 1.
+#[derive(Clone, Copy)]
+struct Values<'a> {
+    row: Row<'a>,
+    bytes: &'a [u8],
+    prices: &'a [i64],
+    scale: i64,
 }
 
-/// The two best of the pairs that aren't chosen.
-#[inline(always)]
-pub fn two_best_open(row: Row<'_>, chosen: &[u8], prices: &[i64], scale: i64) -> Two {
-    let mut two = Two::none();
-    let pairs = row.columns.iter().zip(row.costs).zip(chosen);
-    for (place, ((column, cost), byte)) in pairs.enumerate() {
-        if *byte == 0 {
-            two = two.with(place, value_at(*column, *cost, prices, scale));
+impl Values<'_> {
+    // The first pair from a place on whose value is below a bound.
+    #[inline(always)]
+    fn first_below(self, from: usize, bound: i64) -> Option<(usize, i64)> {
+        let end = self.row.columns.len();
+        let columns = self.row.columns.get(from..end).unwrap_or(&[]);
+        let costs = self.row.costs.get(from..end).unwrap_or(&[]);
+        let bytes = self.bytes.get(from..end).unwrap_or(&[]);
+        for (k, ((column, cost), byte)) in columns.iter().zip(costs).zip(bytes).enumerate() {
+            let value = value_at(*column, *cost, self.prices, self.scale);
+            let value = value.wrapping_add(i64::from(*byte).wrapping_shl(CLOSED));
+            if value < bound {
+                return Some((from.wrapping_add(k), value));
+            }
         }
+        None
     }
-    two
+
+    fn two_best(self) -> Two {
+        let mut two = Two::none();
+        let mut from = 0usize;
+        for _better in 0..self.row.columns.len() {
+            match self.first_below(from, two.second) {
+                Some((place, value)) => {
+                    two = two.with(place, value);
+                    from = place.wrapping_add(1);
+                }
+                None => return two,
+            }
+        }
+        two
+    }
+}
+
+/// The two best of a row's pairs whose byte is 0.
+#[inline(always)]
+pub fn two_best_open(row: Row<'_>, bytes: &[u8], prices: &[i64], scale: i64) -> Two {
+    let values = Values {
+        row,
+        bytes,
+        prices,
+        scale,
+    };
+    values.two_best()
 }
 
 // The offers below this value come first, or those up to it. Returns how many they are.

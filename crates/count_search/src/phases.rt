@@ -1,5 +1,6 @@
 // The phases of an auction, whose slackness falls from one to the next.
 use super::auction::Auction;
+use super::groups::Groups;
 use super::layout::Layout;
 use super::problem::Problem;
 use super::state::State;
@@ -49,8 +50,15 @@ pub enum Ended {
 
 impl Auction {
     /// One for this layout, before its first phase.
-    pub fn for_layout(alloc: Global, layout: Layout, looks: Looks) -> Result<Auction, AllocError> {
-        Auction::new(alloc, layout.sizes, layout.terms, looks)
+    pub fn for_layout(
+        alloc: Global,
+        problem: &Problem<'_>,
+        state: &State,
+        layout: Layout,
+        looks: Looks,
+    ) -> Result<Auction, AllocError> {
+        let groups = Groups::of(alloc, problem, state)?;
+        Auction::new(alloc, layout.sizes, layout.terms, looks, groups)
     }
 
     // How many slots of a column, and of staying out, the dummy row may hold.
@@ -112,6 +120,7 @@ impl Auction {
         self.set_dummy_most(state, layout.sizes.outside);
         self.clear_slots(state, layout.sizes.outside);
         clear_bytes(state.plan.as_mut_slice());
+        self.groups.clear();
         clear_counts(state.held.as_mut_slice());
         clear_counts(self.out.as_mut_slice());
         self.wait_all(state);

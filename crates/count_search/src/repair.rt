@@ -4,6 +4,7 @@
 // needs.
 use super::answers::Answers;
 use super::edges::{Edge, FREE_EDGE, NO_EDGE, Scan};
+use super::groups::Groups;
 use super::problem::Problem;
 use super::state::State;
 use super::values::{
@@ -25,6 +26,7 @@ pub struct Holder {
 pub struct Repair {
     alloc: Global,
     pub looks: Looks,
+    groups: Groups,
     pub holders: Vec<Vec<Holder>>,
     // The edges of each column, where tables are kept.
     tables: Vec<Vec<Edge>>,
@@ -118,6 +120,7 @@ impl Repair {
         let mut repair = Repair {
             alloc,
             looks,
+            groups: Groups::of(alloc, problem, state)?,
             holders: no_holders(alloc, columns)?,
             tables: no_tables(alloc, nodes)?,
             is_old: vec![in alloc; 1u8; nodes]?,
@@ -133,6 +136,7 @@ impl Repair {
             passed: Vec::new(alloc),
             nearest: NO_NODE,
         };
+        repair.groups.take_plan(state.plan.as_slice());
         repair.hold_all(problem, state)?;
         repair.balance(state);
         Ok(repair)
@@ -276,7 +280,7 @@ impl Repair {
     fn renew_table(
         &mut self,
         problem: &Problem<'_>,
-        state: &mut State,
+        state: &State,
         node: usize,
     ) -> Result<(), AllocError> {
         if byte_at(self.is_old.as_slice(), node) == 0 {
@@ -292,6 +296,7 @@ impl Repair {
         let mut scan = Scan {
             problem,
             state,
+            groups: &mut self.groups,
             looks: &mut self.looks,
         };
         match self.holders.get(node) {
@@ -341,7 +346,7 @@ impl Repair {
     fn relax_holders(
         &mut self,
         problem: &Problem<'_>,
-        state: &mut State,
+        state: &State,
         node: usize,
         base: i64,
     ) -> Result<(), AllocError> {
@@ -364,7 +369,7 @@ impl Repair {
     fn relax_outside(
         &mut self,
         problem: &Problem<'_>,
-        state: &mut State,
+        state: &State,
         node: usize,
         base: i64,
     ) -> Result<(), AllocError> {
@@ -377,11 +382,21 @@ impl Repair {
         Ok(())
     }
 
+    // Whether a row may take a pair besides those that it has.
+    #[inline(always)]
+    fn is_open(&self, state: &State, pair: u32) -> bool {
+        if state.is_grouped {
+            !self.groups.is_taken(pair as usize)
+        } else {
+            !state.is_chosen(pair)
+        }
+    }
+
     // The edges of one row that leaves a pair.
     fn relax_row(
         &mut self,
         problem: &Problem<'_>,
-        state: &mut State,
+        state: &State,
         holder: Holder,
         node: usize,
         base: i64,
@@ -389,11 +404,10 @@ impl Repair {
         let row = problem.row(holder.row);
         self.looks.add(row.columns.len());
         let from = problem.cost_of(holder.pair);
-        let stamp = state.next_stamp();
-        state.mark_taken(row, holder.pair, stamp);
+        self.groups.set(holder.pair, 0);
         for (k, (column, cost)) in row.columns.iter().zip(row.costs).enumerate() {
             let to = place_at(row.first.wrapping_add(k));
-            if to != holder.pair && !state.is_marked(*column, stamp) {
+            if to != holder.pair && self.is_open(state, to) {
                 let length = cost.wrapping_sub(from);
                 let edge = Edge::of(length, holder, to);
                 let other = *column as usize;
@@ -401,6 +415,7 @@ impl Repair {
                 self.reach(other, distance, place_at(node), edge)?;
             }
         }
+        self.groups.set(holder.pair, 1);
         if holder.pair != NOBODY && state.held_of(holder.row) > state.least_of(holder.row) {
             let length = from.wrapping_neg();
             let outside = state.outside();
@@ -414,7 +429,7 @@ impl Repair {
     fn relax(
         &mut self,
         problem: &Problem<'_>,
-        state: &mut State,
+        state: &State,
         reached: Reached,
     ) -> Result<(), AllocError> {
         let node = reached.object as usize;
@@ -436,7 +451,7 @@ impl Repair {
         byte_at(self.is_done.as_slice(), node) != 0
     }
 
-    fn search(&mut self, problem: &Problem<'_>, state: &mut State) -> Result<(), AllocError> {
+    fn search(&mut self, problem: &Problem<'_>, state: &State) -> Result<(), AllocError> {
         for _node in 0..self.excess.len() {
             let Some(next) = self.next_node() else {
                 return Ok(());
@@ -524,11 +539,13 @@ impl Repair {
         let had_room = state.held_of(row) < state.most_of(row);
         if edge.from != NOBODY {
             state.release(row, edge.from);
+            self.groups.set(edge.from, 0);
             self.leave(from, edge.from);
             set_byte(self.is_old.as_mut_slice(), from, 1);
         }
         if edge.to != NOBODY {
             state.choose(row, edge.to);
+            self.groups.set(edge.to, 1);
             self.hold(to, Holder { row, pair: edge.to })?;
         }
         if had_room || state.held_of(row) < state.most_of(row) {

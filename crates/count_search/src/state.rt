@@ -27,9 +27,9 @@ pub struct State {
 
 /// The keys of groups, and whether a group has two columns.
 #[derive(Drop)]
-struct Keys {
-    keys: Vec<u32>,
-    is_grouped: bool,
+pub struct Keys {
+    pub keys: Vec<u32>,
+    pub is_grouped: bool,
 }
 
 // Greater numbers are cut.
@@ -37,7 +37,7 @@ const MOST_NUMBER: i64 = 1 << 59;
 
 const UNSEEN: u32 = u32::MAX;
 
-fn keys_of(alloc: Global, groups: &[u32], columns: usize) -> Result<Keys, AllocError> {
+pub fn keys_of(alloc: Global, groups: &[u32], columns: usize) -> Result<Keys, AllocError> {
     let mut known = vec![in alloc; UNSEEN; columns.saturating_add(1)]?;
     let mut keys = vec![in alloc; 0u32; columns]?;
     let mut next = 0u32;
@@ -165,11 +165,10 @@ impl State {
         false
     }
 
-    /// Stamps the groups that a row takes, except that of one pair.
-    pub fn mark_taken(&mut self, row: Row<'_>, but: u32, stamp: u64) {
+    /// Stamps the groups that a row takes.
+    pub fn mark_taken(&mut self, row: Row<'_>, stamp: u64) {
         for (k, column) in row.columns.iter().enumerate() {
-            let pair = place_at(row.first.wrapping_add(k));
-            if pair != but && self.is_chosen(pair) {
+            if self.is_chosen(place_at(row.first.wrapping_add(k))) {
                 let _ = self.mark(*column, stamp);
             }
         }

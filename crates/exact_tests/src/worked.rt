@@ -57,7 +57,10 @@ fn sums_at_the_limits(rt: HostRuntime) -> Result<(), Fail> {
     let problem = dense(alloc, Sense::Min, 2, 2, &[most, -most, -most, most])?;
     let lists = costs_of(&problem)?;
     assert!(rt; check(alloc, &lists, &[1, 2], &prices)? == Verdict::Slack(1, 2));
-    assert_eq!(rt; confirmed(alloc, &lists, &[2, 1], &prices)?, Some(-2 * most));
+    assert_eq!(rt;
+        confirmed(alloc, &lists, &[2, 1], &prices)?,
+        Some(-2 * most)
+    );
     Ok(())
 }
 

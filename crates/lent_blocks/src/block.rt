@@ -12,9 +12,9 @@ ghost use Rattle.lent_blocks.specs.Blocks.{IsBlockShown, IsNamed, JudgesBlock, o
 
 use assign_core::Cost;
 use block_checker::{first_better, least_sums, own_marks, write_better};
-use cost_lists::{CostLists, Object, Person, Price};
 use c_calls::Fault;
 use c_calls::lists::{Given, Info, judge, lists_of, refuse};
+use cost_lists::{CostLists, Object, Person, Price};
 use std::alloc::{AllocError, Global};
 
 /// `n` if lists have one length, and another number if they haven't.

@@ -4,3 +4,4 @@ pub mod Sums
 pub mod Answers
 pub mod Ends
 pub mod Checks
+pub mod Lent

@@ -1,7 +1,7 @@
 // What a caller gives.
 ghost use Rattle.std.specs.Prelude.{◌≡◌, ◌↔◌, ◌*◌, IsTrue, length};
 ghost use Rattle.cost_lists.specs.ListedCosts.{IsCount};
-ghost use Rattle.lent_counts.specs.Given.{GivenCounts, IsDense, is_dense};
+ghost use Rattle.lent_counts.specs.Given.{GivenCounts, IsDense, given_counts, is_dense};
 
 use cost_lists::GREATEST_NUMBER;
 use std::marker::Model;
@@ -38,6 +38,34 @@ impl<'a> Model for Given<'a> {
       column_most = g.column_most.now;
       groups = g.groups.now;
     } };
+}
+
+/// The problem of these lists.
+pub fn given_of<'a>(
+    sense: u32,
+    rows: &'a [u32],
+    columns: &'a [u32],
+    costs: &'a [i64],
+    row_least: &'a [u32],
+    row_most: &'a [u32],
+    column_least: &'a [u32],
+    column_most: &'a [u32],
+    groups: &'a [u32],
+) -> Given<'a>
+    ensures { result ≡ given_counts sense rows.now columns.now costs.now row_least.now row_most.now
+        column_least.now column_most.now groups.now }
+{
+    Given {
+        sense,
+        rows,
+        columns,
+        costs,
+        row_least,
+        row_most,
+        column_least,
+        column_most,
+        groups,
+    }
 }
 
 /// Whether there is a cost for each row and each column in place of listed pairs.

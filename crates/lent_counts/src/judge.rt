@@ -1,7 +1,8 @@
 // Whether a problem has its sense, its pairs and its buffers.
 ghost use Rattle.std.specs.Prelude.{◌≡◌, ◌↔◌, Some, IfErr, IfOk, IsTrue, OnOk};
-ghost use Rattle.lent_counts.specs.Ends.{HasFault, HasRoom, buffers};
+ghost use Rattle.lent_counts.specs.Ends.{HasFault, HasRoom};
 ghost use Rattle.lent_counts.specs.Given.{HasDense, sense_of};
+ghost use Rattle.lent_counts.specs.Lent.{lent_buffers};
 
 use crate::fault::Fault;
 use crate::given::{Given, has_dense, is_dense};
@@ -26,44 +27,35 @@ pub fn is_shaped(given: &Given<'_>) -> bool
     !is_dense(given) || has_dense(given)
 }
 
+/// The caller's buffers as they are before an answer.
+#[derive(Clone, Copy)]
+pub struct Lent<'a> {
+    pub plan: &'a [u8],
+    pub row_numbers: &'a [i64],
+    pub column_numbers: &'a [i64],
+    pub row_marks: &'a [u8],
+    pub column_marks: &'a [u8],
+    pub info: &'a CountsInfo,
+}
+
 // Whether each buffer has its length.
-fn has_room(
-    given: &Given<'_>,
-    plan: &[u8],
-    row_numbers: &[i64],
-    column_numbers: &[i64],
-    row_marks: &[u8],
-    column_marks: &[u8],
-    info: &CountsInfo,
-) -> bool
-    ensures { IsTrue result ↔ HasRoom given.now
-        (buffers plan.now row_numbers.now column_numbers.now row_marks.now column_marks.now info.now) }
+fn has_room(given: &Given<'_>, lent: Lent<'_>) -> bool
+    ensures { IsTrue result ↔ HasRoom given.now (lent_buffers lent.entry) }
 {
-    let _info = info;
     let (n, m) = (given.row_least.len(), given.column_least.len());
-    plan.len() == given.costs.len()
-        && row_numbers.len() == n
-        && column_numbers.len() == m
-        && row_marks.len() == n
-        && column_marks.len() == m
+    lent.plan.len() == given.costs.len()
+        && lent.row_numbers.len() == n
+        && lent.column_numbers.len() == m
+        && lent.row_marks.len() == n
+        && lent.column_marks.len() == m
 }
 
 /// The sense of a problem that has its pairs and its buffers, or else the first fault.
-pub fn judge(
-    given: &Given<'_>,
-    plan: &[u8],
-    row_numbers: &[i64],
-    column_numbers: &[i64],
-    row_marks: &[u8],
-    column_marks: &[u8],
-    info: &CountsInfo,
-) -> Result<Sense, Fault>
+pub fn judge(given: &Given<'_>, lent: Lent<'_>) -> Result<Sense, Fault>
     ensures sense { IfOk result (λ s. sense_of given.now.sense ≡ Some s) }
     ensures dense { OnOk result (HasDense given.now) }
-    ensures room { OnOk result (HasRoom given.now
-        (buffers plan.now row_numbers.now column_numbers.now row_marks.now column_marks.now info.now)) }
-    ensures fault { IfErr result (HasFault given.now
-        (buffers plan.now row_numbers.now column_numbers.now row_marks.now column_marks.now info.now)) }
+    ensures room { OnOk result (HasRoom given.now (lent_buffers lent.entry)) }
+    ensures fault { IfErr result (HasFault given.now (lent_buffers lent.entry)) }
 {
     let Some(sense) = sense_by(given.sense) else {
         return Err(Fault::Sense);
@@ -71,15 +63,7 @@ pub fn judge(
     if !is_shaped(given) {
         return Err(Fault::Dense);
     }
-    if !has_room(
-        given,
-        plan,
-        row_numbers,
-        column_numbers,
-        row_marks,
-        column_marks,
-        info,
-    ) {
+    if !has_room(given, lent) {
         return Err(Fault::Buffer);
     }
     Ok(sense)

@@ -15,6 +15,6 @@ mod written;
 
 pub use checking::{check_given, check_shortage_given};
 pub use fault::Fault;
-pub use given::Given;
+pub use given::{Given, given_of};
 pub use info::CountsInfo;
 pub use solving::solve;

@@ -1,15 +1,17 @@
 // From given lists to an answer in the caller's buffers.
-ghost use Rattle.std.specs.Prelude.{◌≡◌, ◌≢◌, ℕ, Some, IfErr, IfOk, pos, if◌then◌else◌};
+ghost use Rattle.std.specs.Prelude.{◌≡◌, ◌≢◌, ℕ, ℤ, List, Some, IfErr, IfOk, pos, if◌then◌else◌};
 ghost use Rattle.count_checker.specs.declared.lists.CountLists.{CountLists};
 ghost use Rattle.lent_counts.specs.Answers.{IsAnswer};
 ghost use Rattle.lent_counts.specs.Ends.{HasFault, HoldsEnd, IsLack, IsSearchFault, Solves, buffers};
 ghost use Rattle.lent_counts.specs.Given.{HasDense, IsOfGiven, sense_of};
+ghost use Rattle.lent_counts.specs.Lent.{lent_buffers};
+ghost use Rattle.lent_counts.specs.declared.info.CountsInfo.{CountsInfo};
 
 use crate::end::{End, code_of_end, refuse};
 use crate::fault::Fault;
 use crate::given::Given;
 use crate::info::{CountsInfo, record_sum};
-use crate::judge::judge;
+use crate::judge::{Lent, judge};
 use crate::search::{Answer, answer_on, start_of};
 use crate::written::{lists_of, written_of};
 use assign_core::Sense;
@@ -83,15 +85,13 @@ fn put_best(
     plan: &mut [u8],
     row_numbers: &mut [i64],
     column_numbers: &mut [i64],
-    row_marks: &[u8],
-    column_marks: &[u8],
     info: &mut CountsInfo,
 ) -> End
     requires { answer.now.end ≡ End.Best }
-    ensures { (l : CountLists) (budget : ℕ) → IsAnswer l budget answer.now → HoldsEnd l budget
-        (buffers plan.old row_numbers.old column_numbers.old row_marks.now column_marks.now info.old)
-        (buffers plan.new row_numbers.new column_numbers.new row_marks.now column_marks.now info.new)
-        result }
+    ensures { (l : CountLists) (budget : ℕ) (row_marks column_marks : List ℕ) → IsAnswer l budget answer.now
+        → HoldsEnd l budget
+        (buffers plan.old row_numbers.old column_numbers.old row_marks column_marks info.old)
+        (buffers plan.new row_numbers.new column_numbers.new row_marks column_marks info.new) result }
 {
     if !put_plan(answer, plan, row_numbers, column_numbers) {
         return End::Undecided;
@@ -101,23 +101,13 @@ fn put_best(
 }
 
 // Writes a shortage.
-fn put_shortage(
-    answer: &Answer,
-    plan: &[u8],
-    row_numbers: &[i64],
-    column_numbers: &[i64],
-    row_marks: &mut [u8],
-    column_marks: &mut [u8],
-    info: &CountsInfo,
-) -> End
+fn put_shortage(answer: &Answer, row_marks: &mut [u8], column_marks: &mut [u8]) -> End
     requires { IsLack answer.now.end }
-    ensures { (l : CountLists) (budget : ℕ) → IsAnswer l budget answer.now → HoldsEnd l budget
-        (buffers plan.now row_numbers.now column_numbers.now row_marks.old column_marks.old info.now)
-        (buffers plan.now row_numbers.now column_numbers.now row_marks.new column_marks.new info.now)
-        result }
+    ensures { (l : CountLists) (budget : ℕ) (plan : List ℕ) (row_numbers column_numbers : List ℤ)
+        (info : CountsInfo) → IsAnswer l budget answer.now → HoldsEnd l budget
+        (buffers plan row_numbers column_numbers row_marks.old column_marks.old info)
+        (buffers plan row_numbers column_numbers row_marks.new column_marks.new info) result }
 {
-    let (_plan, _info) = (plan.len(), info.place);
-    let (_rows, _columns) = (row_numbers.len(), column_numbers.len());
     if put_marks(answer, row_marks, column_marks) {
         answer.end
     } else {
@@ -131,17 +121,13 @@ fn put_standing(
     plan: &mut [u8],
     row_numbers: &mut [i64],
     column_numbers: &mut [i64],
-    row_marks: &[u8],
-    column_marks: &[u8],
-    info: &CountsInfo,
 ) -> End
     requires { answer.now.end ≡ End.Stopped }
-    ensures { (l : CountLists) (budget : ℕ) → IsAnswer l budget answer.now → HoldsEnd l budget
-        (buffers plan.old row_numbers.old column_numbers.old row_marks.now column_marks.now info.now)
-        (buffers plan.new row_numbers.new column_numbers.new row_marks.now column_marks.now info.now)
-        result }
+    ensures { (l : CountLists) (budget : ℕ) (row_marks column_marks : List ℕ) (info : CountsInfo)
+        → IsAnswer l budget answer.now → HoldsEnd l budget
+        (buffers plan.old row_numbers.old column_numbers.old row_marks column_marks info)
+        (buffers plan.new row_numbers.new column_numbers.new row_marks column_marks info) result }
 {
-    let (_rows, _columns, _info) = (row_marks.len(), column_marks.len(), info.place);
     if put_plan(answer, plan, row_numbers, column_numbers) {
         End::Stopped
     } else {
@@ -165,42 +151,9 @@ fn put_answer(
         result }
 {
     match answer.end {
-        End::Best => put_best(
-            answer,
-            plan,
-            row_numbers,
-            column_numbers,
-            row_marks,
-            column_marks,
-            info,
-        ),
-        End::Stopped => put_standing(
-            answer,
-            plan,
-            row_numbers,
-            column_numbers,
-            row_marks,
-            column_marks,
-            info,
-        ),
-        End::RowsLack => put_shortage(
-            answer,
-            plan,
-            row_numbers,
-            column_numbers,
-            row_marks,
-            column_marks,
-            info,
-        ),
-        End::ColumnsLack => put_shortage(
-            answer,
-            plan,
-            row_numbers,
-            column_numbers,
-            row_marks,
-            column_marks,
-            info,
-        ),
+        End::Best => put_best(answer, plan, row_numbers, column_numbers, info),
+        End::Stopped => put_standing(answer, plan, row_numbers, column_numbers),
+        End::RowsLack | End::ColumnsLack => put_shortage(answer, row_marks, column_marks),
         End::Undecided => End::Undecided,
     }
 }
@@ -210,28 +163,20 @@ fn solved(
     alloc: Global,
     given: &Given<'_>,
     budget: u64,
-    plan: &[u8],
-    row_numbers: &[i64],
-    column_numbers: &[i64],
-    row_marks: &[u8],
-    column_marks: &[u8],
+    lent: Lent<'_>,
     record: Record,
-    info: &CountsInfo,
 ) -> Result<Answer, Fault>
     ensures answer { IfOk result (λ a. IsOfGiven given.now (λ l. IsAnswer l budget a)) }
-    ensures fault { IfErr result (HasFault given.now
-        (buffers plan.now row_numbers.now column_numbers.now row_marks.now column_marks.now info.now)) }
+    ensures fault { IfErr result (HasFault given.now (lent_buffers lent.entry)) }
 {
-    let sense = judge(
-        given,
-        plan,
-        row_numbers,
-        column_numbers,
-        row_marks,
-        column_marks,
-        info,
+    let sense = judge(given, lent)?;
+    let start = start_of(
+        alloc,
+        lent.plan,
+        lent.row_numbers,
+        lent.column_numbers,
+        record,
     )?;
-    let start = start_of(alloc, plan, row_numbers, column_numbers, record)?;
     let answer = answer_given(alloc, given, sense, start, budget)?;
     Ok(answer)
 }
@@ -257,18 +202,15 @@ pub fn solve(
         result }
     ensures progress { result ≢ pos 16 → progress.new ≡ progress.old }
 {
-    let answer = match solved(
-        alloc,
-        given,
-        budget,
+    let lent = Lent {
         plan,
         row_numbers,
         column_numbers,
         row_marks,
         column_marks,
-        *progress,
         info,
-    ) {
+    };
+    let answer = match solved(alloc, given, budget, lent, *progress) {
         Ok(answer) => answer,
         Err(fault) => return refuse(fault, info),
     };

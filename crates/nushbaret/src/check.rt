@@ -3,10 +3,10 @@ ghost use Rattle.std.specs.Prelude.{◌⊎◌};
 ghost use Rattle.c_calls.specs.lists.Checks.{IsHallJudged, IsJudged, IsRefused};
 ghost use Rattle.c_calls.specs.lists.Given.{either};
 
-use cost_lists::{Object, Person, Price};
 use c_calls::lists::{
     Given, Info, form_of, hall_verdict_on, refuse, report_hall_verdict, report_verdict, verdict_on,
 };
+use cost_lists::{Object, Person, Price};
 use std::alloc::Global;
 
 /// Checks an assignment with its prices against a problem. The problem is dense if there are costs

@@ -5,7 +5,7 @@ ghost use Rattle.lent_counts.specs.Ends.{Solves, buffers};
 ghost use Rattle.lent_counts.specs.Given.{given_counts};
 
 use count_search::Record as CountsRecord;
-use lent_counts::{CountsInfo, Given, check_given, check_shortage_given, solve};
+use lent_counts::{CountsInfo, check_given, check_shortage_given, given_of, solve};
 use std::alloc::Global;
 
 /// Solves a problem with counts and groups: its pairs by rising rows, or a cost for each row and each
@@ -35,17 +35,17 @@ pub extern "C" fn nushbaret_counts(
         (buffers plan.new row_numbers.new column_numbers.new row_marks.new column_marks.new info.new)
         result }
 {
-    let given = Given {
+    let given = given_of(
         sense,
-        rows: of_rows,
-        columns: of_columns,
+        of_rows,
+        of_columns,
         costs,
         row_least,
         row_most,
         column_least,
         column_most,
         groups,
-    };
+    );
     let mut record = CountsRecord::cold();
     solve(
         alloc,
@@ -91,17 +91,17 @@ pub extern "C" fn nushbaret_counts_from(
         result }
     ensures progress { result ≢ pos 16 → progress.new ≡ progress.old }
 {
-    let given = Given {
+    let given = given_of(
         sense,
-        rows: of_rows,
-        columns: of_columns,
+        of_rows,
+        of_columns,
         costs,
         row_least,
         row_most,
         column_least,
         column_most,
         groups,
-    };
+    );
     solve(
         alloc,
         &given,
@@ -138,17 +138,17 @@ pub extern "C" fn nushbaret_check_counts(
         column_least.now column_most.now groups.now)
         plan.now row_numbers.now column_numbers.now info.old info.new result }
 {
-    let given = Given {
+    let given = given_of(
         sense,
-        rows: of_rows,
-        columns: of_columns,
+        of_rows,
+        of_columns,
         costs,
         row_least,
         row_most,
         column_least,
         column_most,
         groups,
-    };
+    );
     check_given(alloc, &given, plan, row_numbers, column_numbers, info)
 }
 
@@ -175,16 +175,16 @@ pub extern "C" fn nushbaret_check_shortage(
         row_most.now column_least.now column_most.now groups.now)
         side row_marks.now column_marks.now info.old info.new result }
 {
-    let given = Given {
+    let given = given_of(
         sense,
-        rows: of_rows,
-        columns: of_columns,
+        of_rows,
+        of_columns,
         costs,
         row_least,
         row_most,
         column_least,
         column_most,
         groups,
-    };
+    );
     check_shortage_given(alloc, &given, side, row_marks, column_marks, info)
 }

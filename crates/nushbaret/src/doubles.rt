@@ -3,8 +3,8 @@ ghost use Rattle.std.specs.Prelude.{◌⊎◌};
 ghost use Rattle.c_calls.specs.doubles.Checks.{IsJudged, IsRefused, with_answer};
 ghost use Rattle.c_calls.specs.doubles.Ends.{Solves, buffers};
 
-use cost_lists::{Object, Person};
 use c_calls::doubles::{DoublesInfo, Given, check_given, solve_from, solve_given};
+use cost_lists::{Object, Person};
 use std::alloc::Global;
 
 /// Solves a dense problem over doubles: `n` persons, `m` objects, and the cost of each pair, row by

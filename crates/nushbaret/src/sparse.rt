@@ -4,8 +4,8 @@ ghost use Rattle.c_calls.specs.lists.Ends.{Solves, buffers};
 ghost use Rattle.c_calls.specs.lists.Given.{problem_alone};
 ghost use Rattle.c_calls.specs.declared.lists.form.Form.TheVariants.{Sparse};
 
-use cost_lists::{Object, Person, Price};
 use c_calls::lists::{Form, Given, Info, solve_from, solve_given};
+use cost_lists::{Object, Person, Price};
 use list_solver::Record;
 use std::alloc::Global;
 

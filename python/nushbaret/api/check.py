@@ -8,11 +8,10 @@ from ..costs.problem import AssignmentProblem, costs_of_pairs
 from ..costs.source import Source
 from ..lap.plan_check import counted
 from ..lap.proved import read_prices
-from .results import Result
+from .results import Result, Verdict, verdict_on
 from .shown import Matrix, Missing
 from .solve import solve_problem
 from .solved import ratios_of, sum_of
-from .verdicts import Verdict, verdict_on
 
 
 class Comparison(NamedTuple):

@@ -204,8 +204,11 @@ def _chosen(problem: AssignmentProblem, plans: Plans) -> Tuple[Any, Any, List[An
         order = sorted((persons[place] - 1, objects[place] - 1, place) for place in places)
         return [row for row, _, _ in order], [column for _, column, _ in order], [costs[place] for _, _, place in order]
     found = problem.numpy.frombuffer(plan, "uint8").nonzero()[0]
-    found = found[problem.numpy.lexsort((problem.objects[found], problem.persons[found]))]
     rows, columns = (numbers[found].astype(problem.numpy.intp) - 1 for numbers in (problem.persons, problem.objects))
+    keys = rows * problem.n_columns + columns
+    if not (keys[1:] > keys[:-1]).all():
+        order = keys.argsort()
+        rows, columns, found = rows[order], columns[order], found[order]
     return rows, columns, list(problem.costs.numbers[found].tolist())
 
 

@@ -1,8 +1,9 @@
 """A best assignment as the caller sees it."""
 import copy
 import pickle
+from fractions import Fraction
 from functools import cached_property
-from typing import Any, Dict, Iterable, Iterator, List, NamedTuple, Optional, Tuple
+from typing import Any, Dict, Iterable, Iterator, List, NamedTuple, Optional, Sequence, Tuple
 
 from ..costs import source as sources
 from ..costs.naming import Numbers
@@ -11,11 +12,11 @@ from ..costs.problem import AssignmentProblem, Labels
 from ..costs.reading import Manner, manner
 from ..costs.source import Source, problem_of
 from ..lap import library, proved
+from ..lap.plan_check import check_wholly
 from ..lap.ranking import has_other
 from .infeasible import infeasible
 from .shown import ByNames, FixedList, Missing, fixed, frame_of, numbers
 from .solved import SolvedProblem, WholeDuals, ratios_of, result_parts, sum_of
-from .verdicts import Verdict, verdict_on
 
 
 class _PlanParts(NamedTuple):
@@ -69,6 +70,44 @@ def plan_of(rows: Any, columns: Any, cost: Number, labels: Labels) -> Plan:
     if labels:
         plan.labels = labels
     return plan
+
+
+class Verdict:
+    """What the checker says of a plan with its prices: true as a condition exactly if they prove it best.
+
+    Attributes
+    ----------
+    proved : bool
+        Whether the plan has as many pairs as can be made, and the prices prove that no plan of as many is better.
+    why : str
+        What is wrong with the first row or column that speaks against it, by the labels of a DataFrame; empty if
+        nothing is.
+    row, column : int or None
+        Which row and column these are, from 0, if any.
+
+    Examples
+    --------
+    >>> import nushbaret
+    >>> verdict = nushbaret.check([[1, 2], [3, 5]], columns=[0, 1], prices=[1, 0])
+    >>> bool(verdict), verdict.row, verdict.column
+    (False, 1, 0)
+    """
+
+    def __init__(self, why: str = "", row: Optional[int] = None, column: Optional[int] = None):
+        self.proved = not why
+        self.why, self.row, self.column = why, row, column
+
+    def __bool__(self) -> bool:
+        return self.proved
+
+    def __repr__(self) -> str:
+        return "<nushbaret.Verdict: proved>" if self.proved else f"<nushbaret.Verdict: not proved: {self.why}>"
+
+
+def verdict_on(problem: AssignmentProblem, rows: Sequence[int], columns: Sequence[int],
+               prices: List[Fraction]) -> Verdict:
+    """The verdict on a plan whose rows and columns are numbers of the problem, no row twice."""
+    return Verdict(*check_wholly(problem, rows, columns, prices))
 
 
 class Lasting:

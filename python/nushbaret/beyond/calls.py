@@ -51,7 +51,7 @@ def solve(costs: Any, shape: Optional[Tuple[int, int]] = None, client: Any = Non
 
     Raises
     ------
-    Infeasible
+    nushbaret.Infeasible
         There is no assignment: the named rows may have the named columns only.
     TimeoutError
         The time is over.
@@ -60,6 +60,8 @@ def solve(costs: Any, shape: Optional[Tuple[int, int]] = None, client: Any = Non
     RuntimeError
         A block's costs changed between two passes, or the cluster has no workers.
 
+    Examples
+    --------
     >>> import numpy
     >>> from nushbaret import beyond
     >>> place = numpy.arange(100)
@@ -79,7 +81,7 @@ def solve_pairs(frame: Any, shape: Optional[Tuple[int, int]] = None, client: Any
 
     Parameters
     ----------
-    frame : dask.dataframe, or list of files or calls
+    frame : frame of pandas or dask, or list of files, frames or calls
         Rows, columns and costs in three columns. Files are `.csv`, with or without titles, or `.npy` arrays of three
         columns or fields. A call returns a frame, an array of three columns or three arrays. What is listed several
         times counts once, at its best cost.
@@ -104,9 +106,11 @@ def solve_pairs(frame: Any, shape: Optional[Tuple[int, int]] = None, client: Any
 
     Raises
     ------
-    Infeasible, TimeoutError, ValueError, TypeError, RuntimeError
+    nushbaret.Infeasible, TimeoutError, ValueError, TypeError, RuntimeError
         As in `solve`. Infeasible doesn't come where rows may stay out.
 
+    Examples
+    --------
     >>> from nushbaret import beyond
     >>> parts = [lambda: ([0, 1], [0, 0], [4.0, 2.0]), lambda: ([0], [1], [9.0])]
     >>> beyond.solve_pairs(parts, (2, 2)).columns.tolist()
@@ -134,10 +138,13 @@ def parts_of(frame: Any) -> List[Any]:
     """The partitions of what a caller gave."""
     if hasattr(frame, "to_delayed"):
         frame = frame.to_delayed()
-    parts: List[Any] = [frame] if isinstance(frame, (str, pathlib.Path)) else list(frame)
+    is_one = hasattr(frame, "iloc") or callable(frame) or isinstance(frame, (str, pathlib.Path))
+    parts: List[Any] = [frame] if is_one else list(frame)
     for part in parts:
-        if not (hasattr(part, "compute") or callable(part) or str(part).endswith((".csv", ".npy"))):
-            raise TypeError(f"a partition is {part!r}: it must be a .csv or .npy file, a call, or delayed by dask")
+        is_made = hasattr(part, "compute") or hasattr(part, "iloc") or callable(part)
+        if not (is_made or isinstance(part, (str, pathlib.Path)) and str(part).endswith((".csv", ".npy"))):
+            raise TypeError(f"a partition is {part!r}: it must be a .csv or .npy file, a frame, a call, or delayed by "
+                            "dask")
     if not parts:
         raise ValueError("there are no partitions")
     return parts

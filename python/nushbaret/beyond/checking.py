@@ -3,7 +3,7 @@ from typing import Any, List, NamedTuple, Optional, Tuple
 
 import numpy
 
-from ..api.verdicts import Verdict
+from ..api.results import Verdict
 from . import blocks, bounds
 from .calls import options_of, prices_of
 from .core import Duals, Form
@@ -49,6 +49,8 @@ def check(costs: Any, columns: Any, prices: Any, client: Any = None, *, shape: O
     ValueError, TypeError
         Costs are out of range, or of another shape than columns and prices.
 
+    Examples
+    --------
     >>> import numpy
     >>> from nushbaret import beyond
     >>> costs = numpy.array([[4, 1], [2, 3]])

@@ -104,7 +104,9 @@ def read(part: Any) -> Iterator[Tuple[Any, Any, Any]]:
     if isinstance(part, (str, pathlib.Path)):
         yield from (_lines(pathlib.Path(part)) if str(part).endswith(".csv") else _numpy_file(part))
         return
-    found = part.compute(scheduler="synchronous") if hasattr(part, "compute") else part()
+    if hasattr(part, "compute"):
+        part = part.compute(scheduler="synchronous")
+    found = part if hasattr(part, "iloc") else part()
     rows, columns, costs = three(found)
     for first in range(0, len(costs), PAIRS):
         yield rows[first:first + PAIRS], columns[first:first + PAIRS], costs[first:first + PAIRS]

@@ -8,7 +8,7 @@ from typing import Any, Dict, List, Optional, Sequence, Tuple
 from .limits import BorrowedNumbers
 from .numbers import (ONE, Number, Ratio, Unit, all_shown, bits_above, in_unit, of_decimals, ratio_of, rounded, total,
                       unit_of)
-from .rounding import in_fixed_point, size_of
+from .parts import in_fixed_point, size_of
 
 
 def plain(values: Any) -> Any:

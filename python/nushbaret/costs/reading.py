@@ -16,7 +16,7 @@ from typing import Any, Callable, List, NamedTuple, NoReturn, Optional, Tuple, T
 from . import kinds, parts, printing
 from .limits import FEW, GREATEST_COST, Numbers
 from .numbers import ONE, Ratio, in_unit, of_decimals, ratio_of, unit_of
-from .rounding import size_of
+from .parts import size_of
 
 # With so many decimals at most, costs are made whole before they are solved.
 MOST_UNIT_DECIMALS = 6

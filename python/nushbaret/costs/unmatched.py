@@ -2,7 +2,7 @@
 
 A row left out costs r, a column c, and the sum of a plan has these costs too. What is solved is a problem in which each
 row has a column of its own, for itself alone, at r, and each pair costs c less: its plans of all rows are the plans of
-the first problem, at the same sums but for the sum of all c. With r + s for r and c - s for c it is the same again: a
+the first problem, at the same sums less that of all c. With r + s for r and c - s for c it is the same again: a
 number u, half of which counts on each side, is s = u / 2, so that the costs of pairs stay as they are."""
 from array import array
 from fractions import Fraction

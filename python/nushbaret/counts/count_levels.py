@@ -9,27 +9,26 @@ single payment is at most N then: pairs whose e is above min(0, least e) + N are
 least e is below -N each takes exactly one, and a row or column whose number is beyond N has the count that it stands
 for. What is open is solved again, with e for its costs, at the next level; a number that may be 0 stays in them.
 
-The numbers of all levels, each in its unit, add up to numbers for the given costs. That these prove the plan is checked
-at the end; where they don't, since a number of a later level is greater than what was left out allows, Bellman (1958)
-and Ford mend them."""
+From the first level's numbers Bellman (1958) and Ford find exact ones for what was open. By the level's numbers a row of
+changes of the best plan costs less than 0 only by what this plan pays, at most N units, and by half a unit for each of
+its at most 2 N + 1 pairs. So no number moves by more than 2 N + 1 units, and what was decided has more slack than that.
+The numbers are checked at the end."""
 from array import array
 from collections import Counter
 from fractions import Fraction
 from itertools import compress, count
-from operator import add
-from typing import Any, List, NamedTuple, Optional, Sequence, Tuple, Union
+from typing import Any, List, NamedTuple, Optional, Sequence, Union
 
 from ..costs.kinds import AnyWholeNumbers, Costs, plain
 from ..costs.limits import GREATEST_COST
 from ..costs.numbers import Ratio, in_unit, unit_of
+from .counted import Best, Counted, Marked, Pair, solved
 from .exchanges import exact_numbers
-from .narrowed import Part, fixed, narrowed, reduced_costs
-from .counted import Counted, Marked, solved
+from .narrowed import Part, at, fixed, narrowed, reduced_costs
 
 # Rounded costs have so many bits.
 _BITS = GREATEST_COST.bit_length() - 1
-# The slack of counts and of pairs, as multiples of what a best plan may pay: more than 1, so that the numbers of the
-# next levels seldom outweigh what is left out.
+# The slack of counts and of pairs, as multiples of what a best plan may pay: more than what numbers move.
 _COUNT_SLACK, _PAIR_SLACK = 4, 32
 
 
@@ -64,10 +63,15 @@ class Levelled(NamedTuple):
 
 
 class _Level(NamedTuple):
-    """A level's rounded costs, the size of its unit, and the denominator of both."""
+    """A level: its rounded costs; what it left open, at its exact costs, of which a best plan is chosen; the size of
+    its unit and its numbers, as multiples of 1 / `denominator`."""
 
-    costs: List[int]
+    costs: Any
+    part: Part
+    chosen: Any
     unit: int
+    rows: List[int]
+    columns: List[int]
     denominator: int
 
 
@@ -78,52 +82,57 @@ def best_of(counted: Counted, given: Optional[Given] = None, is_part: bool = Fal
             best = solved(counted, is_part)
             return best if isinstance(best, Marked) else Levelled(best.plan, best.row_numbers, best.column_numbers, 1)
         given = Given(AnyWholeNumbers(counted.listed().costs), 1)
-    answer = _by_levels(counted, given, is_part)
-    if isinstance(answer, Marked):
-        return answer
-    found, level = answer
-    return found if _is_proof(counted, given, found, level) else _mended(counted, given, found)
+    level = _level(counted, given, is_part)
+    if isinstance(level, Marked):
+        return level
+    part, own = level.part, level.part.counted
+    fresh = exact_numbers(own, own.pairs_of(level.chosen), [level.rows[row] for row in part.of_rows],
+                          [level.columns[column] for column in part.of_columns])
+    rows, columns = part.numbers(*fresh, (level.rows, level.columns))
+    found = Levelled(part.plan(level.chosen, len(counted.rows)), rows, columns, level.denominator)
+    if not _is_proof(counted, given, found, level):
+        raise RuntimeError("a plan was found to be the best, and its numbers don't prove it: please report this "
+                           "problem")
+    return found
 
 
-def _by_levels(counted: Counted, given: Given, is_part: bool) -> Union[Tuple[Levelled, _Level], Marked]:
+def _level(counted: Counted, given: Given, is_part: bool) -> Union[_Level, Marked]:
+    """The first level of a problem, with what is chosen of what it left open."""
     numbers, shift = given.costs.rounded(_BITS)
-    costs = [given.sign * cost for cost in numbers.tolist()]
-    found = solved(counted._replace(costs=array("q", costs)), is_part)
+    costs = numbers * given.sign if given.costs.numpy else array("q", [given.sign * cost for cost in numbers])
+    found = solved(counted._replace(costs=costs), is_part)
     if isinstance(found, Marked):
         return found
-    counted, rows, columns = counted.listed(), list(found.row_numbers), list(found.column_numbers)
     most = counted.most_pairs()
     # A float may be that much further from the decimal that it prints as.
     paid = most + 2 + most // 4096
-    bounds = (fixed(counted.row_bounds, rows, _COUNT_SLACK * paid),
-              fixed(counted.column_bounds, columns, _COUNT_SLACK * paid))
-    part = narrowed(counted, reduced_costs(counted, costs, rows, columns), _PAIR_SLACK * paid, *bounds)
+    slack, duals = _COUNT_SLACK * paid, (list(found.row_numbers), list(found.column_numbers))
+    part = narrowed(counted, reduced_costs(counted, costs, *duals), _PAIR_SLACK * paid,
+                    fixed(counted.row_bounds, duals[0], slack), fixed(counted.column_bounds, duals[1], slack))
     ratios = given.ratios(part.places)
     common = unit_of({(1, denominator) for _, denominator in ratios}, True)
     denominator = common.denominator << max(0, shift)
-    level = _Level(costs, denominator >> shift if shift >= 0 else denominator << -shift, denominator)
-    rows, columns = ([0 if abs(number) <= _COUNT_SLACK * paid else number * level.unit for number in numbers]
-                     for numbers in (rows, columns))
-    own = [(in_unit(ratio, common) << max(0, shift)) - rows[counted.rows[place]] - columns[counted.columns[place]]
-           for ratio, place in zip(ratios, part.places)]
-    rest = _rest(part, own)
-    added = part.numbers(rest.row_numbers, rest.column_numbers, counted)
-    plan = part.plan(rest.plan, len(costs))
-    sums = [list(map(add, numbers, more)) for numbers, more in zip((rows, columns), added)]
-    return Levelled(plan, sums[0], sums[1], denominator), level
+    unit = denominator >> shift if shift >= 0 else denominator << -shift
+    exact = [in_unit(ratio, common) << max(0, shift) for ratio in ratios]
+    decided = [[0 if abs(number) <= slack else number * unit for number in own] for own in duals]
+    left = [cost - decided[0][row] - decided[1][column] for cost, (row, column) in zip(
+        exact, part.named(zip(part.counted.rows, part.counted.columns)))]
+    rows, columns = ([number * unit for number in own] for own in duals)
+    return _Level(costs, part._replace(counted=part.counted._replace(costs=exact)),
+                  _rest(part.counted._replace(costs=left)), unit, rows, columns, denominator)
 
 
-def _rest(part: Part, costs: List[int]) -> Levelled:
+def _rest(counted: Counted) -> Any:
     """The best plan of what a level left open."""
-    counted = part.counted._replace(costs=costs)
     if counted.in_range():
-        found: Any = solved(counted, True)
+        found: Union[Best, Marked] = solved(counted, True)
+        if not isinstance(found, Marked):
+            return found.plan
     else:
-        found = _by_levels(counted, Given(AnyWholeNumbers(costs), 1), True)
-        found = found if isinstance(found, Marked) else found[0]
-    if isinstance(found, Marked):
-        raise RuntimeError("a level's plan was found to be possible, and then it wasn't: please report this problem")
-    return Levelled(found.plan, found.row_numbers, found.column_numbers, 1)
+        level = _level(counted, Given(AnyWholeNumbers(counted.costs), 1), True)
+        if not isinstance(level, Marked):
+            return level.part.plan(level.chosen, len(counted.rows))
+    raise RuntimeError("a level's plan was found to be possible, and then it wasn't: please report this problem")
 
 
 # The check.
@@ -132,51 +141,40 @@ def _rest(part: Part, costs: List[int]) -> Levelled:
 def _is_proof(counted: Counted, given: Given, found: Levelled, level: _Level) -> bool:
     """Whether a plan and its numbers are as `Best` says, exactly. Of most pairs the rounded costs and numbers show it:
     e is from 3 units below to 1 unit above what these give."""
-    counted = counted.listed()
-    rows, columns = ([number // level.unit for number in numbers]
-                     for numbers in (found.row_numbers, found.column_numbers))
-    coarse = reduced_costs(counted, level.costs, rows, columns)
+    coarse = reduced_costs(counted, level.costs, *([number // level.unit for number in numbers] for numbers in (
+        found.row_numbers, found.column_numbers)))
+    chosen = list(compress(count(), found.plan))
+    # All others have e above 0.
+    near = [place for place in ((coarse < 5).nonzero()[0].tolist() if hasattr(coarse, "dtype") else
+                                [place for place, own in enumerate(coarse) if own < 5]) if not found.plan[place]]
+    pairs = {place: pair for places in (chosen, near)
+             for place, pair in zip(places, zip(at(counted.rows, places), at(counted.columns, places)))}
+    held = {(pairs[place][0], counted.group_of[pairs[place][1]]): place for place in chosen}
 
     def exact(place: int) -> Fraction:
         (ratio,) = given.ratios([place])
-        both = found.row_numbers[counted.rows[place]] + found.column_numbers[counted.columns[place]]
-        return Fraction(*ratio) - Fraction(both, found.denominator)
+        row, column = pairs[place]
+        return Fraction(*ratio) - Fraction(found.row_numbers[row] + found.column_numbers[column], found.denominator)
 
     def is_below(place: int, other: Optional[int]) -> bool:
         """Whether e at a place is below that at another one, or below 0."""
         apart = coarse[place] - (0 if other is None else coarse[other])
         if abs(apart) > 4:
-            return apart < 0
+            return bool(apart < 0)
         return exact(place) < (0 if other is None else exact(other))
 
-    row_groups = list(counted.row_groups())
-    held = {row_groups[place]: place for place in compress(count(), found.plan)}
-    if len(held) < sum(found.plan) or any(coarse[place] > -1 and exact(place) > 0 for place in held.values()):
-        return False
-    # All others have e above 0.
-    near = [place for place, own in enumerate(coarse) if own < 5]
-    return _keeps_counts(counted, found) and not any(is_below(place, held.get(row_groups[place])) for place in near
-                                                     if not found.plan[place])
+    return (len(held) == len(chosen) and _keeps_counts(counted, found, [pairs[place] for place in chosen])
+            and not any(coarse[place] > -1 and exact(place) > 0 for place in chosen)
+            and not any(is_below(place, held.get((pairs[place][0], counted.group_of[pairs[place][1]])))
+                        for place in near))
 
 
-def _keeps_counts(counted: Counted, found: Levelled) -> bool:
+def _keeps_counts(counted: Counted, found: Levelled, chosen: List[Pair]) -> bool:
     """Whether counts are in their bounds, and each number stands for the count that its row or column has."""
-    for numbers, bounds, duals in ((counted.rows, counted.row_bounds, found.row_numbers),
-                                   (counted.columns, counted.column_bounds, found.column_numbers)):
-        counts = Counter(compress(numbers, found.plan))
+    for side, bounds, duals in ((0, counted.row_bounds, found.row_numbers),
+                                (1, counted.column_bounds, found.column_numbers)):
+        counts = Counter(pair[side] for pair in chosen)
         if any(not bound.least <= counts[number] <= bound.most or dual > 0 and counts[number] > bound.least
                or dual < 0 and counts[number] < bound.most for number, (bound, dual) in enumerate(zip(bounds, duals))):
             return False
     return True
-
-
-def _mended(counted: Counted, given: Given, found: Levelled) -> Levelled:
-    """The plan with numbers that prove it, from numbers that don't."""
-    counted = counted.listed()
-    ratios = given.ratios(range(len(counted.rows)))
-    unit = unit_of({(1, denominator) for _, denominator in (*ratios, (1, found.denominator))}, True)
-    part = unit.denominator // found.denominator
-    own = counted._replace(costs=[in_unit(ratio, unit) for ratio in ratios])
-    rows, columns = exact_numbers(own, own.pairs_of(found.plan), *([number * part for number in numbers] for numbers in (
-        found.row_numbers, found.column_numbers)))
-    return Levelled(found.plan, rows, columns, unit.denominator)

@@ -11,8 +11,8 @@ from typing import Dict, List, NamedTuple, Optional, Sequence, Tuple
 
 from ..rows.certificate_check import shows
 from ..rows.model import Certificate, Leaf, Limits, Terms, flat
-from .lack import Cut, Lack
 from .counted import Bounds, Counted, Pair, RowGroup
+from .lack import Cut, Lack
 
 
 class CountTerms(NamedTuple):

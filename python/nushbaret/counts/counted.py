@@ -124,6 +124,8 @@ def _from_one(values: Any) -> Any:
 
 
 def _counts(bounds: Sequence[Bounds], side: int) -> Numbers:
+    if list(bounds).count(bounds[0]) == len(bounds):
+        return array("I", [min(bounds[0][side], _MOST_COUNT)]) * len(bounds)
     counts = list(map(itemgetter(side), bounds))
     return array("I", counts if max(counts) <= _MOST_COUNT else [min(count, _MOST_COUNT) for count in counts])
 

@@ -1,4 +1,5 @@
 """Parts of a problem with counts: what is left of it where its plans are known to have some pairs and not others."""
+import sys
 from collections import Counter
 from typing import Any, Collection, Dict, FrozenSet, Iterable, List, NamedTuple, Sequence, Set, Tuple
 
@@ -37,18 +38,18 @@ class Part(NamedTuple):
             found[place] = is_chosen
         return found
 
-    def numbers(self, rows: Sequence[int], columns: Sequence[int], whole: Counted) -> Tuple[List[int], List[int]]:
-        """The greater problem's numbers of rows and columns, by those of this one; 0 for what isn't here. Where a row
-        is two rows it has the number of the one that isn't forced: in a group of which it must take one, only
-        differences of pairs count. What has more than its least count has no number above 0; it takes none of this
-        problem's pairs where it had one, so that a lower number proves as much."""
-        of_rows, of_columns = [0] * len(whole.row_bounds), [0] * len(whole.column_bounds)
+    def numbers(self, rows: Sequence[int], columns: Sequence[int], others: Sequence[Sequence[int]]) -> List[List[int]]:
+        """The greater problem's numbers of rows and columns, by those of this one and `others` of them. Where a row is
+        two rows it has the number of the one that isn't forced: in a group of which it must take one, only
+        differences of pairs count. What is over its least count by what is taken must have no number above 0. Where it
+        has one here it takes none of this problem's pairs, and at 0 the e of these only grow."""
+        of_rows, of_columns = list(others[0]), list(others[1])
         for row, number in enumerate(rows):
             if row not in self.forced:
                 of_rows[self.of_rows[row]] = min(number, 0) if row in self.over[0] else number
         for column, number in enumerate(columns):
             of_columns[self.of_columns[column]] = min(number, 0) if column in self.over[1] else number
-        return of_rows, of_columns
+        return [of_rows, of_columns]
 
 
 def whole(counted: Counted) -> Part:
@@ -56,9 +57,24 @@ def whole(counted: Counted) -> Part:
     return Part(counted, range(len(counted.row_bounds)), range(len(counted.column_bounds)), range(len(counted.rows)), ())
 
 
-def reduced_costs(counted: Counted, costs: Iterable[int], rows: Sequence[int], columns: Sequence[int]) -> List[int]:
-    """e = cost - row's number - column's number of each pair."""
+# Three numbers of this size have a sum of 64 bits.
+_MOST_SUMMAND = 2**61
+
+
+def reduced_costs(counted: Counted, costs: Any, rows: Sequence[int], columns: Sequence[int]) -> Any:
+    """e = cost - row's number - column's number of each pair, in a list, or in an array where the pairs are in one and
+    all numbers fit."""
+    if hasattr(counted.rows, "dtype"):
+        if all(-_MOST_SUMMAND < number < _MOST_SUMMAND for own in (rows, columns) for number in own):
+            of_rows, of_columns = (sys.modules["numpy"].array(own, "int64") for own in (rows, columns))
+            return costs - of_rows[counted.rows] - of_columns[counted.columns]
+        counted, costs = counted.listed(), costs.tolist()
     return [cost - rows[row] - columns[column] for cost, row, column in zip(costs, counted.rows, counted.columns)]
+
+
+def at(values: Any, places: List[int]) -> List[int]:
+    """The numbers at some places."""
+    return list(values[places].tolist()) if hasattr(values, "dtype") else [values[place] for place in places]
 
 
 class _Choice(NamedTuple):
@@ -70,7 +86,11 @@ class _Choice(NamedTuple):
     forced: Set[RowGroup]
 
 
-def _choice(counted: Counted, spare: Sequence[int], slack: int) -> _Choice:
+def _choice(counted: Counted, spare: Any, slack: int) -> _Choice:
+    if hasattr(spare, "dtype"):
+        if not counted.n_groups:
+            return _Choice((spare < -slack).nonzero()[0].tolist(), (abs(spare) <= slack).nonzero()[0].tolist(), set())
+        counted, spare = counted.listed(), spare.tolist()
     if not counted.n_groups:
         return _Choice([place for place, own in enumerate(spare) if own < -slack],
                        [place for place, own in enumerate(spare) if -slack <= own <= slack], set())
@@ -94,7 +114,7 @@ def fixed(bounds: Sequence[Bounds], numbers: Sequence[int], slack: int) -> List[
             else Bounds(bound.most, bound.most) for bound, number in zip(bounds, numbers)]
 
 
-def narrowed(counted: Counted, spare: Sequence[int], slack: int, row_bounds: Sequence[Bounds],
+def narrowed(counted: Counted, spare: Any, slack: int, row_bounds: Sequence[Bounds],
              column_bounds: Sequence[Bounds]) -> Part:
     """The part of the plans that keep the bounds, and of which no pair costs more than its slack.
 
@@ -102,15 +122,15 @@ def narrowed(counted: Counted, spare: Sequence[int], slack: int, row_bounds: Seq
     It is in this part if in each row group it pays at most that and the slack: then it takes exactly one where the
     least e is below -slack, and only pairs whose e is at most min(0, least e) + slack. The part's costs aren't set."""
     choice = _choice(counted, spare, slack)
-    had, used = (Counter(numbers[place] for place in choice.taken) for numbers in (counted.rows, counted.columns))
+    had, used = (Counter(at(numbers, choice.taken)) for numbers in (counted.rows, counted.columns))
     must = Counter(row for row, _ in choice.forced)
-    is_free = [(counted.rows[place], counted.group_of[counted.columns[place]]) not in choice.forced
-               for place in choice.open] if choice.forced else [True] * len(choice.open)
-    order = sorted(zip(((counted.rows[place], free) for place, free in zip(choice.open, is_free)), choice.open))
+    order = sorted((row, (row, counted.group_of[column]) not in choice.forced, place, column)
+                   for row, column, place in zip(at(counted.rows, choice.open), at(counted.columns, choice.open),
+                                                 choice.open))
     rows: Dict[Tuple[int, bool], int] = {}
     columns: Dict[int, int] = {}
-    of_rows = [rows.setdefault(key, len(rows)) for key, _ in order]
-    of_columns = [columns.setdefault(counted.columns[place], len(columns)) for _, place in order]
+    of_rows = [rows.setdefault((row, free), len(rows)) for row, free, _, _ in order]
+    of_columns = [columns.setdefault(column, len(columns)) for _, _, _, column in order]
     sides = ([_less(row_bounds[row], had[row] + must[row]) if free else Bounds(must[row], must[row])
               for row, free in rows], [_less(column_bounds[column], used[column]) for column in columns])
     bounds = [[Bounds(max(0, bound.least), bound.most) for bound in side] for side in sides]
@@ -118,7 +138,7 @@ def narrowed(counted: Counted, spare: Sequence[int], slack: int, row_bounds: Seq
     group_of = [group if group < counted.n_groups else counted.n_groups + number
                 for number, group in enumerate(map(counted.group_of.__getitem__, columns))]
     part = Counted(bounds[0], bounds[1], group_of, counted.n_groups, of_rows, of_columns, [])
-    return Part(part, [row for row, _ in rows], list(columns), [place for _, place in order], choice.taken,
+    return Part(part, [row for row, _ in rows], list(columns), [place for _, _, place, _ in order], choice.taken,
                 frozenset(number for number, (_, free) in enumerate(rows) if not free), (over[0], over[1]))
 
 

@@ -3,12 +3,12 @@ from heapq import heappop, heappush
 from typing import Any, Collection, Dict, FrozenSet, Iterator, List, NamedTuple, Optional, Sequence, Set, Tuple
 
 from ..rows.certificate_check import shows
+from .count_levels import Given, Levelled, best_of
 from .count_rows import Shown, certificate_of_best, check_lacks
+from .counted import Bounds, Counted, Marked, Pair, show_progress
 from .exchanges import Exchanges, Other, exchanges_of, free_pairs, next_plan
 from .lack import Cut, Lack, cut_of, lacks_of
-from .count_levels import Given, Levelled, best_of
 from .narrowed import Part, fixed, narrowed, reduced_costs, settled, whole
-from .counted import Bounds, Counted, Marked, Pair, show_progress
 
 
 class Plans(NamedTuple):
@@ -40,8 +40,9 @@ class Plans(NamedTuple):
 
     def shown(self) -> Shown:
         """The best plan with its numbers, as a certificate shows it."""
-        best = self.best
-        return Shown(self.pairs(), *self.part.numbers(best.row_numbers, best.column_numbers, self.problem), self.cut)
+        others = [0] * len(self.problem.row_bounds), [0] * len(self.problem.column_bounds)
+        rows, columns = self.part.numbers(self.best.row_numbers, self.best.column_numbers, others)
+        return Shown(self.pairs(), rows, columns, self.cut)
 
 
 class Planned(NamedTuple):

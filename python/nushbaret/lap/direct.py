@@ -137,11 +137,12 @@ def found_listed(given: Tuple[Any, Any, Any, Any, Any], maximize: bool,
                  end: float = math.inf) -> Optional[proved.ResultParts]:
     """The same of listed pairs: how many rows and columns there are, arrays of their numbers, and of costs; or of a
     sparse matrix in the place of the first."""
-    held = extension()
-    if held is None or reading.loaded_numpy() is None:
-        return None
+    held, numpy = extension(), reading.loaded_numpy()
     listed = (*given, 0) if given[1] is not None else _of_sparse(given[0])
-    if listed is None or type(listed[0]) is not int or type(listed[1]) is not int:
+    if held is None or numpy is None or listed is None:
+        return None
+    # An array with a mask is one of a kind of its own.
+    if [*map(type, listed[:5])] != [int, int, *[numpy.ndarray] * 3]:
         return None
     answer = held.listed(*listed, maximize, end)
     return None if answer is None else _parts(listed[0], listed[1], maximize, answer)

@@ -4,11 +4,11 @@ import math
 from array import array
 from typing import Any, Dict, NamedTuple, Optional, Tuple
 
+from ..costs.parts import MOST_SHIFT, in_fixed_point, size_of
 from ..costs.problem import AssignmentProblem
 from ..costs.reading import loaded_numpy
-from ..costs.rounding import MOST_SHIFT, in_fixed_point, size_of
 from . import library
-from .level import BITS, Level
+from .arrays import BITS, Level
 
 _calls: Dict[str, Any] = {}
 

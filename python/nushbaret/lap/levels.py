@@ -20,7 +20,7 @@ from ..costs.kinds import WholeNumbers
 from ..costs.numbers import Unit
 from ..costs.problem import AssignmentProblem
 from . import arrays, doubles, pricing, proved, residues, ties
-from .level import BITS, Level, Pairs, more
+from .arrays import BITS, Level, Pairs, more
 from .reduced import is_only_plan, kept, level_of
 
 

@@ -7,10 +7,10 @@ from typing import Any, List, NamedTuple, Optional, Tuple
 
 from ..costs import parts
 from ..costs.orientation import matrix_of
+from ..costs.parts import in_fixed_point
 from ..costs.problem import AssignmentProblem
-from ..costs.rounding import in_fixed_point
 from . import arrays, proved
-from .level import Level, Pairs
+from .arrays import Level, Pairs
 
 # A smaller matrix is solved as a whole: its copy takes little memory.
 LARGE = 2**22

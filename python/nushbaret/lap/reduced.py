@@ -7,7 +7,7 @@ from typing import Dict, List, Tuple
 from ..costs.kinds import plain
 from ..costs.limits import BorrowedNumbers
 from . import arrays, proved
-from .level import Level, Pairs
+from .arrays import Level, Pairs
 
 # Where a plan has changes in more pairs than this for each person, it is seldom the only one.
 MOST_CHANGES = 3

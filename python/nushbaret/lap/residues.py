@@ -13,12 +13,11 @@ from ..costs import parts
 from ..costs.kinds import plain
 from ..costs.numbers import Ratio, in_unit, unit_of
 from ..costs.orientation import own_place
+from ..costs.parts import MOST_SHIFT, in_fixed_point, size_of
 from ..costs.problem import AssignmentProblem
 from ..costs.reading import loaded_numpy
-from ..costs.rounding import MOST_SHIFT, in_fixed_point, size_of
 from . import arrays, proved, reduced
-from .arrays import MOST_BITS, taken_off
-from .level import BITS, Level, Pairs, more
+from .arrays import BITS, MOST_BITS, Level, Pairs, more, taken_off
 
 # From so many pairs on an array is worth making.
 FEW_PAIRS = 64

@@ -18,10 +18,10 @@ from ..costs.kinds import WholeNumbers
 from ..costs.limits import GREATEST_COST
 from ..costs.numbers import in_unit, ratio_of, unit_of
 from ..costs.orientation import matrix_of
+from ..costs.parts import MOST_SHIFT, size_of
 from ..costs.problem import AssignmentProblem
-from ..costs.rounding import MOST_SHIFT, size_of
 from . import arrays, proved
-from .level import Level, more
+from .arrays import Level, more
 
 # In so many rows costs are looked at. A share of this size has to be near the least one of its row, without that one.
 _ROWS = 16

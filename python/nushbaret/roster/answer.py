@@ -212,8 +212,13 @@ PLURALS = {"person": "people", **{word: word + "s" for word in ("object", "pair"
 
 
 def counted(count: int, word: str) -> str:
-    """A count of things: 1 shift, 2 shifts, 3 people, 2 Schicht."""
-    return f"{count} {word if count == 1 else plural(word)}"
+    """A count of things: 1 shift, 2 shifts, 3 people, 2 \u00d7 Schicht."""
+    return f"{count} {word}" if count == 1 else several(str(count), word)
+
+
+def several(count: str, word: str) -> str:
+    """Several things: 2-3 shifts; where the plural of a title isn't known, 2-3 \u00d7 Schicht."""
+    return f"{count} {PLURALS[word]}" if word in PLURALS else f"{count} \u00d7 {word}"
 
 
 def plural(word: str) -> str:

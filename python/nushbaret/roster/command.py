@@ -19,7 +19,7 @@ from .files import (STANDARD_OUTPUT, Output, OutputFault, is_device, make_folder
 from .forms import read_roster
 from .groups import read_counts, read_groups, refuse_two_of_a_group, with_rules
 from .names import quoted, shown_path, without_marks
-from .output.texts import (Hand, Report, as_csv, first_lines, forgotten_line, gone_line, in_encoding_of, printed,
+from .output.texts import (Hand, Report, as_csv, changes_as_csv, first_lines, forgotten_line, gone_line, in_encoding_of, printed,
     read_lines)
 from .roster import OldPlan, PlanLine, Roster, read_hand_plan, read_old_plan, read_plan
 from .sheets import Reading, RosterFault, heading_of
@@ -90,8 +90,8 @@ def _device(fault: Exception) -> str:
 
 
 def _run(options: Options) -> int:
-    if options.certificate is not None and not options.force:
-        refuse_existing(options.certificate)
+    for path in [*filter(None, [options.certificate]), *options.changes] if not options.force else ():
+        refuse_existing(path)
     for output in options.outputs:
         if not options.force and not output.is_standard:
             refuse_existing(output.path)
@@ -301,6 +301,9 @@ def _write(report: Report, lines: List[str]) -> bool:
         stem, end = os.path.splitext(options.certificate)
         files += [(f"{stem}-{number}{end}", certificate_text(found.certificate).encode())
                   for number, found in enumerate(report.proved.following, 2) if found.certificate is not None]
+    if report.kept is not None and report.answer.plan is not None:
+        text = changes_as_csv(report.roster, report.answer.plan, report.kept)
+        files += [(path, in_encoding_of(report.roster, text)) for path in options.changes]
     if options.each and report.answer.plan is not None:
         from .output.each import files_of
         files += files_of(report.roster, report.answer.plan, report.kept, options.each)
@@ -356,7 +359,7 @@ def content_of(report: Report, lines: List[str], output: Output) -> bytes:
     if kind == "xlsx":
         from .output.workbook import as_xlsx
         return as_xlsx(report, plan)
-    text = as_csv(report.roster, plan, report.kept)
+    text = as_csv(report.roster, plan)
     return text.encode() if output.is_standard else in_encoding_of(report.roster, text)
 
 

@@ -5,9 +5,10 @@ from typing import Dict, Iterator, List, NamedTuple, Optional, Protocol, Sequenc
 
 from ..costs.limits import MOST_PERSONS
 from ..counts.counted import Bounds
+from .cells import is_plain
 from .dates import spellings
 from .names import quoted
-from .roster import Earlier, Groups, PlanLine, Roster, Takes, Wanted, known, looks_like_number
+from .roster import TITLES, Earlier, Groups, PlanLine, Roster, Takes, Wanted, known, looks_like_number
 from .sheets import RosterFault, Sheet, item_of
 from .times_of_day import Times, columns_of, times_of
 
@@ -21,6 +22,8 @@ class Counts(NamedTuple):
     path: str
     wanted: Dict[int, Wanted] = {}
     teams: Dict[Tuple[str, str], List[int]] = {}
+    # What the file's first column is titled.
+    title: str = ""
 
 
 def read_counts(path: str, roster: Roster, of_objects: bool) -> Counts:
@@ -40,7 +43,7 @@ def read_counts(path: str, roster: Roster, of_objects: bool) -> Counts:
     if looks_like_number(title[1]):
         sheet.refuse(f"a title line must come first, and {quoted(title[1])} is a number", line, 2)
     if of_objects and any(cell.casefold() in (WANTED, PRICE) for cell in title[1:]):
-        return _Wanting(sheet, roster, title, line).counts()
+        return _Wanting(sheet, roster, title, line).counts()._replace(title=title[0])
     bounds: Dict[int, Bounds] = {}
     are_ranges = False
     limit = len(roster.persons if of_objects else roster.objects)
@@ -64,7 +67,7 @@ def read_counts(path: str, roster: Roster, of_objects: bool) -> Counts:
     if roster.groups is not None:
         for number, kind in roster.groups.kinds.items():
             bounds.update({number: of_kinds[kind]} if kind in of_kinds and number not in bounds else {})
-    return Counts(bounds, are_ranges, path, teams=teams)
+    return Counts(bounds, are_ranges, path, teams=teams, title=title[0])
 
 
 def _is_kind(roster: Roster, name: str) -> bool:
@@ -232,7 +235,7 @@ class _Groups:
         self._sheet, self._roster, self._has_earlier = sheet, roster, has_earlier
         self._columns, self._kind = columns_of(sheet, title, line), _column_of_kinds(sheet, title, line)
         own = sheet.name(title[1], line, 2) if title[1] else ""
-        self.found = Groups(own, [], {}, {}, {}, self._kind is not None)
+        self.found = Groups(own, [], {}, {}, {}, self._kind is not None, of=title[0])
         self.earlier: List[Earlier] = []
         self.lines: Dict[int, int] = {}
         self.group_lines: List[int] = []
@@ -291,9 +294,18 @@ def with_rules(roster: Roster, tasks: Optional[Counts], capacities: Optional[Cou
     of_persons, of_objects = ({number: Bounds(0, bound.most) if are_sums else bound
                                for number, bound in counts.bounds.items()} if counts else {}
                               for counts in (tasks, capacities))
-    return roster._replace(takes=Takes(of_persons, of_objects, are_sums) if given else None,
+    titles = (_titled(roster.titles[0], TITLES[0], *(own.title for own in [tasks] if own)),
+              _titled(roster.titles[1], TITLES[1], *(own.title for own in [capacities] if own),
+                      *(own.of for own in [groups] if own)), roster.titles[2])
+    return roster._replace(titles=titles, takes=Takes(of_persons, of_objects, are_sums) if given else None,
                            groups=groups or roster.groups,
                            wanted=capacities.wanted if capacities else {}, teams=tasks.teams if tasks else {})
+
+
+def _titled(title: str, ours: str, *others: str) -> str:
+    """A title of the roster; where it has none, the first of other files' that is a name."""
+    named = [other for other in others if is_plain(other) and not looks_like_number(other)]
+    return named[0] if title == ours and named else title
 
 
 class Broken(NamedTuple):

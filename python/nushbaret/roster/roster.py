@@ -107,6 +107,8 @@ class Groups(NamedTuple):
     has_kinds: bool = False
     earlier: Sequence[Earlier] = ()
     lines: Sequence[int] = ()
+    # What the column of objects is titled in their file.
+    of: str = ""
 
 
 class Wanted(NamedTuple):

@@ -96,7 +96,13 @@ class Options(NamedTuple):
     @property
     def written(self) -> List[str]:
         """All files that are written, except those for each person."""
-        return [output.path for output in self.outputs] + list(filter(None, [self.certificate]))
+        return [output.path for output in self.outputs] + list(filter(None, [self.certificate])) + self.changes
+
+    @property
+    def changes(self) -> List[str]:
+        """The files of changes from a kept plan: one beside each plan in CSV."""
+        return [os.path.splitext(output.path)[0] + CHANGES for output in self.outputs
+                if self.keep is not None and output.kind == "csv" and not output.is_standard]
 
 
 def _output(path: str) -> Output:
@@ -130,6 +136,8 @@ def _encoding(word: str) -> str:
     return word
 
 
+# How the file of changes beside a plan ends.
+CHANGES = "-changes.csv"
 DECIMALS = tuple(map(str, range(MOST_UNIT_DECIMALS + 1)))
 COUNT_OF_DECIMALS = Value("K", choices=DECIMALS, read=_number(0, MOST_UNIT_DECIMALS))
 PLAN = Value("PLAN", True, (".csv", ".json", ".xlsx"))

@@ -360,7 +360,7 @@ class Sides(unittest.TestCase):
                     self.assertEqual(list(result.rows), sorted(result.rows))
 
     def test_searches_begin_at_the_last_plan(self):
-        """Also of a rectangle, whichever side is the fewer."""
+        """Also of a rectangle, with fewer rows or fewer columns."""
         for shape in ((3, 5), (5, 3), (4, 4)):
             assigner = nushbaret.Assigner([[7 * row * column % 11 for column in range(shape[1])]
                                            for row in range(shape[0])])

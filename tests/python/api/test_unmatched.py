@@ -1,4 +1,4 @@
-"""Rows and columns that may be left out at a cost, beside all plans one by one in fractions."""
+"""Rows and columns that may be left out at a cost, compared with all plans one by one in fractions."""
 import copy
 import pickle
 import random

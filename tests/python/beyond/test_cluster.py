@@ -15,6 +15,8 @@ import warnings
 
 from optional import np, pd
 
+import nushbaret
+
 if np:
     from nushbaret import beyond
     from .costs import Points
@@ -105,6 +107,15 @@ class Local(unittest.TestCase):
             for client in (None, self.client):
                 found = beyond.solve_pairs(frame, (150, 150), client)
                 self.assertEqual((found.columns.tolist(), found.verdict), (wanted.columns.tolist(), "proved"))
+
+    def test_many_problems(self):
+        """The batches of examples/beyond.py, next to one problem at a time."""
+        spec = importlib.util.spec_from_file_location("example", HERE.parents[3] / "examples" / "beyond.py")
+        example = importlib.util.module_from_spec(spec)
+        spec.loader.exec_module(example)
+        wanted = sum(nushbaret.solve(costs).cost for seed in range(3)
+                     for costs in np.random.default_rng(seed).integers(0, 100, (50, 12, 12), np.int16))
+        self.assertEqual(example.many_problems(self.client, 150, 50), wanted)
 
     def test_time_and_faults(self):
         with self.assertRaises(TimeoutError):

@@ -1,11 +1,15 @@
-"""The sessions of docs/BEYOND.md, and the examples of the calls."""
+"""The sessions of docs/BEYOND.md, the examples of the calls, and examples/beyond.py."""
 import doctest
+import os
 import pathlib
+import subprocess
+import sys
 import unittest
 
 from optional import np
 
-PAGE = pathlib.Path(__file__).resolve().parents[3] / "docs" / "BEYOND.md"
+TOP = pathlib.Path(__file__).resolve().parents[3]
+PAGE = TOP / "docs" / "BEYOND.md"
 
 
 @unittest.skipUnless(np, "needs NumPy")
@@ -23,6 +27,14 @@ class Examples(unittest.TestCase):
         from .slow_blocks import patched
         patched()
         self.assertEqual(doctest.testfile(str(PAGE), module_relative=False).failed, 0)
+
+    def test_program(self):
+        path = {**os.environ, "PYTHONPATH": os.pathsep.join(sys.path)}
+        ran = subprocess.run([sys.executable, str(TOP / "examples/beyond.py"), "300"], capture_output=True, text=True,
+                             env=path)
+        self.assertEqual(ran.returncode, 0, ran.stderr)
+        self.assertIn("proved, gap 0, ", ran.stdout)
+        self.assertIn("pass", ran.stderr)
 
 
 if __name__ == "__main__":

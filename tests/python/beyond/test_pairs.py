@@ -115,6 +115,8 @@ class Files(unittest.TestCase):
         frame = pd.DataFrame({"row": ["a", "a", "b"], "column": ["x", "y", "x"], "cost": [4, 1, 2]})
         found = beyond.solve_pairs([lambda: frame[:2], lambda: frame[2:]])
         self.assertEqual((found.columns.tolist(), found.labels), ([1, 0], (["a", "b"], ["x", "y"])))
+        for frames_of_it in (frame, [frame[:1], frame[1:]]):
+            self.assertEqual(beyond.solve_pairs(frames_of_it).columns.tolist(), [1, 0])
 
     def test_what_is_wrong(self):
         files = self.in_folder({"a.csv": "0,0,4\n0,1\n", "b.csv": "0,0,nan\n", "c.csv": "0,7,1\n", "d.csv": "x,0,1\n"})

@@ -1,5 +1,6 @@
 """Plans for costs that nobody holds, compared with the package's own for the whole matrix: drawn problems of ten kinds,
 sources of each kind, time, progress and faults."""
+import importlib.util
 import pathlib
 import tempfile
 import time
@@ -85,6 +86,10 @@ class Sources(unittest.TestCase):
             sources = {"call": (costs, costs.shape), "memmap": (held, None), "part of a memmap": (held[:, :], None),
                        "columns first": (np.asfortranarray(whole), None),
                        "file": (np.load(f"{path}.npy", mmap_mode="r"), None), "chunks": (Chunks(whole, 16), None)}
+            if importlib.util.find_spec("zarr"):
+                import zarr
+                sources["zarr"] = zarr.open(f"{path}.zarr", "w", shape=whole.shape, chunks=(16, 30), dtype=float), None
+                sources["zarr"][0][:] = whole
             for name, (source, shape) in sources.items():
                 with self.subTest(name=name):
                     found = beyond.solve(source, shape, block_rows=13)

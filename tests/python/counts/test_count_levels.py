@@ -108,26 +108,49 @@ class Numbers(unittest.TestCase):
             found += 1
         self.assertGreater(found, 100)
 
-    def test_numbers_that_prove_nothing_are_mended(self):
-        """Where the numbers of levels aren't enough, exact ones are found; a plan that isn't best has none."""
-        draw, kept = random.Random(84), levels._by_levels
-        found = 0
+    def test_numbers_that_prove_nothing_are_a_fault(self):
+        """Other numbers pass only where they prove the plan."""
+        draw, kept = random.Random(84), levels.exact_numbers
+        results = [0, 0]
         for case, (roster, maximize) in enumerate(rosters(84, DRAWN)):
             widened(draw, roster, KINDS[case % 4])
 
             def spoiled(*words):
-                answer = kept(*words)
-                if isinstance(answer, levels.Marked):
-                    return answer
-                best, level = answer
-                return best._replace(row_numbers=[number + draw.randint(-3, 3) * level.unit
-                                                  for number in best.row_numbers]), level
+                rows, columns = kept(*words)
+                both = [*rows, *columns] or [0]
+                both[draw.randrange(len(both))] += draw.choice((-1, 1)) * 10**draw.randint(0, 50)
+                return both[:len(rows)], both[len(rows):len(rows) + len(columns)]
             if not any(not missed for missed, _, _ in roster.plans(maximize)):
                 continue
-            with mock.patch.object(levels, "_by_levels", spoiled), self.subTest(case=case):
-                self.assertTrue(proves(roster, roster.assign(maximize=maximize), maximize))
-            found += 1
-        self.assertGreater(found, 50)
+            with mock.patch.object(levels, "exact_numbers", spoiled), self.subTest(case=case):
+                try:
+                    self.assertTrue(proves(roster, roster.assign(maximize=maximize), maximize))
+                    results[1] += 1
+                except RuntimeError as fault:
+                    self.assertIn("its numbers don't prove it: please report this problem", str(fault))
+                    results[0] += 1
+        self.assertGreater(min(results), 10)
+
+    def test_worse_plans_are_a_fault(self):
+        """Where levels choose another plan no numbers prove it."""
+        draw, kept, found = random.Random(87), levels._rest, 0
+        for case, (roster, maximize) in enumerate(rosters(87, DRAWN)):
+            widened(draw, roster, KINDS[case % 4])
+            least = min((cost for missed, cost, _ in roster.plans(maximize) if not missed), default=None)
+            if least is None:
+                continue
+
+            def worse(counted):
+                costs = [-cost for cost in counted.costs]
+                return kept(counted._replace(costs=costs))
+            with mock.patch.object(levels, "_rest", worse), self.subTest(case=case):
+                try:
+                    result = roster.assign(maximize=maximize)
+                    self.assertEqual((-result.cost if maximize else result.cost), least)
+                except RuntimeError as fault:
+                    self.assertIn("please report this problem", str(fault))
+                    found += 1
+        self.assertGreater(found, 10)
 
 
 class Others(unittest.TestCase):

@@ -13,7 +13,7 @@ import nushbaret
 from nushbaret.costs.kinds import ExactNumbers
 from nushbaret.costs.problem import AssignmentProblem, of_matrix
 from nushbaret.costs.reading import manner
-from nushbaret.lap import doubles as _doubles, duals, level as _level, levels, pricing, reduced, ties as _ties
+from nushbaret.lap import arrays as _level, doubles as _doubles, duals, levels, pricing, reduced, ties as _ties
 from drawn import KINDS, best, doubles, drawing, exactly, hungarian, proves
 from optional import np
 from ways import by_the_longer_way, longer_call

@@ -86,6 +86,14 @@ class Listed(unittest.TestCase):
                 with self.assertRaises((ValueError, TypeError)):
                     nushbaret.solve_sparse(*words)
 
+    def test_masks(self):
+        masked = np.ma.array([1, 2, 3], mask=[0, 0, 1])
+        words = 2, 2, np.array([0, 1, 1]), np.array([0, 0, 1]), masked
+        with self.assertRaisesRegex(ValueError, "masked"):
+            nushbaret.solve_sparse(*words)
+        with self.assertRaises(nushbaret.Infeasible):
+            nushbaret.solve_sparse(*words, missing="forbid")
+
     def test_wrong_beginnings(self):
         """Rows that don't begin where they may are left."""
         data, indices = np.array([1.0, 2]), np.array([0, 1])

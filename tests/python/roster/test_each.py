@@ -85,7 +85,8 @@ class Files(Runs):
         self.assertIn("<td>office</td>", self.read("out/Cleo.html"))
 
     def test_same_bytes(self):
-        """The same plan gives the same files; another one gives its other shifts other events."""
+        """The same plan gives the same files; another one gives its other shifts other events, and keeps the old
+        ones' names."""
         self.run_words(*self.words, "--each", "out")
         before = self.held()
         self.assertEqual(self.run_words(*self.words, "--each", "out")[0], 4)
@@ -98,6 +99,27 @@ class Files(Runs):
         shifts = {(name, own.get("SUMMARY")) for files in (before, after) for name in files if name.endswith(".ics")
                   for _, own in components(files[name])[1:]}
         self.assertEqual(len(ids[0]), len(shifts))
+
+    def test_what_is_gone_is_cancelled(self):
+        """A replanned month cancels events of the folder's older file, in a version above its own; the same plan again
+        gives the same bytes, and what comes back is live."""
+        def versions(name):
+            return {own["UID"]: (own.get("STATUS"), own.get("SEQUENCE")) for _, own in components(self.held()[name])[1:]}
+        self.run_words(*self.words, "--each", "out")
+        first = self.held()
+        self.run_words(*self.words, "--each", "out", "--force", "--max")
+        before = {own["UID"] for _, own in components(first["Ada.ics"])[1:]}
+        after = versions("Ada.ics")
+        gone = {uid for uid, (status, _) in after.items() if status == "CANCELLED"}
+        self.assertTrue(gone and gone <= before <= set(after))
+        self.assertEqual({number for _, number in after.values()}, {"1"})
+        same = self.held()
+        self.run_words(*self.words, "--each", "out", "--force", "--max")
+        self.assertEqual(self.held(), same)
+        self.run_words(*self.words, "--each", "out", "--force")
+        back = versions("Ada.ics")
+        self.assertEqual({uid for uid, (status, _) in back.items() if status is None}, before)
+        self.assertEqual({number for _, number in back.values()}, {"2"})
 
     def test_changes(self):
         self.file("k.csv", "a,b\nAda,early Wed\nBen,early Mon\n")

@@ -60,7 +60,7 @@ class Guards(Runs):
         self.file("k.json", json.dumps({"pairs": [{"person": "=Zoe", "object": "@x"}]}))
         self.file("r.csv", SQUARE)
         self.run_words("r.csv", "--keep", "k.json", "--output", "p.csv")
-        self.assertIn("'=Zoe,'@x,,not possible\n", self.read("p.csv"))
+        self.assertIn("'=Zoe,'@x,not possible\n", self.read("p-changes.csv"))
 
     @unittest.skipUnless(openpyxl, "openpyxl isn't installed")
     def test_workbooks(self):

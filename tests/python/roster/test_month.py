@@ -68,8 +68,12 @@ class Changed(Runs):
         self.assertTrue(out.endswith("old.csv: 1 pair goes\n  Ada: Tue 1 goes\n"))
         self.assertEqual(json.loads(self.read("p.json"))["keep"]["changes"],
                          [{"person": "Ada", "goes": ["Tue 1"], "comes": []}])
-        self.assertEqual(self.read("new.csv"), "nurse,shift,cost,change\nAda,Mon 1,1,\nAda,Tue 1,,goes\nBen,Tue "
-                         "1,1,\nBen,Mon 2,2,\n")
+        self.assertEqual(self.read("new.csv"), "nurse,shift,cost\nAda,Mon 1,1\nBen,Tue 1,1\nBen,Mon 2,2\n")
+        self.assertEqual(self.read("new-changes.csv"), "nurse,shift,change\nAda,Tue 1,goes\n")
+        self.assertEqual(self.run_words(*self.rules, "--output", "other.csv", "-q")[0], 0)
+        self.file("third-changes.csv", "mine")
+        self.assertEqual(self.run_words(*self.rules, "--output", "third.csv"),
+                         (4, "", "third-changes.csv exists: --force overwrites it\n"))
         self.assertIn("<p>old.csv: 1 pair goes</p>\n<ul>\n<li>Ada: Tue 1 goes</li>", without_names(self.read("p.html")))
         for plan in ("new.csv", "p.json"):
             self.assertIn(f"{plan}: no pair changes", self.run_words(*self.rules[:-1], plan)[1])
@@ -105,15 +109,14 @@ class Changed(Runs):
                                      "Wed not possible now (gone)\n"))
         self.assertEqual([lost["why"] for lost in json.loads(self.read("p.json"))["keep"]["not_possible"]],
                          ["forbidden", "takes none", "gone", "gone"])
-        self.assertIn("\nAda,Tue 1,,not possible\n", self.read("new.csv"))
+        self.assertIn("\nAda,Tue 1,not possible\n", self.read("new-changes.csv"))
         self.file("t.csv", "nurse,at least,at most\nAda,1,2\nBen,2,2\nCleo,0,1\n")
         self.assertIn("new.csv: no pair changes\n", self.run_words(*self.rules[:-1], "new.csv")[1])
 
-    def test_a_roster_with_that_title(self):
-        """Costs may be called `change`: the fourth column still says what goes."""
-        self.file("r.csv", self.read("r.csv").replace("cost", "change"))
-        self.run_words(*self.rules, "--output", "new.csv")
-        self.assertIn("Ada,Tue 1,,goes\n", self.read("new.csv"))
+    def test_plans_of_old(self):
+        """A column `change` says of lines that they are none of the plan; costs may be called so, too."""
+        self.file("new.csv", "nurse,shift,change,change\nAda,Mon 1,1,\nAda,Tue 1,,goes\nBen,Tue 1,1,\nBen,Mon 2,2,comes\n"
+                  "Ben,Mon 1,,not possible\n")
         self.assertIn("new.csv: no pair changes\n", self.run_words(*self.rules[:-1], "new.csv")[1])
 
 
@@ -277,7 +280,7 @@ class Past(Month):
         self.assertIn("\nBen: night Tue, 7 (past)\n", out)
         self.assertTrue(out.endswith("plan.csv: 1 pair comes\n  Eve: night Wed comes\n  Ben: night Wed not possible "
                                      "now (gone)\n"))
-        self.assertIn("Ben,night Tue,7,\n", self.read("new.csv"))
+        self.assertIn("Ben,night Tue,7\n", self.read("new.csv"))
         self.assertEqual([pair["cost"] for pair in json.loads(self.read("p.json"))["pairs"] if pair["person"] == "Ben"],
                          ["7"])
         for again in ("p.json", "new.csv"):

@@ -1,5 +1,5 @@
 -- What a solving call returns, and what it writes into the buffers.
-use Rattle.std.specs.Prelude.{◌≡◌, ℕ, ℤ, pos, List, [], ◌∷◌, Result, Ok, Err, Bool, true, false, length, drop, ◌++◌, if◌then◌else◌}
+use Rattle.std.specs.Prelude.{◌≡◌, ℕ, ℤ, pos, List, [], ◌∷◌, Result, Ok, Err, Bool, length, drop, ◌++◌, if◌then◌else◌}
 use lib.Ieee.{Float}
 use Rattle.assign_core.specs.declared.sense.Sense.{Sense}
 use Rattle.c_calls.specs.declared.fault.Fault.{Fault}

@@ -10,7 +10,7 @@ from ..day_tables import Block, blocks_of, group_of, labels_of
 from ..names import shown_path
 from ..roster import OldPlan, Roster
 from ..times_of_day import Times
-from .calendar import Event, calendar
+from .calendar import Event, Older, calendar, older_of
 from .html import document, name, ours, scrolling, style_of
 
 PAGE, CALENDAR = ".html", ".ics"
@@ -59,8 +59,17 @@ def files_of(roster: Roster, plan: NamedPlan, kept: Optional[OldPlan], folder: s
             days = [(object_, group_of(roster, object_)) for object_ in objects]
             events = [Event(roster.objects[object_], labels[object_], dates[group], times_at(roster, object_))
                       for object_, group in days if group is not None]
-            yield path + CALENDAR, calendar(title, sorted(events, key=lambda event: (event.day, event.times or (0, 0))),
-                                            min(dates))
+            events.sort(key=lambda event: (event.day, event.times or (0, 0)))
+            yield path + CALENDAR, calendar(title, events, min(dates), _older(path + CALENDAR))
+
+
+def _older(path: str) -> Optional[Older]:
+    """The calendar that is there already, if there is one."""
+    try:
+        with open(path, "rb") as file:
+            return older_of(file.read())
+    except OSError:
+        return None
 
 
 def lines_on_calendars(roster: Roster, plan: NamedPlan, folder: str) -> List[str]:

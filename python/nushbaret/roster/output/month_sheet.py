@@ -106,7 +106,7 @@ def _wanted(roster: Roster, object_: int) -> Optional[int]:
     """How many are wanted, or needed at least; None where nothing says it."""
     if object_ in roster.wanted:
         return roster.wanted[object_].number
-    return None if roster.least is None else roster.least[1].get(object_)
+    return roster.of_object(object_).least if roster.has_bounds else None
 
 
 def _columns(report: Report, plan: NamedPlan, days: Sequence[Day], kinds: Sequence[str],

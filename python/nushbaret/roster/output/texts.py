@@ -2,7 +2,7 @@
 import csv
 import io
 from collections import Counter
-from typing import TYPE_CHECKING, Dict, Iterator, List, NamedTuple, Optional, Sequence, Tuple
+from typing import TYPE_CHECKING, Dict, Iterable, Iterator, List, NamedTuple, Optional, Sequence, Tuple
 
 from ..answer import MOST_NAMES_SHOWN, PLURALS, Answer, Fair, NamedPlan, Pair, counted, left_out, named, sentence
 from ..cells import guarded
@@ -413,18 +413,31 @@ def compared(report: Report, plan: NamedPlan, hand: Hand) -> Note:
                  for pair in only_there(plan, own)])
 
 
-def as_csv(roster: Roster, plan: NamedPlan, kept: Optional[OldPlan] = None) -> str:
-    """The pairs as a roster of lines, with the titles, the separator and the decimal mark of the roster that was read.
-    With an earlier plan one more column says which pairs come, and which go or aren't possible now: these stand in
-    lines without a cost."""
+def as_csv(roster: Roster, plan: NamedPlan) -> str:
+    """The pairs as a roster of lines, with the titles, the separator and the decimal mark of the roster that was
+    read."""
+    return _csv(roster, roster.titles, _lines_of(roster, plan))
+
+
+def changes_as_csv(roster: Roster, plan: NamedPlan, kept: OldPlan) -> str:
+    """What comes, what goes, and what isn't possible now of an earlier plan: a pair in each line."""
+    found = changes_of(roster, plan, kept)
+    changed: List[Tuple[int, int, str]] = [*((pair.person, pair.object, GOES) for pair in found.goes),
+                                           *((pair.person, pair.object, COMES) for pair in found.comes)]
+    changed.sort(key=lambda own: own[0])
+    lines = [(roster.persons[person], roster.objects[object_], word) for person, object_, word in changed]
+    lost = [(pair.person, pair.object, NOT_POSSIBLE) for pair in found.lost]
+    return _csv(roster, (*roster.titles[:2], CHANGE), lines + lost)
+
+
+def _csv(roster: Roster, titles: Sequence[str], lines: Iterable[Sequence[str]]) -> str:
+    """Lines below titles, as the roster's own file has them."""
     text = io.StringIO()
     text.write("\ufeff" if roster.has_bom else "")
-    writer = csv.writer(text, delimiter=roster.separator, lineterminator="\n")
-    titles = (*roster.titles, *([CHANGE] if kept else ()))
     # Readers take the separator from the title line, so no other may seem to be there.
     csv.writer(text, delimiter=roster.separator, lineterminator="\n",
                quoting=_title_quoting(roster)).writerow(map(guarded, titles))
-    lines = _lines_of(roster, plan) if kept is None else _lines_with_changes(roster, plan, kept)
+    writer = csv.writer(text, delimiter=roster.separator, lineterminator="\n")
     writer.writerows(map(guarded, line) for line in lines)
     return text.getvalue()
 
@@ -432,18 +445,6 @@ def as_csv(roster: Roster, plan: NamedPlan, kept: Optional[OldPlan] = None) -> s
 def _lines_of(roster: Roster, plan: NamedPlan) -> Iterator[Tuple[str, ...]]:
     for pair in plan.pairs:
         yield roster.persons[pair.person], roster.objects[pair.object], roster.shown(pair.cost)
-
-
-def _lines_with_changes(roster: Roster, plan: NamedPlan, kept: OldPlan) -> List[Tuple[str, ...]]:
-    """The lines of a plan and of the pairs that go, person by person, and those of pairs that aren't possible now."""
-    found = changes_of(roster, plan, kept)
-    new = set(found.comes)
-    lines: List[Tuple[int, Tuple[str, ...]]] = [(pair.person, (*line, COMES if pair in new else ""))
-                                                for pair, line in zip(plan.pairs, _lines_of(roster, plan))]
-    lines += [(pair.person, (roster.persons[pair.person], roster.objects[pair.object], "", GOES))
-              for pair in found.goes]
-    lost = ((pair.person, pair.object, "", NOT_POSSIBLE) for pair in found.lost)
-    return [*(line for _, line in sorted(lines, key=lambda those: those[0])), *lost]
 
 
 def in_encoding_of(roster: Roster, text: str) -> bytes:

@@ -3,7 +3,7 @@ from collections import Counter
 from typing import Dict, List, NamedTuple, Optional, Sequence, Set, Tuple
 
 from ...counts.counted import Bounds
-from ..answer import Request, counted, plural
+from ..answer import Request, counted, several
 from ..by_counts import bounds_around
 from ..month import Month
 from ..roster import Roster
@@ -148,7 +148,7 @@ def bounds_text(bounds: Bounds, word: str, limit: int) -> str:
     if not bounds.least:
         return f"at most {counted(bounds.most, word)}"
     return (f"at least {counted(bounds.least, word)}" if bounds.most >= limit
-            else f"{bounds.least}-{bounds.most} {plural(word)}")
+            else several(f"{bounds.least}-{bounds.most}", word))
 
 
 def _one_of_each(making: Making) -> None:

@@ -3,7 +3,7 @@ from typing import Dict, List, NamedTuple, Sequence, Set, Tuple
 
 from ...counts.lack import Lack
 from ...rows.model import Shortage
-from ..answer import counted, plural
+from ..answer import counted
 from ..month import Month
 from ..names import MOST_NAMES, joined
 from ..roster import Roster
@@ -191,4 +191,4 @@ def _of_persons(roster: Roster, lack: Lack) -> str:
     """These persons can't have all that they must."""
     word = roster.titles[1]
     return (f"{_who(roster, lack.rows)} must take {counted(lack.wanted, word)}, and may take at most {lack.had}: "
-            f"{lack.wanted - lack.had} too few {plural(word)}")
+            f"{lack.wanted - lack.had} too few")

@@ -3,7 +3,7 @@ use Rattle.assign_core.proofs.DenseRows.{length-rows_cut}
 use Rattle.cost_lists.specs.Given.{triples_of}
 use Rattle.cost_lists.specs.ListedCosts.{ListedCosts}
 use Rattle.cost_lists.proofs.GivenRows.{length-rows_given}
-use Rattle.c_calls.proofs.lists.lists.lists_of.Goals as goal
+use Rattle.c_calls.proofs.lists.costs.lists_of.Goals as goal
 
 pub returns-in-Dense-clause-persons : goal.returns-in-Dense-clause-persons
 returns-in-Dense-clause-persons c = ap (λ (l : ListedCosts). length l.rows) c.dense.ensures ∙ length-rows_cut _ _ _ ∙ c.requires.shape.persons

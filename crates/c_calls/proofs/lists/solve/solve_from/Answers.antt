@@ -1,4 +1,4 @@
-use Rattle.std.proofs.Common.{SFits, Err, Ok, rules, sym, subst, ap, ◌∙◌}
+use Rattle.std.proofs.Common.{SFits, Err, Ok, rules, ap, ◌∙◌}
 use Rattle.std.specs.Int.{w32}
 use Rattle.std.proofs.lemmas.Int.{to_z-of_z}
 use Rattle.c_calls.specs.lists.Ends.{HoldsEnd, buffers}
