@@ -1,8 +1,6 @@
-use Rattle.std.proofs.Common.{◌≡◌, List, rules, ap, sym, inl, SFits}
+use Rattle.std.proofs.Common.{◌≡◌, rules, inl, SFits}
 use Rattle.std.specs.Int.{w32}
 use Rattle.std.proofs.lemmas.Int.{to_z-of_z}
-use lib.Ieee.{Float}
-use Rattle.c_calls.specs.doubles.Given.{GivenDoubles}
 use Rattle.lent_blocks.specs.DoubleBlocks.{Numbers, Shown}
 use Rattle.lent_blocks.proofs.DoubleBlocks.{shown}
 use Rattle.lent_blocks.proofs.doubles.doubles_block_on.Goals as goal
