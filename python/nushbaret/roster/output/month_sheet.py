@@ -12,7 +12,7 @@ from ..rules.rule_rows import hours_of
 from .texts import Report
 
 if TYPE_CHECKING:
-    from ..rules.ruling import Ruling
+    from ..rules.rule_file import Ruling
 
 # So many days make a month, and so many kinds have letters.
 LEAST_DAYS, MOST_DAYS = 8, 62
