@@ -1,5 +1,5 @@
 #!/usr/bin/env python3
-"""25 drawn months of wards, beside HiGHS: `wards.py [SEED [MONTHS [FIRST]]]`, as a rule seed 1 and all.
+"""25 drawn months of wards, and HiGHS on them: `wards.py [SEED [MONTHS [FIRST]]]`, as a rule seed 1 and all.
 
 Each ward has 10 to 100 nurses, 2 to 8 weeks, and rules of rest, runs and weeks, some with free weekends, hours, single
 nights and seniors. HiGHS, as SciPy has it, gets a model that this script makes itself from the drawn numbers, in a
@@ -220,8 +220,8 @@ def compare(seed, number):
     bound = None if cost is None or rules.get("better") is None else float(cost) - float(rules["better"])
     is_met = (rules.get("proved") == "best" and own <= 4 * took if is_closed else bound is not None and
               (found["cost"] is None or float(cost) <= found["cost"]))
-    print(what + f"HiGHS {took:5.1f} s {'best' if is_closed else 'open'} {found['cost']} (bound "
-          f"{found['bound']}), command {own:5.1f} s ({own / took:.1f} T, {time.monotonic() - begin:.0f} s by the clock) "
+    print(what + f"HiGHS {took:5.1f} s {'best' if is_closed else 'open'} {found['cost']} (bound {found['bound']}), "
+          f"command {own:5.1f} s ({own / took:.1f} T, {time.monotonic() - begin:.0f} s by the clock) "
           f"{rules.get('proved')} {cost} (bound {bound}) {'reached' if is_met else 'MISSED'}: {line}", flush=True)
     return is_met
 
@@ -235,8 +235,8 @@ def sick(seed, number):
     missing = rules.get("missing", 0) if told.get("cost") is not None else None
     theirs = None if found["cost"] is None else found["cost"] // 1000
     is_met = missing is not None and (theirs is None or missing <= theirs + 3)
-    print(f"sick {number} ({ward.letters or 'easy'}): HiGHS misses {theirs} ({took:.1f} s), the command {missing} ({own:.1f} s) "
-          f"{'reached' if is_met else 'MISSED'}: {line}", flush=True)
+    print(f"sick {number} ({ward.letters or 'easy'}): HiGHS misses {theirs} ({took:.1f} s), the command {missing} "
+          f"({own:.1f} s) {'reached' if is_met else 'MISSED'}: {line}", flush=True)
     return is_met
 
 

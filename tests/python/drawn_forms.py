@@ -1,4 +1,4 @@
-"""Matrices in every form that callers have, drawn, and the same in fractions; and whether the calls agree with these."""
+"""Matrices in every form that callers have, drawn, and the same in fractions; whether the calls agree with these."""
 import itertools
 from decimal import Decimal
 from fractions import Fraction

@@ -21,7 +21,7 @@ BELOW = {
     "beyond": ("costs", "lap", "api"),
 }
 # The modules of roster/ that hand on to its inner folders, whose modules import none of them.
-FRONTS = ("roster.command", "roster.rules.ruling")
+FRONTS = ("roster.command",)
 # What begins: it loads any module when this is needed, and no module imports it.
 ENTRIES = ("", "__main__")
 

@@ -2,6 +2,7 @@
 mod answer;
 mod check;
 mod codes;
+mod costs;
 mod given;
 mod info;
 mod judge;
@@ -10,6 +11,8 @@ mod marks;
 mod solve;
 
 pub use check::check_given;
+pub use codes::refuse;
+pub use costs::judge_costs;
 pub use given::Given;
 pub use info::DoublesInfo;
 pub use law::marked_plans_stay_best;

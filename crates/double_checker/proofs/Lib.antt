@@ -4,6 +4,7 @@ pub mod DigitsOf
 pub mod Scales
 pub mod Spread
 pub mod Shown
+pub mod PartSums
 pub mod RowSteps
 pub mod Given
 pub mod Unmarked

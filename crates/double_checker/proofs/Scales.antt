@@ -1,6 +1,6 @@
 -- Whole numbers times a power of two.
 use Rattle.std.proofs.Common.{◌≡◌, ℕ, ℤ, pos, neg_ℤ, ◌+ℤ◌, ◌-ℤ◌, ◌*ℤ◌, ◌≤ℤ◌, ◌<ℤ◌, ◌<◌, ◌≤◌, ◌+◌, ◌-◌, ◌*◌}
-use Rattle.std.proofs.Common.{◌^◌, ◌↔◌, zero, suc, Bool, true, false, cond, arith, refl, ap, sym, ◌∙◌}
+use Rattle.std.proofs.Common.{◌^◌, ◌↔◌, zero, suc, Bool, true, false, cond, arith, refl, ap, sym, ◌∙◌, IsTrue, T}
 use Rattle.std.proofs.lemmas.Int.{ints, by_lt_z}
 use native.Mathlib.Nat.{mul_assoc, mul_comm, mul-zero, mul-lt-mul_of_pos_right, lt_of_lt_of_le, le_trans, le_of_eq}
 use lib.Pow.{pow-add, pow_pos, pow_mono}
@@ -64,3 +64,8 @@ negative_scaled d low z h e n =
     ∙ times_negative (2 ^ low) (d.digits * 2 ^ (d.shift - low))
     ∙ ap (λ (i : ℕ). neg_ℤ (pos i)) (shifted_back d.digits d.shift low h)
     ∙ ap (λ (b : Bool). cond b (neg_ℤ (pos (size_by d))) (pos (size_by d))) (sym n)
+
+-- a test that computes to true
+pub true_from : (b : Bool) → T b → IsTrue b
+true_from true t = refl
+true_from false t = absurd t

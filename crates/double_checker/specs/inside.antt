@@ -1,4 +1,5 @@
 pub mod Sizes
+pub mod Parts
 pub mod Pairs
 pub mod Plans
 pub mod Outcome

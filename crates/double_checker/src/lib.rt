@@ -13,8 +13,11 @@ mod objects;
 mod pairs;
 mod prices;
 mod rows;
+mod sums;
 mod verdict;
 
 pub use checker::check;
 pub use hall::{HallVerdict, check_hall};
+pub use numbers::{is_number, row_part, turned};
+pub use sums::is_sum_less;
 pub use verdict::Verdict;

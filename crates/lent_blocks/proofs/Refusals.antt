@@ -1,7 +1,6 @@
 -- What a call on a block leaves where memory was refused.
 use Rattle.std.proofs.Common.{◌≡◌, ℤ, pos, refl}
 use Rattle.c_calls.specs.declared.fault.Fault.TheVariants.{Memory}
-use Rattle.c_calls.specs.declared.lists.info.Info.{Info}
 use Rattle.c_calls.specs.lists.Faults.{IsWhole}
 use Rattle.c_calls.specs.lists.Given.{GivenLists}
 use Rattle.lent_blocks.specs.Blocks.{BlockBuffers, IsBlockRefused}

@@ -3,5 +3,7 @@
 #![tactic(auto)]
 
 mod block;
+mod doubles;
 
 pub use block::{block_on, one_length};
+pub use doubles::doubles_block_on;

@@ -1,10 +1,12 @@
-// The call on a block of a greater problem, as `c/nushbaret.h` declares it.
+// The calls on a block of a greater problem, as `c/nushbaret.h` declares them.
 ghost use Rattle.lent_blocks.specs.Blocks.{BlockBuffers, JudgesBlock, block_given};
+ghost use Rattle.lent_blocks.specs.DoubleBlocks.{JudgesDoubles, Numbers, Shown, double_block};
 
 use assign_core::Cost;
+use c_calls::doubles::{DoublesInfo, Given as GivenDoubles};
 use c_calls::lists::{Given, Info, form_of};
 use cost_lists::{Object, Person, Price};
-use lent_blocks::{block_on, one_length};
+use lent_blocks::{block_on, doubles_block_on, one_length};
 use std::alloc::Global;
 
 /// Looks at `n` persons of a greater problem, or at some of their pairs, whose other pairs lie elsewhere:
@@ -85,6 +87,73 @@ pub extern "C" fn nushbaret_block(
         better_persons,
         better_objects,
         better_costs,
+        info,
+    )
+}
+
+/// Looks at `n` whole rows of a greater problem over doubles, in exact arithmetic: whether a pair is better
+/// than its person's row number at these prices of all `m` objects.
+#[unsafe(no_mangle)]
+pub extern "C" fn nushbaret_block_doubles(
+    sense: u32,
+    n: usize,
+    m: usize,
+    costs: &[f64],
+    objects: &[Object],
+    number_costs: &[f64],
+    number_prices: &[f64],
+    prices: &[f64],
+    least_objects: &mut [Object],
+    least_costs: &mut [f64],
+    own: &mut [u8],
+    info: &mut DoublesInfo,
+) -> i32
+    ensures { let numbers : Numbers = record {
+      objects = objects.now;
+      of_costs = number_costs.now;
+      of_prices = number_prices.now;
+      prices = prices.now;
+    } in
+        let before : Shown = record {
+          objects = least_objects.old;
+          costs = least_costs.old;
+          own = own.old;
+          info = info.old;
+        } in
+        let after : Shown = record {
+          objects = least_objects.new;
+          costs = least_costs.new;
+          own = own.new;
+          info = info.new;
+        } in
+        JudgesDoubles (double_block sense n m costs.now numbers before) numbers before after result }
+{
+    let by_person = [
+        objects.len(),
+        number_costs.len(),
+        number_prices.len(),
+        least_objects.len(),
+        least_costs.len(),
+        own.len(),
+    ];
+    let by_object = [prices.len()];
+    let given = GivenDoubles {
+        sense,
+        n,
+        m,
+        by_person: &by_person,
+        by_object: &by_object,
+        costs,
+    };
+    doubles_block_on(
+        &given,
+        objects,
+        number_costs,
+        number_prices,
+        prices,
+        least_objects,
+        least_costs,
+        own,
         info,
     )
 }

@@ -12,7 +12,7 @@ mod sparse;
 mod unique;
 mod version;
 
-pub use blocks::nushbaret_block;
+pub use blocks::{nushbaret_block, nushbaret_block_doubles};
 pub use check::{nushbaret_check, nushbaret_check_hall};
 pub use counts::{
     nushbaret_check_counts, nushbaret_check_shortage, nushbaret_counts, nushbaret_counts_from,

@@ -1,5 +1,6 @@
 """Plans in which rows and columns count from so many to so many: the call."""
 import operator
+import pickle
 from array import array
 from collections import Counter
 from fractions import Fraction
@@ -125,6 +126,9 @@ class CountsResult(Lasting):
             _numbers=None if plans.cut else (best.row_numbers, best.column_numbers), _denominator=best.denominator)
 
     def __setstate__(self, state: Any) -> None:
+        if "_kind" not in state:
+            raise pickle.UnpicklingError("a release before 5.1 pickled this result, which this one can't read: solve "
+                                         "its costs again")
         super().__setstate__({**state, "rows": fixed(state["rows"]), "columns": fixed(state["columns"])})
 
     def __repr__(self) -> str:

@@ -10,7 +10,7 @@ from ..counts.counted import Bounds
 from ..roster.answer import Request
 from ..roster.month import Before, Month, month_of
 from ..roster.output.rule_texts import sentence_of
-from ..roster.roster import Earlier, Groups, PlanLine, Roster, Takes
+from ..roster.roster import Earlier, Groups, PlanLine, Roster, Takes, Wanted
 from ..roster.rules.roster_model import OwnRow
 from ..roster.rules.rule_file import RuleLine, Rules, rules_of
 from ..roster.rules.stages import Proved, Task, answer_by_rules
@@ -46,6 +46,10 @@ class RosterPlan(NamedTuple):
         Of each rule of evenness the sentence, and the least and the greatest count.
     certificate : Certificate or None
         What proves the answer, for `write_certificate`.
+    missed : list of tuple
+        Of rules and places with a price what the plan misses: a sentence, by how many units, and what that costs.
+    missed_cost : int, decimal.Decimal or fractions.Fraction
+        What it costs in all; `better` is of the sum of this and `cost`.
 
     Examples
     --------
@@ -62,6 +66,8 @@ class RosterPlan(NamedTuple):
     is_minimal: bool
     even: List[Tuple[str, int, int]]
     certificate: Optional[Certificate]
+    missed: List[Tuple[str, int, Number]] = []
+    missed_cost: Number = 0
 
     def to_frame(self) -> Any:
         """The pairs as a DataFrame of pandas, which must be installed, with the columns row and column: persons and
@@ -79,9 +85,10 @@ class RosterPlan(NamedTuple):
         write_certificate(path, self.certificate)
 
 
-def plan_roster(costs: Mapping[Named, Any], days: Mapping[str, Union[str, date]], rules: Iterable[Sequence[str]] = (),
+def plan_roster(costs: Mapping[Named, Any], days: Mapping[str, Union[str, date]], rules: Iterable[Sequence[Any]] = (),
                 *, kinds: Optional[Mapping[str, str]] = None, tasks: Optional[Mapping[str, Count]] = None,
-                places: Optional[Mapping[str, Count]] = None, fixed: Iterable[Named] = (),
+                places: Optional[Mapping[str, Count]] = None,
+                wanted: Optional[Mapping[str, Tuple[int, Any]]] = None, fixed: Iterable[Named] = (),
                 before: Iterable[Tuple[str, Union[str, date], str]] = (), rows: Iterable[Sequence[Any]] = (),
                 maximize: bool = False, seconds: float = 60) -> RosterPlan:
     """Finds a plan of least cost that keeps rules, and proves how good it is. SciPy finds; the proof is checked in
@@ -95,15 +102,17 @@ def plan_roster(costs: Mapping[Named, Any], days: Mapping[str, Union[str, date]]
     days : mapping of str to str or datetime.date
         The day of each object, in order. Nobody takes two objects of one day. Where all are dates, weeks begin on
         Monday.
-    rules : iterable of sequences of str
+    rules : iterable of sequences
         Each a rule, its value and maybe names, as in a file of rules: ('rest', 'Late > Early'), ('Night per month',
-        '4', 'Ada, Ben').
+        '4', 'Ada, Ben'). A fourth cell is a price: what each unit costs by which the rule is missed.
     kinds : mapping of str to str, optional
         The kind of each object. Without it, its name without that of its day.
     tasks : mapping of str to int or (int, int), optional
         How many objects persons take, or at least and at most; others take as many as they may.
     places : mapping of str to int or (int, int), optional
         How many persons objects take, or at least and at most; others take exactly one.
+    wanted : mapping of str to (int, number), optional
+        How many persons objects should take, and what each that is missing costs.
     fixed : iterable of (str, str), optional
         Pairs that the plan must have.
     before : iterable of (str, str or datetime.date, str), optional
@@ -151,8 +160,12 @@ def plan_roster(costs: Mapping[Named, Any], days: Mapping[str, Union[str, date]]
         raise ValueError(f"seconds is {seconds!r}: it must be a number of seconds, 0 or more")
     listed = dict(costs)
     ratios = [_ratio(pair, cost) for pair, cost in listed.items()]
-    unit = unit_of(ratios)
-    units = [in_unit(ratio, unit) for ratio in ratios]
+    cells = [_cells(rule) for rule in rules]
+    priced = [(f"rules, line {number}", rule[3]) for number, rule in enumerate(cells, 1) if rule[3] is not None]
+    priced += [(f"wanted: {name!r}", own[1]) for name, own in (wanted or {}).items()]
+    prices = [_price(*named) for named in priced]
+    unit = unit_of(ratios + prices)
+    units, of_prices = [in_unit(ratio, unit) for ratio in ratios], iter([in_unit(ratio, unit) for ratio in prices])
     if any(abs(own) > MOST_UNITS for own in units):
         raise ValueError(f"a cost is more than {MOST_UNITS} times the unit that all costs have in common")
     roster = _roster(list(listed), units, days, kinds)
@@ -162,7 +175,9 @@ def plan_roster(costs: Mapping[Named, Any], days: Mapping[str, Union[str, date]]
     worked = Before("before", [(person, _earlier_name(day, kind), number)
                                for number, (person, day, kind) in enumerate(earlier, 1)])
     month = month_of(roster, groups, "days", worked)
-    lines = [_line(rule, number) for number, rule in enumerate(rules, 1)]
+    lines = [_line(rule, number, "" if rule[3] is None else str(next(of_prices)))
+             for number, rule in enumerate(cells, 1)]
+    roster = roster._replace(wanted=_wanted(roster, wanted or {}, list(of_prices)))
     ruled = rules_of("rules", lines, roster, month)
     request = Request(_fixed(roster, fixed), maximize)
     own = [_own_row(roster, row) for row in rows]
@@ -173,7 +188,9 @@ def plan_roster(costs: Mapping[Named, Any], days: Mapping[str, Union[str, date]]
     pairs = None if answer.plan is None else [(roster.persons[pair.person], roster.objects[pair.object])
                                               for pair in answer.plan.pairs]
     return _result(proved, pairs, None if answer.plan is None else unit.shown(answer.plan.cost),
-                   None if proved.better is None else unit.shown(proved.better))
+                   None if proved.better is None else unit.shown(proved.better))._replace(
+                       missed=[(one.broken.sentence, one.amount, unit.shown(one.cost)) for one in proved.missed],
+                       missed_cost=unit.shown(proved.missed_cost))
 
 
 def _unruled(roster: Roster, month: Month, rules: Rules, before: Before) -> List[str]:
@@ -267,13 +284,43 @@ def _groups(roster: Roster, earlier: Sequence[Tuple[str, str, str]]) -> Groups:
     return roster.groups._replace(earlier=tuple(named.values()))
 
 
-def _line(rule: Sequence[str], number: int) -> RuleLine:
+def _cells(rule: Sequence[Any]) -> List[Any]:
+    """The four cells of a rule; the price is None where there is none."""
+    if isinstance(rule, str) or not 1 <= len(rule) <= 4:
+        raise ValueError(f"rules: {rule!r} is no rule, value, names and price")
+    return [*rule, *("", "", None)[len(rule) - 1:]]
+
+
+def _price(what: str, price: Any) -> Ratio:
+    """A price as a ratio."""
+    try:
+        ratio = exact_ratio(price)
+    except TypeError:
+        raise TypeError(f"{what}: the price {price!r} is no number") from None
+    except (ValueError, OverflowError):
+        raise ValueError(f"{what}: the price {price!r} isn't finite") from None
+    if not 0 < ratio[0] <= MOST_UNITS or ratio[1] > MOST_UNITS:
+        raise ValueError(f"{what}: {price!r} is no price above 0, or has too many digits")
+    return ratio
+
+
+def _wanted(roster: Roster, wanted: Mapping[str, Tuple[int, Any]], prices: Sequence[int]) -> Dict[int, Wanted]:
+    """How many objects should take, with the price in units of each that is missing."""
+    found = {}
+    for (name, (number, _)), price in zip(wanted.items(), prices):
+        if name not in roster.object_numbers:
+            raise ValueError(f"wanted: there is no object {name!r}")
+        bounds = roster.of_object(roster.object_numbers[name])
+        if not (_are_whole(number) and bounds.least <= number <= bounds.most):
+            raise ValueError(f"wanted: {name!r}: {number!r}, where {bounds.least} to {bounds.most} may be")
+        found[roster.object_numbers[name]] = Wanted(int(number), price)
+    return found
+
+
+def _line(cells: Sequence[Any], number: int, price: str) -> RuleLine:
     """A rule as a line: names may be a list too."""
-    if isinstance(rule, str) or not 1 <= len(rule) <= 3:
-        raise ValueError(f"rules: {rule!r} is no rule, value and names")
-    cells = [*rule, "", ""][:3]
     names = cells[2] if isinstance(cells[2], str) else _names(list(cells[2]), number)
-    return RuleLine(cells[0], str(cells[1]), names, number)
+    return RuleLine(cells[0], str(cells[1]), names, number, price)
 
 
 def _names(names: List[str], number: int) -> str:

@@ -4,20 +4,20 @@ A level rounds costs to whole multiples of a unit, and lets the library solve th
 pairs of a plan, and e = cost - r - v. A plan costs the sum over row groups of its e there, plus the sum of r_i and v_j
 times their counts; so it costs as much more than the level's plan as it pays, in each row group, above min(0, the least
 e), and for each count that isn't the one that its number stands for, at least the size of this number. Rounding changed
-each pair by at most half a unit, so what a plan that is best for the given costs pays so is at most N units in all. Each
-single payment is at most N then: pairs whose e is above min(0, least e) + N are in no best plan, of a row group whose
-least e is below -N each takes exactly one, and a row or column whose number is beyond N has the count that it stands
-for. What is open is solved again, with e for its costs, at the next level; a number that may be 0 stays in them.
+each pair by at most half a unit, so what a plan that is best for the given costs pays so is at most N units in all.
+Each single payment is at most N then: pairs whose e is above min(0, least e) + N are in no best plan, of a row group
+whose least e is below -N each takes exactly one, and a row or column whose number is beyond N has the count that it
+stands for. What is open is solved again, with e for its costs, at the next level; a number that may be 0 stays in them.
 
-From the first level's numbers Bellman (1958) and Ford find exact ones for what was open. By the level's numbers a row of
-changes of the best plan costs less than 0 only by what this plan pays, at most N units, and by half a unit for each of
-its at most 2 N + 1 pairs. So no number moves by more than 2 N + 1 units, and what was decided has more slack than that.
-The numbers are checked at the end."""
+From the first level's numbers Bellman (1958) and Ford find exact ones for what was open. By the level's numbers a row
+of changes of the best plan costs less than 0 only by what this plan pays, at most N units, and by half a unit for each
+of its at most 2 N + 1 pairs. So no number moves by more than 2 N + 1 units, and what was decided has more slack than
+that. The numbers are checked at the end."""
 from array import array
 from collections import Counter
 from fractions import Fraction
 from itertools import compress, count
-from typing import Any, List, NamedTuple, Optional, Sequence, Union
+from typing import Any, List, NamedTuple, Optional, Sequence, Tuple, Union
 
 from ..costs.kinds import AnyWholeNumbers, Costs, plain
 from ..costs.limits import GREATEST_COST
@@ -47,6 +47,12 @@ class Given(NamedTuple):
         numbers = plain(self.costs.numbers)
         found = [numbers[place] for place in places]
         return found if self.costs.numpy is None else [number.item() for number in found]
+
+    def whole(self, denominator: int) -> Tuple[List[int], int]:
+        """All costs as multiples of a unit, and how many times it is in 1 / `denominator`."""
+        ratios = self.ratios(range(len(self.costs)))
+        unit = unit_of({(1, own) for _, own in (*ratios, (1, denominator))}, True)
+        return [in_unit(ratio, unit) for ratio in ratios], unit.denominator // denominator
 
     def at(self, places: Sequence[int]) -> "Given":
         """The costs at some places."""

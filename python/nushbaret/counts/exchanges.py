@@ -22,6 +22,15 @@ class Exchanges(NamedTuple):
     chosen: Set[Pair]
     potentials: List[int]
 
+    def without(self, pair: Pair) -> "Exchanges":
+        """The changes that leave a pair as it is."""
+        ends = dict(self.ends)
+        begin, end = ends.pop(pair)
+        begin, end = (end, begin) if pair in self.chosen else (begin, end)
+        arrows = list(self.arrows)
+        arrows[begin] = {other: cost for other, cost in arrows[begin].items() if other != end}
+        return self._replace(arrows=arrows, ends=ends)
+
 
 def exchanges_of(counted: Counted, chosen: Sequence[Pair], rows: Sequence[int], columns: Sequence[int]) -> Exchanges:
     """The changes of a plan, which numbers of rows and columns prove best."""

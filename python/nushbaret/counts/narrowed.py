@@ -54,7 +54,8 @@ class Part(NamedTuple):
 
 def whole(counted: Counted) -> Part:
     """A problem as its own part."""
-    return Part(counted, range(len(counted.row_bounds)), range(len(counted.column_bounds)), range(len(counted.rows)), ())
+    rows, columns = range(len(counted.row_bounds)), range(len(counted.column_bounds))
+    return Part(counted, rows, columns, range(len(counted.rows)), ())
 
 
 # Three numbers of this size have a sum of 64 bits.

@@ -1,6 +1,6 @@
 """Best plans by counts, each with numbers that prove it, and what is short."""
 from heapq import heappop, heappush
-from typing import Any, Collection, Dict, FrozenSet, Iterator, List, NamedTuple, Optional, Sequence, Set, Tuple
+from typing import Any, Collection, Dict, FrozenSet, Iterator, List, NamedTuple, Optional, Sequence, Tuple
 
 from ..rows.certificate_check import shows
 from .count_levels import Given, Levelled, best_of
@@ -35,14 +35,14 @@ class Plans(NamedTuple):
 
     def after(self) -> Iterator[Other]:
         """The plans after the best one, each with what it costs more."""
-        for other in _plans_after(self.part.counted, self.best):
+        for other in _plans_after(self.part.counted, self.exchanges()):
             yield Other(other.more, set(self.part.pairs(self.problem, other.pairs)))
 
-    def shown(self) -> Shown:
-        """The best plan with its numbers, as a certificate shows it."""
+    def shown(self, factor: int = 1) -> Shown:
+        """The best plan with its numbers, each times a factor, as a certificate shows it."""
         others = [0] * len(self.problem.row_bounds), [0] * len(self.problem.column_bounds)
         rows, columns = self.part.numbers(self.best.row_numbers, self.best.column_numbers, others)
-        return Shown(self.pairs(), rows, columns, self.cut)
+        return Shown(self.pairs(), [factor * row for row in rows], [factor * column for column in columns], self.cut)
 
 
 class Planned(NamedTuple):
@@ -74,7 +74,8 @@ def planned(counted: Counted, partial: bool, given: Optional[Given] = None) -> P
                            "problem")
     plans = Plans(counted, part, found, cut)
     show_progress(counted, part.plan(found.plan, len(counted.rows)))
-    if given is None and not shows(certificate_of_best(counted, lacks, plans.shown())):
+    costs, factor = (counted.costs, 1) if given is None else given.whole(found.denominator)
+    if not shows(certificate_of_best(counted._replace(costs=costs), lacks, plans.shown(factor))):
         raise RuntimeError("a plan was found to be the best by its counts, and the check of these doesn't show it: "
                            "please report this problem")
     return Planned(lacks, plans)
@@ -83,8 +84,9 @@ def planned(counted: Counted, partial: bool, given: Optional[Given] = None) -> P
 def with_fewest_changes(plans: Plans, kept: Collection[Pair]) -> Plans:
     """The same with a best plan of the fewest changes: pairs that aren't kept, and kept ones that it doesn't have."""
     counted, best = plans.part.counted.listed(), plans.best
-    face = narrowed(counted, reduced_costs(counted, counted.costs, best.row_numbers, best.column_numbers), 0,
-                    fixed(counted.row_bounds, best.row_numbers, 0), fixed(counted.column_bounds, best.column_numbers, 0))
+    rows, columns = best.row_numbers, best.column_numbers
+    face = narrowed(counted, reduced_costs(counted, counted.costs, rows, columns), 0,
+                    fixed(counted.row_bounds, rows, 0), fixed(counted.column_bounds, columns, 0))
     named = plans.part.named((counted.rows[place], counted.columns[place]) for place in face.places)
     found = best_of(face.counted._replace(costs=[-1 if pair in kept else 1 for pair in named]), None, True)
     if isinstance(found, Marked):
@@ -107,39 +109,43 @@ def missing(bounds: Sequence[Bounds], had: Dict[int, int]) -> Dict[int, int]:
 
 # The plans in the order of their costs.
 
-_Waiting = List[Tuple[int, int, Other, int, Set[Pair], FrozenSet[Pair]]]
+
+class _Split(NamedTuple):
+    """Plans that agree in some pairs, which they may have or not: by how much the best of them costs more than the best
+    of all, its changes within them, and which of these pairs they have."""
+
+    more: int
+    exchanges: Exchanges
+    agreed: FrozenSet[Pair]
+    had: FrozenSet[Pair]
 
 
-def _plans_after(counted: Counted, best: Levelled) -> Iterator[Other]:
+def _plans_after(counted: Counted, first: Exchanges) -> Iterator[Other]:
     """The plans after a best one, each with what it costs more than that one.
 
     Hamacher and Queyranne (1985): all plans are split into parts, each with its best plan and its second best one. The
     next plan is the best of the second ones. A pair that only one of its part's two plans has splits the part: those
     that have it, and those that haven't."""
-    waiting: _Waiting = []
+    waiting: List[Tuple[int, int, Other, _Split]] = []
     number = 0
 
-    def wait(more: int, pairs: Set[Pair], those: FrozenSet[Pair]) -> None:
+    def wait(split: _Split) -> None:
         nonlocal number
-        second = _second(counted, best, pairs, those)
+        second = next_plan(split.exchanges)
         if second is not None:
             number += 1
-            heappush(waiting, (more + second.more, number, second, more, pairs, those))
+            heappush(waiting, (split.more + second.more, number, second, split))
 
-    wait(0, set(counted.pairs_of(best.plan)), frozenset())
+    wait(_Split(0, first, frozenset(), frozenset()))
     while waiting:
-        cost, _, second, more, pairs, those = heappop(waiting)
-        yield Other(cost, second.pairs)
-        those |= {min(pairs ^ second.pairs)}
-        wait(more, pairs, those)
-        wait(cost, second.pairs, those)
-
-
-def _second(counted: Counted, best: Levelled, pairs: Set[Pair], those: FrozenSet[Pair]) -> Optional[Other]:
-    """The best other plan of those that agree with a best one of them in some pairs, which it may have or not."""
-    own: Any = best
-    if those:
-        counted = settled(counted, pairs & those, those - pairs)
-        own = best_of(counted, None, True)
-    other = next_plan(exchanges_of(counted, sorted(pairs - those), own.row_numbers, own.column_numbers))
-    return None if other is None else Other(other.more, other.pairs | (pairs & those))
+        cost, _, second, split = heappop(waiting)
+        pairs = second.pairs | split.had
+        yield Other(cost, pairs)
+        pair = min(split.exchanges.chosen ^ second.pairs)
+        agreed = split.agreed | {pair}
+        wait(split._replace(exchanges=split.exchanges.without(pair), agreed=agreed))
+        had = frozenset(pairs & agreed)
+        rest = settled(counted, had, agreed - pairs)
+        best: Any = best_of(rest, None, True)
+        own = exchanges_of(rest, sorted(pairs - agreed), best.row_numbers, best.column_numbers)
+        wait(_Split(cost, own, agreed, had))

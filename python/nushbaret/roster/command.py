@@ -19,8 +19,8 @@ from .files import (STANDARD_OUTPUT, Output, OutputFault, is_device, make_folder
 from .forms import read_roster
 from .groups import read_counts, read_groups, refuse_two_of_a_group, with_rules
 from .names import quoted, shown_path, without_marks
-from .output.texts import (Hand, Report, as_csv, changes_as_csv, first_lines, forgotten_line, gone_line, in_encoding_of, printed,
-    read_lines)
+from .output.texts import (Hand, Report, as_csv, changes_as_csv, first_lines, forgotten_line, gone_line,
+    in_encoding_of, printed, read_lines)
 from .roster import OldPlan, PlanLine, Roster, read_hand_plan, read_old_plan, read_plan
 from .sheets import Reading, RosterFault, heading_of
 from .words import Options, WordsFault, read_words

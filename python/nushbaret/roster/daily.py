@@ -50,13 +50,18 @@ class _Objects:
 
 
 def are_daily_lines(sheet: Sheet) -> bool:
-    """Whether a sheet has lines of four cells, the second and the third of which never both look like numbers."""
+    """Whether a sheet has lines of a person, a day, a shift and a cost: the second and the third cells are words or
+    dates, and not both dates, and some of the fourth are numbers."""
     _, title = sheet.title()
     if len(title) != _COLUMNS or not all(title[:3]):
         return False
     rows = [cells for _, cells in sheet.records()][1:]
-    return bool(rows) and all(len(cells) >= _COLUMNS and cells[1] and cells[2] and not all(map(looks_like_number, cells[1:3]))
-                              for cells in rows)
+    if not rows or any(len(cells) < _COLUMNS or not (cells[1] and cells[2]) for cells in rows):
+        return False
+    columns = [[cells[column] for cells in rows] for column in (1, 2)]
+    numbers = [any(map(looks_like_number, cells)) for cells in columns]
+    are_fit = not all(numbers) and all(_are_dates(cells) for cells, is_number in zip(columns, numbers) if is_number)
+    return are_fit and any(looks_like_number(cells[3]) for cells in rows)
 
 
 def read_daily_lines(sheet: Sheet, costs: CostColumn) -> Daily:

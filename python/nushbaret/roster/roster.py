@@ -133,11 +133,12 @@ class Takes(NamedTuple):
 class Roster(NamedTuple):
     """A problem by names. Pair k is of `persons[of_persons[k]]` and `objects[of_objects[k]]`, no pair twice; `costs[k]`
     is in units of 10^-decimals. `titles` are the words for a person, an object and a cost. `takes` says how many each
-    name takes; where it is None, each takes one at most, and the fewer ones take one. `rounded` says whether any cost was changed by rounding, `has_bom` whether the file began with a BOM, `is_matrix` whether it is a
-    matrix, and `by_persons` whether the pairs stand person by person. `encoding` is that of the file, and `reading` how
-    other files are read. Of the objects in `past` nothing is planned, and of the persons in `gone` the past alone is
-    known. `wanted` says of some objects how many persons they should take, and `teams` who is in a group, by its title
-    and its name."""
+    name takes; where it is None, each takes one at most, and the fewer ones take one. `rounded` says whether any cost
+    was changed by rounding, `has_bom` whether the file began with a BOM, `is_matrix` whether it is a matrix, and
+    `by_persons` whether the pairs stand person by person. `encoding` is that of the file, and `reading` how other files
+    are read. Of the objects in `past` nothing is planned, and of the persons in `gone` the past alone is known.
+    `wanted` says of some objects how many persons they should take, and `teams` who is in a group, by its title and its
+    name."""
 
     persons: List[str]
     objects: List[str]

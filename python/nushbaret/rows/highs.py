@@ -19,7 +19,7 @@ _FIRST_PART, _AROUND_PART, _NEXT_PART = 0.4, 0.15, 0.3
 _FIRST_LEAST = 5.0
 # Seconds in which a plan known before gets the values that it doesn't have.
 _COMPLETING = 5.0
-# After so many searches in vain HiGHS looks over the whole model again.
+# After so many searches without a gain HiGHS looks over the whole model again.
 _VAIN = 10
 
 

@@ -1,5 +1,5 @@
-"""Large neighbourhood search (Shaw 1998): some persons or days are planned anew around all others, by HiGHS. Needs NumPy
-and SciPy."""
+"""Large neighbourhood search (Shaw 1998): some persons or days are planned again around all others, by HiGHS. Needs
+NumPy and SciPy."""
 import importlib
 import random
 import time

@@ -20,8 +20,8 @@ optimize: Any = importlib.import_module("scipy.optimize")
 SCALE = 960
 # The part of the time in which decision diagrams are made with all rows.
 _EXACT_PART = 0.2
-# So many steps against what is missed come first, towards a bound that is so much better; after some in vain they are
-# half as long.
+# So many steps against what is missed come first, towards a bound that is so much better; after some without a gain
+# they are half as long.
 _STEPS, _AIM, _VAIN, _SHORTEST = 60, 0.01, 4, 0.1
 # The part of a master's prices in the first prices that are tried, and how that grows.
 _SMOOTHED, _LESS_SMOOTHED = 0.3, 1.05

@@ -20,7 +20,7 @@ TASKS = dict.fromkeys(WISHES, (2, 4))
 REFUSED = (({"rules": [("resst", "Night > Early")]}, ValueError, "rules, line 1, column 1: 'resst' is no rule: did you "
             "mean 'rest'?"), ({"rules": [*RULES, ("apart", "", ["Ada", "Bne"])]}, ValueError,
                               "rules, line 3, column 3: the roster has no person 'Bne': did you mean 'Ben'?"),
-           ({"rules": ["rest"]}, ValueError, "rules: 'rest' is no rule, value and names"),
+           ({"rules": ["rest"]}, ValueError, "rules: 'rest' is no rule, value, names and price"),
            ({"seconds": "60"}, TypeError, "seconds is '60': it must be a number of seconds"),
            ({"seconds": -1}, ValueError, "seconds is -1: it must be a number of seconds, 0 or more"),
            ({"seconds": float("nan")}, ValueError, "seconds is nan: it must be a number of seconds, 0 or more"),
@@ -151,6 +151,33 @@ class Plans(InFolder):
         self.assertEqual(program("--check", "c.txt", stdout=subprocess.DEVNULL).returncode, 0)
         with self.assertRaisesRegex(ValueError, "nothing was proved"):
             found._replace(certificate=None).write_certificate("c.txt")
+
+
+@unittest.skipIf(optimize is None or np is None, "needs SciPy")
+class Prices(unittest.TestCase):
+    COSTS = {("Ada", "N1"): 1, ("Ada", "N2"): 2, ("Ada", "N3"): 1, ("Ben", "N1"): 4}
+    DAYS = {"N1": "Mon", "N2": "Tue", "N3": "Wed"}
+
+    def plan(self, rules, **words):
+        return nushbaret.plan_roster(self.COSTS, self.DAYS, rules, kinds=dict.fromkeys(self.DAYS, "Night"),
+                                     places={"N2": (0, 1)}, **words)
+
+    def test_what_is_missed(self):
+        """Half a unit more for each night above one, and what is wanted at N2 is worth it or isn't."""
+        plan = self.plan([("Night per month", "1", "", 0.5)], wanted={"N2": (1, 6)})
+        self.assertEqual((plan.proved, float(plan.cost), float(plan.missed_cost)), ("best", 4, 1))
+        self.assertEqual([(text, amount, float(cost)) for text, amount, cost in plan.missed],
+                         [("Ada: 3 Night (Night per month: 1)", 2, 1.0)])
+        plan = self.plan([("Night per month", "1", "", 5)], wanted={"N2": (1, 6)})
+        self.assertEqual((plan.pairs, plan.cost, plan.missed_cost), ([("Ada", "N3"), ("Ben", "N1")], 5, 6))
+
+    def test_refused(self):
+        for words, fault in ((([("Night per month", "1", "", 0)], {}), "rules, line 1: 0 is no price above 0"),
+                             (([], {"wanted": {"N4": (1, 2)}}), "wanted: there is no object 'N4'"),
+                             (([], {"wanted": {"N1": (2, 2)}}), "wanted: 'N1': 2, where 1 to 1 may be"),
+                             (([("even", "Night", "", 2)], {}), "'even' has no price")):
+            with self.subTest(fault), self.assertRaisesRegex(ValueError, fault):
+                self.plan(words[0], **words[1])
 
 
 if __name__ == "__main__":

@@ -1,5 +1,5 @@
-"""Plans by counts with their numbers, for costs of any size: the numbers prove each, by their definition; searches through
-all plans, and HiGHS, find none better."""
+"""Plans by counts with their numbers, for costs of any size: the numbers prove each, by their definition; searches
+through all plans, and HiGHS, find none better."""
 import random
 import unittest
 from fractions import Fraction

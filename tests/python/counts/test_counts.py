@@ -6,6 +6,7 @@ import signal
 import threading
 import time
 import unittest
+from array import array
 from decimal import Decimal
 from fractions import Fraction
 from unittest import mock
@@ -269,8 +270,28 @@ class Words(unittest.TestCase):
         self.assertEqual(repr(partial), "<nushbaret.CountsResult: cost 6, 3 pairs>")
         self.assertEqual(pickle.loads(pickle.dumps(partial)).pairs, partial.pairs)
         self.assertEqual((partial.row_numbers, partial.column_numbers), (None, None))
+        with self.assertRaisesRegex(pickle.UnpicklingError, "a release before 5.1 pickled this result"):
+            partial.__setstate__({"rows": [], "columns": [], "cost": 5, "_found": []})
         with self.assertRaises(AttributeError):
             partial.cost = 5
+
+    def test_buffers_and_ends_of_64_bits(self):
+        for numbers, maximize, pairs, cost in (
+                ((4, 1, 3, 2, 0, 5), False, [(0, 2), (1, 0), (1, 1)], 5),
+                ((4 * 10**14, 1, 3, 2, 0, -2**63), False, [(0, 1), (1, 0), (1, 2)], 3 - 2**63),
+                ((4 * 10**14, 1, 3, 2, 0, -2**63), True, [(0, 0), (0, 2), (1, 1)], 4 * 10**14 + 3)):
+            view = memoryview(array("q", numbers)).cast("B").cast("q", (2, 3))
+            for costs in (view, *([numpy.array(view), numpy.asfortranarray(view)] if numpy else [])):
+                result = nushbaret.assign_counts(costs, (1, 2), 1, maximize=maximize)
+                self.assertEqual((result.pairs, result.cost), (pairs, cost))
+                self.assertEqual((len(result.row_numbers), len(result.column_numbers)), (2, 3))
+
+    def test_one_side_without_names(self):
+        for costs in ([[], []], *([numpy.zeros((2, 0)), numpy.zeros((0, 2)).T] if numpy else [])):
+            self.assertEqual(len(nushbaret.assign_counts(costs, (0, 2), (0, 1)).rows), 0)
+            with self.assertRaisesRegex(nushbaret.Infeasible, "row 0 must have 1 column, and may have none"):
+                nushbaret.assign_counts(costs, (1, 2), (0, 1))
+            self.assertEqual(nushbaret.assign_counts(costs, (1, 2), (0, 1), partial=True).missing_rows, {0: 1, 1: 1})
 
     @unittest.skipUnless(pandas, "pandas isn't there")
     def test_columns_without_a_label(self):

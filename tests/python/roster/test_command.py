@@ -177,14 +177,14 @@ class Plans(Runs):
         self.file("r.csv", ",day,night\nAda,1,5\nBen,2,4\nCleo,3,2\nDan,1,1\n")
         self.file("c.csv", "shift,places\nnight,3\n")
         self.expect(0, "least cost: 8\nAda: day, 1\nBen: night, 4\nCleo: night, 2\nDan: night, 1\nat day: Ada\nat "
-                    "night: Ben, Cleo, Dan\n", "c.csv: no line for 1 object (day): takes one\n", "r.csv", "--places",
+                    "night: Ben, Cleo, Dan\n", "c.csv: no line for 1 shift (day): takes one\n", "r.csv", "--places",
                     "c.csv")
         self.file("c.csv", "shift,places\nnight,3\nday,1\n")
         self.file("t.csv", "nurse,tasks\nAda,2\nDan,0\nBen,1\nCleo,1\n")
         self.expect(0, "least cost: 12\nAda: day, 1; night, 5\nBen: night, 4\nCleo: night, 2\nat day: Ada\nat night: "
                     "Ada, Ben, Cleo\n", "", "r.csv", "--places", "c.csv", "--tasks", "t.csv")
         self.file("t.csv", "nurse,tasks\nAda,3\nBen,0\nCleo,0\nDan,0\n")
-        self.expect(1, "Ada must take 3 objects, and can take at most 2: once at each object (day, night): allow "
+        self.expect(1, "Ada must take 3 shifts, and can take at most 2: once at each shift (day, night): allow "
                     "others, or let this person take one fewer\nleast cost of 2 pairs: 6\nAda: day, 1; night, 5\nat "
                     "day: Ada\nat night: Ada\nwithout: Ada (2 of 3)\nunused: night (1 of 3)\n", "", "r.csv", "--places",
                     "c.csv", "--tasks", "t.csv", "--as-many-as-can")

@@ -254,8 +254,8 @@ class Faults(Daily):
     def test_titles_stay(self):
         self.file("r.csv",
                   "Pflegekraft,Schicht,Stunden\nUwe,frueh,1\nEva,frueh,2\nUte,frueh,1\nUte,spaet,1\nUte,nacht,1\n")
-        self.assertEqual(self.run_words("r.csv")[1], "2 Pflegekraft (Uwe, Eva) can take only 1 Schicht between them "
-                         "(frueh): allow one of them another, or leave one out\n")
+        self.assertEqual(self.run_words("r.csv")[1], "2 \u00d7 Pflegekraft (Uwe, Eva) can take only 1 Schicht between "
+                         "them (frueh): allow one of them another, or leave one out\n")
 
 
 class Sheets(Daily):

@@ -1,4 +1,4 @@
-"""Rosters by days: lines of person, day, shift and cost, matrices with two title rows, and workbooks with a sheet each."""
+"""Rosters by days: lines of person, day, shift and cost, matrices with two title rows, and workbooks of sheets."""
 import unittest
 
 from commands import Runs
@@ -17,8 +17,9 @@ class Read(Runs):
         return read_roster("r.csv", None, None, False)
 
     def shown(self, roster):
-        return [(roster.persons[person], roster.objects[object_], roster.groups.names[roster.groups.of_objects[object_]],
-                 roster.groups.kinds[object_], cost)
+        groups = roster.groups
+        return [(roster.persons[person], roster.objects[object_], groups.names[groups.of_objects[object_]],
+                 groups.kinds[object_], cost)
                 for person, object_, cost in zip(roster.of_persons, roster.of_objects, roster.costs)]
 
     def test_lines(self):
@@ -55,9 +56,9 @@ class Read(Runs):
             self.read_roster("n,A,B,C,D\nAda,x,y,z,1\n")
 
     def test_refused(self):
-        for content, why in ((LINES + "Ada,2.3.2027,F,5\n", "line 7: the pair Ada, F 2.3.2027 a second time, after line 3"),
+        for content, why in ((LINES + "Ada,2.3.2027,F,5\n", "line 7: the pair Ada, F 2.3.2027 a second time"),
                              (LINES + "Ada,2.3.2027,F,x\n", "line 7"),
-                             (MATRIX.replace("Late;Night\n", "Early;Night\n"), "line 2, column 6: 'Early' a second time"),
+                             (MATRIX.replace("Late;Night\n", "Early;Night\n"), "line 2, column 6: 'Early' a second"),
                              (MATRIX + "Ada;1\n", "line 5, column 1: the name 'Ada' a second time"),
                              (MATRIX + "Cay;1;;;;;;;5\n", "line 5: 9 cells, where the title rows have 7"),
                              (MATRIX.partition("Ada")[0], "line 2: no line after the titles")):

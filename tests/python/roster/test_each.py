@@ -104,7 +104,8 @@ class Files(Runs):
         """A replanned month cancels events of the folder's older file, in a version above its own; the same plan again
         gives the same bytes, and what comes back is live."""
         def versions(name):
-            return {own["UID"]: (own.get("STATUS"), own.get("SEQUENCE")) for _, own in components(self.held()[name])[1:]}
+            return {own["UID"]: (own.get("STATUS"), own.get("SEQUENCE"))
+                    for _, own in components(self.held()[name])[1:]}
         self.run_words(*self.words, "--each", "out")
         first = self.held()
         self.run_words(*self.words, "--each", "out", "--force", "--max")

@@ -115,8 +115,8 @@ class Changed(Runs):
 
     def test_plans_of_old(self):
         """A column `change` says of lines that they are none of the plan; costs may be called so, too."""
-        self.file("new.csv", "nurse,shift,change,change\nAda,Mon 1,1,\nAda,Tue 1,,goes\nBen,Tue 1,1,\nBen,Mon 2,2,comes\n"
-                  "Ben,Mon 1,,not possible\n")
+        self.file("new.csv", "nurse,shift,change,change\nAda,Mon 1,1,\nAda,Tue 1,,goes\nBen,Tue 1,1,\n"
+                  "Ben,Mon 2,2,comes\nBen,Mon 1,,not possible\n")
         self.assertIn("new.csv: no pair changes\n", self.run_words(*self.rules[:-1], "new.csv")[1])
 
 

@@ -1,5 +1,5 @@
-"""The month on one sheet of a page and a workbook: letters, what each person has in all, staff beside what is wanted,
-and what changed."""
+"""The month on one sheet of a page and a workbook: letters, what each person has in all, staff and what is
+wanted, and what changed."""
 import html.parser
 import io
 import unittest
@@ -55,7 +55,8 @@ class Sheets(Runs):
             "d.csv": "shift,day,kind\n" + "".join(f"{one},{one.split()[1]},{one.split()[0]}\n" for one in shifts),
             "t.csv": "nurse,at least,at most\nAda,0,20\nBen,0,20\n",
             "p.csv": "shift,at least,at most\n" + "".join(f"{one},1,1\n" for one in shifts),
-            "u.csv": "rule,value,for\nhours of,Early 8,\nhours of,Late 7.5,\nhours per month,0-90,\nholiday,2027-03-03,\n"})
+            "u.csv": "rule,value,for\nhours of,Early 8,\nhours of,Late 7.5,\nhours per month,0-90,\n"
+                     "holiday,2027-03-03,\n"})
 
     WORDS = ("r.csv", "--groups", "d.csv", "--tasks", "t.csv", "--places", "p.csv", "--as-many-as-can", "--html",
              "o.html")

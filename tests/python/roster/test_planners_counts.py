@@ -189,7 +189,7 @@ class ManyNames(Runs):
 
     def test_one_each(self):
         self.file("r.csv", ",x\n" + "".join(f"p{number},1\n" for number in range(20)))
-        self.file("c.csv", "a,b,c\n" + "".join(f"p{number},1,1\n" for number in range(20)))
+        self.file("c.csv", "person,b,c\n" + "".join(f"p{number},1,1\n" for number in range(20)))
         self.expect(1, "20 people (p0, p1, p2, p3, p4, p5, p6 and 13 others) must take 20 objects between them, and "
                     "can take at most 1: x at most 1: allow others, or let them take 19 fewer\n", "", "r.csv",
                     "--tasks", "c.csv")

@@ -33,7 +33,14 @@ class Days(Runs):
     def book(self, *words):
         status, out, err = self.run_words(*WORDS, *words, "--output", "p.xlsx", "--force")
         self.assertEqual((status, err), (0, ""), out)
-        return openpyxl.load_workbook("p.xlsx")
+        return self.without_month()
+
+    def without_month(self):
+        """The workbook without the sheet of a month, which test_month_sheet.py looks at."""
+        book = openpyxl.load_workbook("p.xlsx")
+        if "Month" in book.sheetnames:
+            book.remove(book["Month"])
+        return book
 
     def rows(self, sheet):
         return [[cell.value for cell in row] for row in sheet.iter_rows()]
@@ -129,7 +136,7 @@ class Days(Runs):
         self.roster(9)
         self.run_words(*WORDS, "--output", "o.csv")
         self.assertEqual(self.run_words(*WORDS, "--keep", "o.csv", "--past", day(2), "--output", "p.xlsx")[0], 0)
-        sheet = openpyxl.load_workbook("p.xlsx").worksheets[0]
+        sheet = self.without_month().worksheets[0]
         self.assertEqual([sheet.cell(3, column).font.italic for column in (2, 3, 4, 5)], [True, True, False, False])
         self.assertEqual(sheet.cell(9, 1).value, "italic: past")
 
@@ -162,8 +169,8 @@ class Days(Runs):
         book.save("p.xlsx")
         self.assertEqual(self.run_words(*WORDS, "--keep", "p.xlsx")[2], "")
         self.assertIn("p.xlsx: no pair changes", self.run_words(*WORDS, "--keep", "p.xlsx")[1])
-        self.refused(3, "(in the sheet 'Persons' of 'Persons', 'Days', 'Left out', 'Matrix', 'Plan': p.xlsx#SHEET "
-                     "reads another)", "p.xlsx", "--lines")
+        self.refused(3, "(in the sheet 'Month' of 'Month', 'Persons', 'Days', 'Left out', 'Matrix', 'Plan': "
+                     "p.xlsx#SHEET reads another)", "p.xlsx", "--lines")
         self.assertEqual(self.run_words("p.xlsx#Left out")[0], 3)
 
     def test_without_groups(self):

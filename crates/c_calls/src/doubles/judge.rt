@@ -1,5 +1,6 @@
 // Whether what a caller gives is a problem.
-ghost use Rattle.std.specs.Prelude.{IfErr, IfOk};
+ghost use Rattle.std.specs.Prelude.{◌≢◌, IfErr, IfOk};
+ghost use Rattle.c_calls.specs.declared.fault.Fault.TheVariants.{Memory};
 ghost use Rattle.c_calls.specs.doubles.Faults.{HasFault, IsShape};
 
 use super::given::Given;
@@ -10,6 +11,7 @@ use crate::size::{Shape, are_all, pairs_of, sense_by, size_by};
 pub fn judge(given: &Given<'_>) -> Result<Shape, Fault>
     ensures shape { IfOk result (IsShape given.now) }
     ensures fault { IfErr result (HasFault given.now) }
+    ensures not_memory { IfErr result (λ fault. fault ≢ Memory) }
 {
     let Some(sense) = sense_by(given.sense) else {
         return Err(Fault::Sense);

@@ -1,5 +1,5 @@
-"""A month on one sheet: a letter for each kind of shift, persons by days, what each has in all, and each day's staff
-beside what is wanted. Pages and workbooks draw it."""
+"""A month on one sheet: a letter for each kind of shift, persons by days, what each has in all, and each day's staff of
+how many. Pages and workbooks draw it."""
 from collections import Counter
 from fractions import Fraction
 from typing import Counter as Counts, Dict, List, NamedTuple, Optional, Sequence, Tuple
@@ -12,9 +12,11 @@ from ..rules.rule_rows import hours_of
 from ..rules.ruling import Ruling
 from .texts import Report
 
-# So many days make a month, and so many letters tell kinds apart.
+# So many days make a month, and so many kinds have letters.
 LEAST_DAYS, MOST_DAYS = 8, 62
 MOST_KINDS = 12
+# A sheet of paper has no more persons.
+MOST_PERSONS = 150
 _ALPHABET = "ABCDEFGHIJKLMNOPQRSTUVWXYZ"
 
 
@@ -67,6 +69,7 @@ def month_sheet(report: Report, plan: NamedPlan) -> Optional[MonthSheet]:
                if day.has_objects and day.group is not None]
     kinds = list(dict.fromkeys(row.label for block in blocks for row in block.objects))
     is_sheet = LEAST_DAYS <= len(columns) <= MOST_DAYS and len(kinds) <= MOST_KINDS
+    is_sheet = is_sheet and len(roster.persons) <= MOST_PERSONS
     if not is_sheet or any(day.group is None for block in blocks for day in block.days if day.has_objects):
         return None
     days = [_with_holiday(report.ruling, roster, block.days[column]) for block, column in columns]
@@ -77,7 +80,7 @@ def month_sheet(report: Report, plan: NamedPlan) -> Optional[MonthSheet]:
 
 
 def letters_of(kinds: Sequence[str]) -> Dict[str, str]:
-    """A letter for each kind, or the fewest first letters that tell all apart."""
+    """A letter for each kind, or the fewest first letters by which all differ."""
     for count in (1, 2, 3):
         short = [kind[:count].strip() for kind in kinds]
         if len(set(short)) == len(kinds) and all(short):
@@ -150,7 +153,7 @@ def _weekends(days: Sequence[Day], cells: Sequence[Cell]) -> int:
 
 
 def _hours(roster: Roster, ruling: Ruling, plan: NamedPlan) -> List[SheetColumn]:
-    """The hours of each person, beside those that a rule of the month wants; none where shifts have no hours."""
+    """The hours of each person, and those of a rule of the month in brackets; none where no rule has any."""
     rules, month = ruling.rules, ruling.month
     due = {person: rule for rule in rules.rules if rule.what == HOURS and rule.per == MONTHLY and rule.kinds is None
            for person in rule.persons}

@@ -80,8 +80,9 @@ def _write_cell(sheet: Any, looks: _Looks, row: int, column: int, found: MonthSh
     number = colours[cell.entries[0].label] if cell.entries else len(_KINDS)
     is_gone = not cell.entries and bool(cell.gone)
     text = " ".join(found.letters.get(label, label[:1]) for label in cell.gone) if is_gone else found.text(cell)
-    own = looks.put(sheet, row, column, text or ("\u00d7" if cell.is_off else ""), day.is_weekend, bold=bool(cell.entries),
-                    strike=is_gone, italic=day.is_past, color="FFFFFFFF" if number == _DARK else None,
+    own = looks.put(sheet, row, column, text or ("\u00d7" if cell.is_off else ""), day.is_weekend,
+                    bold=bool(cell.entries), strike=is_gone, italic=day.is_past,
+                    color="FFFFFFFF" if number == _DARK else None,
                     underline="single" if any(entry.is_fixed for entry in cell.entries) else None)
     if number < len(_KINDS):
         own.fill = looks.fill(_KINDS[number])
@@ -113,8 +114,10 @@ def _write_legend(sheet: Any, looks: _Looks, found: MonthSheet, colours: Dict[st
 def _size(sheet: Any, found: MonthSheet) -> None:
     """Widths, and one page of A4 across."""
     sheet.column_dimensions["A"].width = _NAME_WIDTH
+    texts = [cell.text for _, staff in found.staff for cell in staff if cell is not None]
+    day_width = max(_DAY_WIDTH, _LETTER_WIDTH * max(map(len, texts), default=0))
     for column in range(2, len(found.days) + 2):
-        sheet.column_dimensions[letter(column)].width = _DAY_WIDTH
+        sheet.column_dimensions[letter(column)].width = day_width
     for column, own in enumerate(found.columns, len(found.days) + 2):
         width = max(map(len, [own.title, *own.texts]))
         sheet.column_dimensions[letter(column)].width = _DAY_WIDTH + _LETTER_WIDTH * max(0, width - 3)

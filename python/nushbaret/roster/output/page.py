@@ -95,7 +95,8 @@ def page(report: Report, title: str) -> str:
     where even these have more than 250000 cells none is, and the page says so.
     """
     content = _plan_alone(report) if report.options.plan_only else _whole(report)
-    return "".join(document(title, style_of("page.css") + style_of("days.css") + style_of("month.css") + SHADES_STYLE, content))
+    style = "".join(map(style_of, ("page.css", "days.css", "month.css"))) + SHADES_STYLE
+    return "".join(document(title, style, content))
 
 
 def _whole(report: Report) -> Iterator[str]:

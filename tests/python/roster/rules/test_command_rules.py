@@ -26,7 +26,7 @@ WORDS = ("s.csv", "--groups", "d.csv", "--tasks", "t.csv", "--rules", "r.csv")
 # The one plan of least cost. These numbers come from a search of all 1296 plans.
 PLAN = ("Ada (2): Night 2027-03-07, 0; Night 2027-03-08, 1\nBen (3): Night 2027-03-05, 1; Night 2027-03-06, 1; Early "
         "2027-03-08, 0\nCleo (3): Early 2027-03-05, 1; Early 2027-03-06, 1; Early 2027-03-07, 1\n")
-WHY = ("no plan keeps these rules, proved:\n  4 objects (Night) from 2027-03-05 to 2027-03-08 are needed, the 3 people "
+WHY = ("no plan keeps these rules, proved:\n  4 shifts (Night) from 2027-03-05 to 2027-03-08 are needed, the 3 people "
        "may take at most 3: 1 too few (Night per month: 1)\n")
 # Words that are refused, and what is said.
 REFUSED = (
@@ -115,7 +115,7 @@ class NoDay(Files):
     def test_a_shift_without_a_line(self):
         """No rule is about it, and that is said."""
         self.file("d.csv", DAYS.replace("Night 2027-03-08,2027-03-08,Night\n", ""))
-        self.assertIn("d.csv: no line for 1 object (Night 2027-03-08): no rule looks at it\n",
+        self.assertIn("d.csv: no line for 1 shift (Night 2027-03-08): no rule looks at it\n",
                       self.run_words(*WORDS)[2])
 
 
@@ -131,8 +131,8 @@ class Said(Files):
     @unittest.skipUnless(optimize, "SciPy isn't there")
     def test_shifts_without_a_kind(self):
         for old, new, said in (("2027-03-06,Night", "2027-03-06,",
-                                "1 object (Night 2027-03-06): no rule of kinds looks at it"),
-                               ("Early\n", " \n", "4 objects (Early 2027-03-05, Early 2027-03-06, Early 2027-03-07, "
+                                "1 shift (Night 2027-03-06): no rule of kinds looks at it"),
+                               ("Early\n", " \n", "4 shifts (Early 2027-03-05, Early 2027-03-06, Early 2027-03-07, "
                                 "Early 2027-03-08): no rule of kinds looks at them")):
             self.file("d.csv", DAYS.replace(old, new))
             self.rules("Night per month,4,")
@@ -463,7 +463,7 @@ class Plans(Files):
                                                           for kind in ("Early", "Night")))
         with mock.patch.object(finding, "find") as find:
             self.expect(1, "no plan meets these counts, whatever the rules, proved:\n" + "".join(
-                f"  4 objects on 2027-03-0{day} are needed, the 3 people may take at most 3: 1 too few\n"
+                f"  4 shifts on 2027-03-0{day} are needed, the 3 people may take at most 3: 1 too few\n"
                 for day in (5, 6, 7, 8)), "", *WORDS, "--places", "p.csv")
             find.assert_not_called()
 
@@ -471,9 +471,9 @@ class Plans(Files):
         """Each small conflict is said, those alike together."""
         self.rules("Night per month,0,", "shifts per month,1,Ada", "shifts per month,1,Ben", "hours of,Early 8,",
                    "hours of,Night 8,", "hours per month,40-,Cleo")
-        self.expect(1, "no plan keeps these rules, proved:\n  4 objects (Night) from 2027-03-05 to 2027-03-08 are "
+        self.expect(1, "no plan keeps these rules, proved:\n  4 shifts (Night) from 2027-03-05 to 2027-03-08 are "
                     "needed, nobody may take any: 4 too few (Night per month: 0)\nand together they can't hold:\n  "
-                    "2-4 objects (Ada, Ben)\n  shifts per month: 1 (Ada, Ben)\nand together they can't hold:\n  Night "
+                    "2-4 shifts (Ada, Ben)\n  shifts per month: 1 (Ada, Ben)\nand together they can't hold:\n  Night "
                     "per month: 0 (Cleo)\n  hours per month: 40- (Cleo)\n", "", *WORDS)
 
     def test_days_that_are_refused(self):
@@ -536,7 +536,7 @@ class Plans(Files):
         self.assertEqual((status, out.splitlines()[0]), (0, "least cost: 8, proved: no plan that keeps the rules costs "
                                                          "less"))
         self.assertNotIn("Cleo (3): Early 2027-03-05", out)
-        self.assertEqual(err, "b.csv: the roster has no Zoe\nb.csv: the groups' file doesn't list 1 object (Office "
+        self.assertEqual(err, "b.csv: the roster has no Zoe\nb.csv: the groups' file doesn't list 1 shift (Office "
                          "2027-03-04): no rule looks at them\n")
         self.rules("Night in a row,1,")
         self.file("f.csv", "person,object\nCleo,Night 2027-03-05\n")

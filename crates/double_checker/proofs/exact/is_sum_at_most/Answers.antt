@@ -1,16 +1,12 @@
-use Rattle.std.proofs.Common.{ℤ, ◌+ℤ◌, ◌≤ℤ◌, ◌↔◌, ◌^◌, refl, IsTrue, Bool, true, false, T, arith, SFits}
+use Rattle.std.proofs.Common.{ℤ, ◌+ℤ◌, ◌≤ℤ◌, ◌↔◌, ◌^◌, IsTrue, arith, SFits}
 use Rattle.std.specs.Int.{w128}
 use Rattle.std.proofs.lemmas.Int.{ints, to_z-of_z}
 use Rattle.std.proofs.lemmas.Float.{T_from_true}
 use lib.Signed.{le_z}
 use lib.Pow.{pow_pos}
 use Rattle.double_checker.specs.inside.Sizes.{units_by}
-use Rattle.double_checker.proofs.Scales.{sums_scaled}
+use Rattle.double_checker.proofs.Scales.{sums_scaled, true_from}
 use Rattle.double_checker.proofs.exact.is_sum_at_most.Goals as goal
-
-true_from : (b : Bool) → T b → IsTrue b
-true_from true t = refl
-true_from false t = absurd t
 
 pub tested : (x y : ℤ) → IsTrue (le_z x y) ↔ (x ≤ℤ y)
 tested x y = ((λ h. record { le = T_from_true (le_z x y) h }), (λ h. true_from (le_z x y) h.le))

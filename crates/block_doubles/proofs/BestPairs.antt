@@ -1,0 +1,129 @@
+-- The best pair of a row, a pair at a time.
+use Rattle.std.proofs.Common.{◌≡◌, ℕ, ℤ, ◌≤ℤ◌, ◌<◌, ◌≤◌, ◌+◌, ◌-◌, List, length, false, IsTrue, inl, inr, refl, arith, ap, sym, subst, ◌∙◌}
+use Rattle.std.proofs.lemmas.Int.{ints}
+use mathlib.Core.Bool.{true≢false}
+use lib.Ieee.{Float}
+use Rattle.assign_core.specs.declared.sense.Sense.{Sense}
+use Rattle.assign_core.specs.Numbered.{IsNumber}
+use Rattle.assign_core.proofs.NumberedLemmas.{low_or_same}
+use Rattle.double_costs.specs.Units.{is_number}
+use Rattle.double_checker.specs.inside.Pairs.{at, paid, row_part}
+use Rattle.block_doubles.specs.declared.least.Best.{Best}
+use Rattle.block_doubles.specs.inside.Places.{AreAbove, IsBestOf, IsFirstBetter, IsFirstUnder, IsFound, IsLeastAt, IsLesser, IsMarkAt, NoneBelow, NoneFinite, number_at}
+
+pub below_more : (sense : Sense) (v : ℤ) (row prices : List Float) (k : ℕ) → NoneBelow sense v row prices k →
+    (IsTrue (is_number (at row k)) → v ≤ℤ paid sense (at row k) (at prices k)) → NoneBelow sense v row prices (k + 1)
+below_more sense v row prices k some one h lt = elim (low_or_same h k lt) [
+  | inl l ↦ some h l
+  | inr e ↦ subst (λ (i : ℕ). IsTrue (is_number (at row i)) → v ≤ℤ paid sense (at row i) (at prices i)) (sym e) one
+]
+
+finite_more : (row : List Float) (k : ℕ) → NoneFinite row k → is_number (at row k) ≡ false → NoneFinite row (k + 1)
+finite_more row k some one h lt = elim (low_or_same h k lt) [
+  | inl l ↦ some h l
+  | inr e ↦ subst (λ (i : ℕ). is_number (at row i) ≡ false) (sym e) one
+]
+
+-- what was found stays found
+found_more : (sense : Sense) (row prices : List Float) (k j : ℕ) (c p : Float) → IsFound sense row prices k j c p →
+    (IsTrue (is_number (at row k)) → paid sense c p ≤ℤ paid sense (at row k) (at prices k)) → IsFound sense row prices (k + 1) j c p
+found_more sense row prices k j c p f one = let w = f.within in record {
+  first = f.first;
+  within = omega arith;
+  cost = f.cost;
+  price = f.price;
+  finite = f.finite;
+  price_finite = f.price_finite;
+  least = below_more sense (paid sense c p) row prices k f.least one;
+}
+
+-- the new one is the best
+new_best : (sense : Sense) (row prices : List Float) (k : ℕ) (best : Best) → IsBestOf sense row prices k best →
+    IsTrue (is_number (at row k)) → IsTrue (is_number (at prices k)) →
+    (0 < best.object → paid sense (at row k) (at prices k) ≤ℤ paid sense best.cost best.price) →
+    IsFound sense row prices (k + 1) (k + 1) (at row k) (at prices k)
+new_best sense row prices k best is n p less =
+    let e : k + 1 - 1 ≡ k = omega arith in record {
+      first = omega arith;
+      within = omega arith;
+      cost = ap (at row) e;
+      price = ap (at prices) e;
+      finite = n;
+      price_finite = p;
+      least = below_more sense (paid sense (at row k) (at prices k)) row prices k (λ h lt m.
+          elim is [
+            | inl a ↦ absurd (true≢false (sym m ∙ a.1 h lt))
+            | inr f ↦ let l = less f.first in let g = f.least h lt m in omega (arith, ints)
+          ]) (λ m. omega (arith, ints));
+    }
+
+pub best_more : (sense : Sense) (row prices : List Float) (k : ℕ) (best result : Best) → IsBestOf sense row prices k best →
+    IsTrue (is_number (at prices k)) → IsLesser sense best (k + 1) (at row k) (at prices k) result →
+    IsBestOf sense row prices (k + 1) result
+best_more sense row prices k best result (inl a) p (inl l) = subst (IsBestOf sense row prices (k + 1)) (sym l.0)
+    (inl (a.0, finite_more row k a.1 l.1))
+best_more sense row prices k best result (inr f) p (inl l) = subst (IsBestOf sense row prices (k + 1)) (sym l.0)
+    (inr (found_more sense row prices k best.object best.cost best.price f (λ m. absurd (true≢false (sym m ∙ l.1)))))
+best_more sense row prices k best result (inl a) p (inr (inl l)) = let z = a.0 in let s = l.1 in absurd (omega arith)
+best_more sense row prices k best result (inr f) p (inr (inl l)) = subst (IsBestOf sense row prices (k + 1)) (sym l.0)
+    (inr (found_more sense row prices k best.object best.cost best.price f (λ m. l.2)))
+best_more sense row prices k best result is p (inr (inr l)) = subst (IsBestOf sense row prices (k + 1)) (sym l.0)
+    (inr (new_best sense row prices k best is l.1 p l.2))
+
+pub best_finite : (sense : Sense) (row prices : List Float) (k : ℕ) (best : Best) → IsBestOf sense row prices k best →
+    0 < best.object → IsTrue (is_number best.cost)
+best_finite sense row prices k best (inl a) h = let z = a.0 in absurd (omega arith)
+best_finite sense row prices k best (inr f) h = f.finite
+
+pub price_finite : (sense : Sense) (row prices : List Float) (k : ℕ) (best : Best) → IsBestOf sense row prices k best →
+    0 < best.object → IsTrue (is_number best.price)
+price_finite sense row prices k best (inl a) h = let z = a.0 in absurd (omega arith)
+price_finite sense row prices k best (inr f) h = f.price_finite
+
+-- the best of a whole row
+pub whole_row : (sense : Sense) (row prices : List Float) (best : Best) → IsBestOf sense row prices (length row) best →
+    IsLeastAt sense row prices best.object best.cost
+whole_row sense row prices best (inl a) = inl a
+whole_row sense row prices best (inr f) =
+    inr (subst (λ (p : Float). IsFound sense row prices (length row) best.object best.cost p) (sym f.price) f)
+
+-- a row whose least pair isn't below a number
+pub none_by_least : (sense : Sense) (v : ℤ) (row prices : List Float) (j : ℕ) (c : Float) → IsLeastAt sense row prices j c →
+    (0 < j → IsTrue (is_number c) → v ≤ℤ paid sense c (at prices (j - 1))) → NoneBelow sense v row prices (length row)
+none_by_least sense v row prices j c (inl a) h k lt n = absurd (true≢false (sym n ∙ a.1 k lt))
+none_by_least sense v row prices j c (inr f) h k lt n =
+    let l = f.least k lt n in let b = h f.first f.finite in omega (arith, ints)
+
+pub least_within : (sense : Sense) (row prices : List Float) (j : ℕ) (c : Float) → IsLeastAt sense row prices j c → j ≤ length row
+least_within sense row prices j c (inl a) = let z = a.0 in omega arith
+least_within sense row prices j c (inr f) = f.within
+
+-- the rows of one more person
+pub above_more : (sense : Sense) (costs prices of_costs of_prices : List Float) (k : ℕ) → AreAbove sense costs prices of_costs of_prices k →
+    NoneBelow sense (number_at sense of_costs of_prices k) (row_part (length prices) k costs) prices (length prices) →
+    AreAbove sense costs prices of_costs of_prices (k + 1)
+above_more sense costs prices of_costs of_prices k some one i lt = elim (low_or_same i k lt) [
+  | inl l ↦ some i l
+  | inr e ↦ subst (λ (q : ℕ). NoneBelow sense (number_at sense of_costs of_prices q) (row_part (length prices) q costs) prices (length prices))
+      (sym e) one
+]
+
+pub first_pair : (sense : Sense) (costs prices of_costs of_prices : List Float) (n k j : ℕ) → k < n →
+    AreAbove sense costs prices of_costs of_prices k →
+    IsFirstUnder sense (number_at sense of_costs of_prices k) (row_part (length prices) k costs) prices j →
+    IsFirstBetter sense costs prices of_costs of_prices n (k + 1) j
+first_pair sense costs prices of_costs of_prices n k j lt some one =
+    let e : k ≡ k + 1 - 1 = omega arith in record {
+      person = record { first = omega arith; last = omega arith };
+      before = subst (AreAbove sense costs prices of_costs of_prices) e some;
+      object = subst (λ (q : ℕ). IsFirstUnder sense (number_at sense of_costs of_prices q) (row_part (length prices) q costs) prices j) e one;
+    }
+
+-- a mark of an own pair that is neither below its number nor above
+pub own_at : (sense : Sense) (v : ℤ) (row prices : List Float) (j : ℕ) → IsNumber (length row) j →
+    IsTrue (is_number (at row (j - 1))) → v ≤ℤ paid sense (at row (j - 1)) (at prices (j - 1)) →
+    paid sense (at row (j - 1)) (at prices (j - 1)) ≤ℤ v → IsMarkAt sense v row prices j 1
+own_at sense v row prices j number n low high = record {
+  zero_or_one = inr refl;
+  one = ((λ e. record { number = number; finite = n; same = omega (arith, ints) }), (λ o. refl));
+}

@@ -1,0 +1,2 @@
+mod BestPairs
+mod RowPairs
