@@ -1,8 +1,8 @@
 // The call that asks whether a plan is the only best one, as `c/nushbaret.h` declares it.
 ghost use Rattle.lent_plans.specs.Unique.{JudgesUnique, UniqueBuffers, unique_given};
 
-use cost_lists::{Object, Person, Price};
 use c_calls::lists::{Given, Info, form_of};
+use cost_lists::{Object, Person, Price};
 use lent_plans::unique_on;
 use std::alloc::Global;
 
