@@ -5,7 +5,7 @@ Each ward has 10 to 100 nurses, 2 to 8 weeks, and rules of rest, runs and weeks,
 nights and seniors. HiGHS, as SciPy has it, gets a model that this script makes itself from the drawn numbers, in a
 process of its own; T is the processor time of that process, at most LIMIT. Then the command gets 4 T of processor time in
 all. Printed are T, what HiGHS found and its bound, the command's processor time, verdict, cost and bound.
-`wards.py --sick` draws wards of 28 nurses two of whom are gone from the 12th on, and prints how many places HiGHS
+`wards.py --sick` draws wards of 28 nurses of which two are gone from the 12th on, and prints how many places HiGHS
 leaves empty in the processor time that the command takes, and how many the command does.
 
 Needs SciPy and a built library."""
@@ -241,7 +241,7 @@ def sick(seed, number):
 
 
 def sick_ward(seed, number):
-    """A ward of 28 nurses, two of whom are gone from the 12th on."""
+    """A ward of 28 nurses, where two are gone from the 12th on."""
     ward = Ward(seed, number, 28, 4, ("", "F", "FS", "FN")[number % 4])
     gone = set(ward.names[5:7])
     ward.wishes = {key: wish for key, wish in ward.wishes.items() if key[0] not in gone or key[1] < 11}

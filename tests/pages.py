@@ -36,7 +36,7 @@ MOST_OF_PAGE = {"README.md": 1400, "SECURITY.md": 245, "bench/README.md": 1130,
                 "docs/ARCHITECTURE.md": 1415, "docs/BEYOND.md": 600, "docs/CALLING.md": 605,
                 "docs/CONTRIBUTING.md": 1060,
                 "docs/DECISIONS.md": 1530, "docs/FORMATS.md": 1965, "docs/MODELLING.md": 1040, "docs/PROOFS.md": 1280,
-                "docs/PROVED.md": 3670, "docs/PYTHON.md": 1565, "docs/ROSTERS.md": 1765,
+                "docs/PROVED.md": 3675, "docs/PYTHON.md": 1565, "docs/ROSTERS.md": 1765,
                 "docs/RULES.md": 1400, "docs/SCRIPTS.md": 720, "docs/TESTING.md": 655}
 UNCOUNTED = ("CHANGELOG.md",)
 # The sources whose comments avoid the same words, the beginning of these comments, and code in them.

@@ -119,7 +119,7 @@ first_pair sense costs prices of_costs of_prices n k j lt some one =
       object = subst (λ (q : ℕ). IsFirstUnder sense (number_at sense of_costs of_prices q) (row_part (length prices) q costs) prices j) e one;
     }
 
--- a mark of an own pair that is neither below its number nor above
+-- a mark of an own pair that is not below its number and not above
 pub own_at : (sense : Sense) (v : ℤ) (row prices : List Float) (j : ℕ) → IsNumber (length row) j →
     IsTrue (is_number (at row (j - 1))) → v ≤ℤ paid sense (at row (j - 1)) (at prices (j - 1)) →
     paid sense (at row (j - 1)) (at prices (j - 1)) ≤ℤ v → IsMarkAt sense v row prices j 1

@@ -16,7 +16,7 @@ use cost_lists::{Object, Person};
 
 /// Looks at rows of a greater problem, whose costs lie row by row, at prices of all its objects. A person's
 /// row number is the exact sum of its number's cost (under `Max` its negative) and price. Answers the lowest
-/// person that has a pair below its number, with its lowest such object, or `None` exactly where no pair is.
+/// person that has a pair below its number, with its lowest object of these, or `None` exactly where no pair is.
 /// Writes an object of the least sum of each person with its cost, or object 0 if all of its pairs are
 /// forbidden; and for each person 1 if its own pair stands in the block at its number, and 0 if not. Own
 /// objects may be any numbers.

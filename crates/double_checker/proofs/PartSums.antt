@@ -1,4 +1,4 @@
--- Parts of sums joined, by which the sign of the whole is told.
+-- Parts of sums joined, which have the sign of the whole.
 use Rattle.std.proofs.Common.{◌≡◌, ℕ, ℤ, pos, negsuc, neg_ℤ, ◌+ℤ◌, ◌-ℤ◌, ◌*ℤ◌, ◌≤ℤ◌, ◌<ℤ◌, ◌<◌, ◌≤◌, ◌+◌, ◌-◌, ◌*◌, ◌^◌, ◌%◌}
 use Rattle.std.proofs.Common.{inl, inr, arith, refl, ap, sym, ◌∙◌, suc, min, to_z, ◌↔◌, IsTrue, true}
 use Rattle.std.specs.Int.{w128}

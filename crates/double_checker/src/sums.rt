@@ -55,7 +55,7 @@ fn times_power(count: i128, by: u64) -> i128
     power * count
 }
 
-// A part that tells the sign of a sum, with one more part, whose shift is no greater.
+// A part that has the sign of a sum, with one more part, whose shift is no greater.
 fn joined(x: Part, y: Part) -> Part
     requires order { y.shift ≤ x.shift }
     requires y { IsSmall y }
@@ -95,7 +95,7 @@ fn is_sum_negative(a: f64, b: f64, c: f64, d: f64) -> bool
 }
 
 /// Whether the sum of two finite doubles is below that of two others, in exact arithmetic. Where the rounded
-/// sums differ these tell.
+/// sums differ these show it.
 pub fn is_sum_less(a: f64, b: f64, c: f64, d: f64) -> bool
     requires a { IsTrue (is_number a) }
     requires b { IsTrue (is_number b) }

@@ -16,7 +16,7 @@ use Rattle.c_calls.specs.Codes.{fault_code, fault_place}
 use Rattle.c_calls.specs.doubles.Faults.{HasFault, IsFaultless, IsWhole}
 use Rattle.c_calls.specs.doubles.Given.{GivenDoubles, rows_in}
 
--- what a call reads beside the costs: own objects, the costs and prices whose sums are the row numbers, and the
+-- what a call reads next to the costs: own objects, the costs and prices whose sums are the row numbers, and the
 -- price of each object
 pub record Numbers : Type 0 where
   pub objects : List ℕ

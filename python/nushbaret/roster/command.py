@@ -28,7 +28,7 @@ from .words import Options, WordsFault, read_words
 if TYPE_CHECKING:
     from .rules.stages import Proved
     from .past import Past
-    from .rules.ruling import Ruling
+    from .rules.rule_file import Ruling
 
 PLANNED, NONE, WORDS, REFUSED, DEVICE = range(5)
 UNDECIDED = 6

@@ -100,7 +100,7 @@ class Options(NamedTuple):
 
     @property
     def changes(self) -> List[str]:
-        """The files of changes from a kept plan: one beside each plan in CSV."""
+        """The files of changes from a kept plan: one next to each plan in CSV."""
         return [os.path.splitext(output.path)[0] + CHANGES for output in self.outputs
                 if self.keep is not None and output.kind == "csv" and not output.is_standard]
 
@@ -136,7 +136,7 @@ def _encoding(word: str) -> str:
     return word
 
 
-# How the file of changes beside a plan ends.
+# How the file of changes next to a plan ends.
 CHANGES = "-changes.csv"
 DECIMALS = tuple(map(str, range(MOST_UNIT_DECIMALS + 1)))
 COUNT_OF_DECIMALS = Value("K", choices=DECIMALS, read=_number(0, MOST_UNIT_DECIMALS))

@@ -2,15 +2,17 @@
 how many. Pages and workbooks draw it."""
 from collections import Counter
 from fractions import Fraction
-from typing import Counter as Counts, Dict, List, NamedTuple, Optional, Sequence, Tuple
+from typing import TYPE_CHECKING, Counter as Counts, Dict, List, NamedTuple, Optional, Sequence, Tuple
 
 from ..answer import NamedPlan
 from ..day_tables import Block, Cell, Day, blocks_of
 from ..roster import Roster
 from ..rules.rule_file import HOURS, MONTHLY
 from ..rules.rule_rows import hours_of
-from ..rules.ruling import Ruling
 from .texts import Report
+
+if TYPE_CHECKING:
+    from ..rules.rule_file import Ruling
 
 # So many days make a month, and so many kinds have letters.
 LEAST_DAYS, MOST_DAYS = 8, 62
@@ -88,7 +90,7 @@ def letters_of(kinds: Sequence[str]) -> Dict[str, str]:
     return dict(zip(kinds, _ALPHABET))
 
 
-def _with_holiday(ruling: Optional[Ruling], roster: Roster, day: Day) -> Day:
+def _with_holiday(ruling: Optional["Ruling"], roster: Roster, day: Day) -> Day:
     """A day, which a rule may count as a weekend."""
     if ruling is None or roster.groups is None:
         return day
@@ -152,7 +154,7 @@ def _weekends(days: Sequence[Day], cells: Sequence[Cell]) -> int:
     return count
 
 
-def _hours(roster: Roster, ruling: Ruling, plan: NamedPlan) -> List[SheetColumn]:
+def _hours(roster: Roster, ruling: "Ruling", plan: NamedPlan) -> List[SheetColumn]:
     """The hours of each person, and those of a rule of the month in brackets; none where no rule has any."""
     rules, month = ruling.rules, ruling.month
     due = {person: rule for rule in rules.rules if rule.what == HOURS and rule.per == MONTHLY and rule.kinds is None

@@ -132,7 +132,7 @@ def following_lines(roster: Roster, plan: NamedPlan, proved: Proved,
 
 
 def _following_line(roster: Roster, name: str, found: Next, first: int, proved: Proved, sign: int) -> str:
-    """What is said of a next plan: its cost, beside that of the first, and what is proved of it."""
+    """What is said of a next plan: its cost, next to that of the first, and what is proved of it."""
     mark = f"{name}: " if name else ""
     if found.plan is None:
         few = " and misses no more" if proved.missing else ""

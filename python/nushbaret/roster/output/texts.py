@@ -14,7 +14,7 @@ from ..sheets import SEPARATORS
 from ..words import Options
 
 if TYPE_CHECKING:
-    from ..rules.ruling import Ruling
+    from ..rules.rule_file import Ruling
     from ..rules.stages import Proved
 
 

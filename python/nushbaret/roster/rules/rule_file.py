@@ -66,6 +66,13 @@ class Rules(NamedTuple):
     credits: Mapping[Tuple[int, int], Fraction] = {}
 
 
+class Ruling(NamedTuple):
+    """The rules of a roster, and its calendar."""
+
+    month: Month
+    rules: Rules
+
+
 # Rules that can't have a price: they say what others count, or go before costs.
 UNPRICED = ("hours_of", "holiday", "even", "credit")
 

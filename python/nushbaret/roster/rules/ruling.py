@@ -1,27 +1,20 @@
 """The command with rules: what is read, and what is shown while a plan is found."""
 import contextlib
 import sys
-from typing import Callable, Iterator, List, NamedTuple, Optional, Sequence, Tuple
+from typing import Callable, Iterator, List, Optional, Sequence, Tuple
 
 from ..answer import Answer, Request
 from ..groups import Broken, Paired
 from ..interrupts import interrupts_raise
-from ..month import Before, Month, month_of
+from ..month import Before, month_of
 from ..roster import OldPlan, Roster, named_pairs
 from ..words import Options, WordsFault
-from .rule_file import Rules, read_rules
+from .rule_file import Ruling, read_rules
 from .rules_kept import broken_by, missed_by, plan_of
 from .stages import COSTS, Progress, Proved, Task, answer_by_rules
 from .unruled import days_in_order, kinds_alike, left_out, other_holidays, without_day, without_kind
 
 DEFAULT_SECONDS = 60
-
-
-class Ruling(NamedTuple):
-    """The rules of a roster, and its calendar."""
-
-    month: Month
-    rules: Rules
 
 
 def read_ruling(options: Options, roster: Roster, say: Callable[[str], object]) -> Optional[Ruling]:

@@ -46,7 +46,7 @@ class Task(NamedTuple):
     seconds: float
     own: Sequence[OwnRow] = ()
     progress: Optional[Progress] = None
-    # Plans known before, which may break rules, the most telling first: it is looked for plans near them.
+    # Plans known before, which may break rules, the best first: plans near them are looked for.
     known: Sequence[Set[Tuple[int, int]]] = ()
 
 
