@@ -372,9 +372,9 @@ int32_t nushbaret_check_doubles(uint32_t sense, size_t n, size_t m,
     const double *prices, size_t prices_count,
     struct nushbaret_doubles_info *info);
 
-/* Looks at a block of a greater problem over doubles, in exact arithmetic: n of its persons, with the costs of all m objects row
-   by row. It is as nushbaret_block, but for these. The number of a person is the exact sum of a cost (under NUSHBARET_MAX its
-   negative) and a price, as those of its own pair: number_costs and number_prices have n values each.
+/* Looks at a block of a greater problem over doubles, in exact arithmetic: n of its persons, with the costs of all m objects
+   row by row. It is as nushbaret_block, except for what follows. The number of a person is the exact sum of a cost (under
+   NUSHBARET_MAX its negative) and a price, as those of its own pair: number_costs and number_prices have n values each.
 
    code                  written
    NUSHBARET_BEST        no pair is better: least_objects, least_costs and own

@@ -5,7 +5,7 @@
 
 enum { ROWS = 4, COLUMNS = 5, ROOM = ROWS * COLUMNS };
 
-/* A number is a whole one, or a tiny one beside it: their sum is no double. */
+/* A whole number and a tiny one, one of which is 0. The sum of two of them may be no double. */
 struct number {
     int whole, tiny;
 };
