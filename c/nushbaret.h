@@ -372,6 +372,32 @@ int32_t nushbaret_check_doubles(uint32_t sense, size_t n, size_t m,
     const double *prices, size_t prices_count,
     struct nushbaret_doubles_info *info);
 
+/* Looks at a block of a greater problem over doubles, in exact arithmetic: n of its persons, with the costs of all m objects
+   row by row. It is as nushbaret_block, except for what follows. The number of a person is the exact sum of a cost (under
+   NUSHBARET_MAX its negative) and a price, as those of its own pair: number_costs and number_prices have n values each.
+
+   code                  written
+   NUSHBARET_BEST        no pair is better: least_objects, least_costs and own
+   NUSHBARET_SLACK       info->person, the lowest, has the better pair of info->object, its lowest one; and the same lists
+   NUSHBARET_PRICE_RANGE info->object: its price isn't finite
+   NUSHBARET_PRICE       info->person: a part of its number isn't finite
+   NUSHBARET_SENSE, NUSHBARET_SIZE, NUSHBARET_LENGTH; NUSHBARET_COST: info->place
+
+   Of several faults the first of NUSHBARET_SENSE to NUSHBARET_COST is named, then prices, then numbers. least_objects[i] is an
+   object whose sum of cost and price no other pair of the person is below, and least_costs[i] its cost; object 0 if all of its
+   pairs are forbidden. These sums bound all plans as those of nushbaret_block do. own[i] is 1 if the person's own pair isn't
+   forbidden and its sum is the number, else 0. It takes no memory. */
+int32_t nushbaret_block_doubles(uint32_t sense, size_t n, size_t m,
+    const double *costs, size_t costs_count,
+    const uint32_t *objects, size_t objects_count,
+    const double *number_costs, size_t number_costs_count,
+    const double *number_prices, size_t number_prices_count,
+    const double *prices, size_t prices_count,
+    uint32_t *least_objects, size_t least_objects_count,
+    double *least_costs, size_t least_costs_count,
+    uint8_t *own, size_t own_count,
+    struct nushbaret_doubles_info *info);
+
 /* Writes the version of the library and a 0 into the room if they fit, leaves a smaller room as it is, and
    returns the length of the version without the 0. */
 size_t nushbaret_version(uint8_t *room, size_t room_count);

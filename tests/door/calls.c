@@ -162,6 +162,7 @@ int main(void) {
     test_faults();
     test_verdicts();
     test_blocks();
+    test_double_blocks();
     test_unique();
     test_drawn();
     test_memory();

@@ -60,6 +60,7 @@ void test_answers(void);
 void test_faults(void);
 void test_verdicts(void);
 void test_blocks(void);
+void test_double_blocks(void);
 void test_unique(void);
 void test_drawn(void);
 void test_memory(void);

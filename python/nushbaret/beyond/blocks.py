@@ -1,11 +1,12 @@
-"""Which pairs of some rows are better than their own ones at given prices: over whole numbers by the library's call
-over blocks, over doubles here."""
+"""Which pairs of some rows are better than their own ones at given prices, by the library's calls over blocks; over
+doubles the better pairs are chosen here, and listed pairs are looked at here."""
 import ctypes
 from typing import Any, Dict, List, NamedTuple, Optional, Tuple
 
 import numpy
 
 from ..lap import library
+from ..lap.doubles import DoublesInfo
 
 # The number of a row whose pairs are all better, and the least sum of a row without pairs.
 GREATEST = 2**63 - 1
@@ -34,7 +35,7 @@ class Asked(NamedTuple):
     numbers : array
         A number for each row: int64, or float64.
     rests : array or None
-        To doubles these are added without rounding; None: they are 0.
+        To doubles these are added without rounding. None: they are 0, and the look proves nothing.
     own : array or None
         Each row's own column, or -1.
     prices : array
@@ -69,23 +70,26 @@ def look_listed(n: int, rows: Any, columns: Any, costs: Any, asked: Asked) -> Lo
 # Whole numbers.
 
 
-def _call() -> Any:
-    if not _calls:
-        kinds = [ctypes.c_uint32, *[ctypes.c_size_t] * 2, *[ctypes.c_void_p, ctypes.c_size_t] * 6, ctypes.c_size_t,
-                 *[ctypes.c_void_p, ctypes.c_size_t] * 5, ctypes.c_void_p]
-        _calls["block"] = ctypes.CFUNCTYPE(ctypes.c_int32, *kinds)(library.address("nushbaret_block"))
-    return _calls["block"]
+_LIST = (ctypes.c_void_p, ctypes.c_size_t)
+_KINDS = {"nushbaret_block": (*_LIST * 6, ctypes.c_size_t, *_LIST * 5), "nushbaret_block_doubles": _LIST * 8}
+
+
+def _call(name: str) -> Any:
+    if name not in _calls:
+        kinds = ctypes.c_uint32, ctypes.c_size_t, ctypes.c_size_t, *_KINDS[name], ctypes.c_void_p
+        _calls[name] = ctypes.CFUNCTYPE(ctypes.c_int32, *kinds)(library.address(name))
+    return _calls[name]
 
 
 def _looked(n: int, persons: Any, objects: Any, costs: Any, asked: Asked) -> Look:
     """What the library says of a block."""
-    own = numpy.zeros(n, numpy.uint32) if asked.own is None else (asked.own + 1).astype(numpy.uint32)
+    own = _own_objects(n, asked.own)
     held = min(n * asked.most, len(costs))
     given = persons, objects, costs, own, asked.numbers, asked.prices
     written = (numpy.empty(n, numpy.int64), numpy.empty(n, numpy.uint8), numpy.empty(held, numpy.uint32),
                numpy.empty(held, numpy.uint32), numpy.empty(held, numpy.int64))
     info = library.Info()
-    code = library.CODES[_call()(0, n, len(asked.prices), *_addresses(given), asked.most, *_addresses(written),
+    code = library.CODES[_call("nushbaret_block")(0, n, len(asked.prices), *_addresses(given), asked.most, *_addresses(written),
                                  ctypes.addressof(info))]
     if code == "COST":
         raise ValueError(f"a cost is {costs[info.place]}, beyond 10**12")
@@ -99,12 +103,18 @@ def _looked(n: int, persons: Any, objects: Any, costs: Any, asked: Asked) -> Loo
                 (info.person - 1, info.object - 1) if code == "SLACK" else None, shown.view(bool))
 
 
+def _own_objects(n: int, own: Any) -> Any:
+    """Own columns as objects from 1 on; 0 for a row without one."""
+    return numpy.zeros(n, numpy.uint32) if own is None else (own + 1).astype(numpy.uint32)
+
+
 def _addresses(lists: Any) -> List[int]:
     """The address and the count of each list."""
     return [word for values in lists for word in (values.__array_interface__["data"][0], values.size)]
 
 
-# Doubles. Rounding keeps the order of sums; where two rounded sums are equal, what they lost decides.
+# Doubles. The library says whether a pair is better. Which ones are: rounding keeps the order of sums; where two rounded
+# sums are equal, what they lost decides.
 
 
 def two_sum(first: Any, second: Any) -> Tuple[Any, Any]:
@@ -115,8 +125,44 @@ def two_sum(first: Any, second: Any) -> Tuple[Any, Any]:
         return sums, (first - (sums - back)) + (second - back)
 
 
+def proved(costs: Any, asked: Asked) -> Look:
+    """What the library says of a matrix of doubles in exact arithmetic; no better pair is among it. A number that isn't
+    finite is beyond all sums."""
+    n, m = costs.shape
+    most = numpy.finfo(numpy.float64).max
+    is_finite = numpy.isfinite(asked.numbers)
+    numbers = numpy.clip(asked.numbers, -most, most)
+    rests = numpy.where(is_finite, 0.0 if asked.rests is None else asked.rests, numbers)
+    given = costs.ravel(), _own_objects(n, asked.own), numbers, rests, asked.prices
+    objects, paid, shown = numpy.empty(n, numpy.uint32), numpy.empty(n), numpy.empty(n, numpy.uint8)
+    info = DoublesInfo()
+    code = library.CODES[_call("nushbaret_block_doubles")(0, n, m, *_addresses((*given, objects, paid, shown)),
+                                                          ctypes.addressof(info))]
+    if code == "COST":
+        raise ValueError(f"a cost is {costs.ravel()[info.place]}")
+    if code not in ("BEST", "SLACK"):
+        raise RuntimeError(f"the library says {code} of a block of doubles")
+    has = objects > 0
+    least = numpy.full(n, numpy.inf)
+    least[has] = paid[has] + asked.prices[objects[has].astype(numpy.int64) - 1]
+    none = numpy.empty(0, numpy.int64)
+    return Look(none, none, numpy.empty(0), least, (info.person - 1, info.object - 1) if code == "SLACK" else None,
+                shown.view(bool))
+
+
 def _looked_at_doubles(costs: Any, asked: Asked) -> Look:
     """The same of a matrix of doubles."""
+    if asked.rests is None:
+        return _chosen(costs, asked)
+    found = proved(costs, asked)
+    if found.first is None:
+        return found
+    better = _chosen(costs, asked)
+    return found._replace(rows=better.rows, columns=better.columns, costs=better.costs)
+
+
+def _chosen(costs: Any, asked: Asked) -> Look:
+    """A look by NumPy."""
     sums = costs + asked.prices
     least, numbers = sums.min(1), asked.numbers[:, None]
     below = sums < numbers
