@@ -185,7 +185,7 @@ class Plans(Runs):
                     "Ada, Ben, Cleo\n", "", "r.csv", "--places", "c.csv", "--tasks", "t.csv")
         self.file("t.csv", "nurse,tasks\nAda,3\nBen,0\nCleo,0\nDan,0\n")
         self.expect(1, "Ada must take 3 shifts, and can take at most 2: once at each shift (day, night): allow "
-                    "others, or let this person take one fewer\nleast cost of 2 pairs: 6\nAda: day, 1; night, 5\nat "
+                    "others, or let this nurse take one fewer\nleast cost of 2 pairs: 6\nAda: day, 1; night, 5\nat "
                     "day: Ada\nat night: Ada\nwithout: Ada (2 of 3)\nunused: night (1 of 3)\n", "", "r.csv", "--places",
                     "c.csv", "--tasks", "t.csv", "--as-many-as-can")
         self.file("f.csv", "a,b\nAda,night\nBen,night\n")

@@ -125,7 +125,7 @@ class Cells(unittest.TestCase):
         others = dict.fromkeys(range(len(roster.objects)), Bounds(0, 1))
         roster = roster._replace(takes=Takes({}, {**others, 0: Bounds(2, 3)}, False))
         week, = blocks_of(roster, plan_of([(0, 0)]))
-        self.assertEqual([row.staff[0] for row in week.objects if row.label == "early"], [(["p0"], (1, 2))])
+        self.assertEqual([row.staff[0] for row in week.objects if row.label == "early"], [(["p0"], (1, 2), 0)])
 
 
 if __name__ == "__main__":
