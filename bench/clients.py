@@ -1,6 +1,7 @@
 #!/usr/bin/env python3
-"""Runs users of SciPy's call with this package's in its place, and compares what they say: SciPy's own tests of the call,
-networkx, scikit-learn and SciPy's own users. What isn't installed is skipped. PYTHONPATH=python, with NumPy and SciPy.
+"""Runs users of SciPy's call with this package's in its place, and compares what they say: SciPy's own tests of the
+call, networkx, scikit-learn and SciPy's own users. What isn't installed is skipped. PYTHONPATH=python, with NumPy and
+SciPy.
 
     bench/clients.py
 """

@@ -1,6 +1,6 @@
 #!/usr/bin/env python3
-"""Drawn matrices in every form and kind of number, compared with fractions, and a million small calls, after which no more
-memory is held. PYTHONPATH=python:tests/python, with NumPy; pandas and SciPy where they are there.
+"""Drawn matrices in every form and kind of number, compared with fractions, and a million small calls, after which no
+more memory is held. PYTHONPATH=python:tests/python, with NumPy; pandas and SciPy where they are there.
 
     bench/forms.py [CASES [SEED]]      20000 cases if it isn't given
 """

@@ -3,8 +3,8 @@
 
 Each ward has 10 to 100 nurses, 2 to 8 weeks, and rules of rest, runs and weeks, some with free weekends, hours, single
 nights and seniors. HiGHS, as SciPy has it, gets a model that this script makes itself from the drawn numbers, in a
-process of its own; T is the processor time of that process, at most LIMIT. Then the command gets 4 T of processor time in
-all. Printed are T, what HiGHS found and its bound, the command's processor time, verdict, cost and bound.
+process of its own; T is the processor time of that process, at most LIMIT. Then the command gets 4 T of processor time
+in all. Printed are T, what HiGHS found and its bound, the command's processor time, verdict, cost and bound.
 `wards.py --sick` draws wards of 28 nurses of which two are gone from the 12th on, and prints how many places HiGHS
 leaves empty in the processor time that the command takes, and how many the command does.
 

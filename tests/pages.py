@@ -9,9 +9,9 @@ needs no program.
 
 Then it looks at the text of all pages: links and names of files that lead nowhere, lines of more than 100 characters,
 sentences of more than 35 words, and words that docs/CONTRIBUTING.md lists to avoid. Tables, code and quoted output are
-exempt; they count where the words of a page are too many. It asks docs/definitions.py for
-a definition, and each public definition has a comment. The doc comments of crates, the comments of their specs and of all scripts
-and programs, and all texts of Python avoid the same words. And it looks for each block below `# Example` in the
+exempt; they count where the words of a page are too many. It asks docs/definitions.py for a definition, and each public
+definition has a comment. The doc comments of crates, the comments of their specs and of all scripts and programs, and
+all texts of Python avoid the same words. And it looks for each block below `# Example` in the
 documentation of calls, and for each block that docs/CALLING.md shows other crates, among the lines of crates/calling,
 which the gate proves. Prints what is wrong, and ends with status 1 then.
 """

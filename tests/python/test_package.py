@@ -83,8 +83,8 @@ class Package(unittest.TestCase):
         subprocess.run(["tar", "-xzf", name], cwd=self.folder, check=True)
         again = subprocess.run([sys.executable, "-c",
                                 "import nushbaret_build; print(nushbaret_build.build_wheel('../..'))"],
-                               cwd=self.folder / f"nushbaret-{build.VERSION}" / "building", capture_output=True, text=True,
-                               check=True)
+                               cwd=self.folder / f"nushbaret-{build.VERSION}" / "building", capture_output=True,
+                               text=True, check=True)
         own, other = self.held(again.stdout.strip()), self.held(build.build_wheel(self.folder))
         self.assertEqual(own, other)
         subprocess.run([sys.executable, "-m", "zipfile", "-e", again.stdout.strip(), "again"], cwd=self.folder,

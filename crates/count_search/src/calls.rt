@@ -427,7 +427,16 @@ fn search_grouped(
         row_marks: &mut *answer.row_marks,
         column_marks: &mut *answer.column_marks,
     };
-    let own = arranged.problem(problem);
+    let own = Problem {
+        starts: arranged.starts(),
+        columns: arranged.columns(),
+        costs: arranged.costs(),
+        row_least: problem.row_least,
+        row_most: problem.row_most,
+        column_least: problem.column_least,
+        column_most: problem.column_most,
+        groups: problem.groups,
+    };
     let found = search_whole(alloc, &own, &mut grouped, budget, record)?;
     arranged.write_plan(plan.as_slice(), answer.plan);
     Ok(found)

@@ -5,9 +5,9 @@ ghost use Rattle.lent_plans.specs.Answers.{IsAnswer};
 ghost use Rattle.lent_plans.specs.Unique.{IsUniqueShown, JudgesUnique};
 
 use super::answer::{Answer, decide};
-use cost_lists::{CostLists, Object, Price, exact_means_best};
 use c_calls::Fault;
 use c_calls::lists::{Given, Info, judge, lists_of, refuse, report_verdict};
+use cost_lists::{CostLists, Object, Price, exact_means_best};
 use plan_checker::{Rank, ranks_mean_only};
 use std::alloc::Global;
 

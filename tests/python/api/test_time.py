@@ -181,6 +181,10 @@ class Timeouts(unittest.TestCase):
                                 (nushbaret.linear_sum_assignment, {"progress": silent})):
                 with self.assertRaises(TimeoutError):
                     call(self.COSTS, timeout=0.05, **words)
+        # An alarm's thread ends soon after it rang.
+        end = time.monotonic() + 60
+        while threading.active_count() > threads and time.monotonic() < end:
+            time.sleep(0.01)
         self.assertEqual((nushbaret.solve(self.COSTS).cost, threading.active_count()), (result.cost, threads))
 
     @unittest.skipUnless(np, "NumPy isn't there")
