@@ -20,7 +20,7 @@ CODES = (
     "HALL_RANGE", "HALL_ORDER", "HALL_MISSING", "HALL_EXTRA", "HALL_COUNT",
     "OVERPRICED",
     "STOPPED", "",  # no code has the number 22
-    "UNDECIDED",
+    "UNDECIDED", "TIED",
 )
 
 # What the library is called, where a checkout has it, and what makes it there.
