@@ -89,8 +89,8 @@ def _looked(n: int, persons: Any, objects: Any, costs: Any, asked: Asked) -> Loo
     written = (numpy.empty(n, numpy.int64), numpy.empty(n, numpy.uint8), numpy.empty(held, numpy.uint32),
                numpy.empty(held, numpy.uint32), numpy.empty(held, numpy.int64))
     info = library.Info()
-    code = library.CODES[_call("nushbaret_block")(0, n, len(asked.prices), *_addresses(given), asked.most, *_addresses(written),
-                                 ctypes.addressof(info))]
+    code = library.CODES[_call("nushbaret_block")(0, n, len(asked.prices), *_addresses(given), asked.most,
+                                                  *_addresses(written), ctypes.addressof(info))]
     if code == "COST":
         raise ValueError(f"a cost is {costs[info.place]}, beyond 10**12")
     if code == "MEMORY":
@@ -113,8 +113,8 @@ def _addresses(lists: Any) -> List[int]:
     return [word for values in lists for word in (values.__array_interface__["data"][0], values.size)]
 
 
-# Doubles. The library says whether a pair is better. Which ones are: rounding keeps the order of sums; where two rounded
-# sums are equal, what they lost decides.
+# Doubles. The library says whether a pair is better. Which ones are: rounding keeps the order of sums; where two
+# rounded sums are equal, what they lost decides.
 
 
 def two_sum(first: Any, second: Any) -> Tuple[Any, Any]:
