@@ -1,3 +1,4 @@
 pub mod Sums
 pub mod Pairs
+pub mod Closed
 pub mod inside

@@ -5,11 +5,13 @@
 
 mod better;
 mod bounded;
+mod closed;
 mod least;
 mod marks;
 mod selection;
 
 pub use better::write_better;
 pub use bounded::first_better;
+pub use closed::bounds_show_closed;
 pub use least::least_sums;
 pub use marks::own_marks;

@@ -4,6 +4,9 @@ use assign_core::{Cost, Sense};
 use cost_lists::{CostLists, Pairs, Price, Source};
 use std::alloc::{AllocError, Global};
 
+// So many costs of a row are looked at together.
+const PART: usize = 32;
+
 /// A pair by its places: the place of its person and that of its cost in the person's row, or the place
 /// of a listed pair.
 #[derive(Clone, Copy)]
@@ -68,6 +71,52 @@ fn keep(found: &mut Vec<Found>, most: usize, one: Found) -> Result<(), AllocErro
     Ok(())
 }
 
+// The number that a sum has to be below to be kept.
+fn bound_of(found: &[Found], most: usize, number: Cost) -> Cost {
+    match found.last() {
+        Some(last) => { if found.len() < most { number } else { last.sum } }
+        None => number,
+    }
+}
+
+// Whether a sum is below a number. It reads on after one that is, so that several are looked at in one
+// step.
+fn is_any_below(sense: Sense, costs: &[Cost], prices: &[Price], number: Cost) -> bool {
+    let mut any = false;
+    for (cost, price) in costs.iter().zip(prices.iter()) {
+        any = (sum_at(sense, *cost, *price) < number) | any;
+    }
+    any
+}
+
+// The least sums below a number, of a part of a row that begins at a place.
+fn keep_of_part(
+    found: &mut Vec<Found>,
+    sense: Sense,
+    start: usize,
+    costs: &[Cost],
+    prices: &[Price],
+    number: Cost,
+    most: usize,
+) -> Result<(), AllocError> {
+    if !is_any_below(
+        sense,
+        costs,
+        prices,
+        bound_of(found.as_slice(), most, number),
+    ) {
+        return Ok(());
+    }
+    for (k, (cost, price)) in costs.iter().zip(prices.iter()).enumerate() {
+        let sum = sum_at(sense, *cost, *price);
+        if sum < number {
+            let at = start.wrapping_add(k);
+            keep(found, most, Found { sum, at })?;
+        }
+    }
+    Ok(())
+}
+
 // The least sums of a row below a number.
 fn keep_of_row(
     found: &mut Vec<Found>,
@@ -78,11 +127,20 @@ fn keep_of_row(
     most: usize,
 ) -> Result<(), AllocError> {
     found.clear();
-    for (at, (cost, price)) in row.iter().zip(prices.iter()).enumerate() {
-        let sum = sum_at(sense, *cost, *price);
-        if sum < number {
-            keep(found, most, Found { sum, at })?;
-        }
+    let (mut costs, mut rest) = (row, prices);
+    for part in 0..row.len() / PART + 1 {
+        let (some, others) = costs.split_at(PART.min(costs.len()));
+        let (some_prices, other_prices) = rest.split_at(PART.min(rest.len()));
+        keep_of_part(
+            found,
+            sense,
+            part.wrapping_mul(PART),
+            some,
+            some_prices,
+            number,
+            most,
+        )?;
+        (costs, rest) = (others, other_prices);
     }
     Ok(())
 }

@@ -1,5 +1,5 @@
 -- The best pair of a row, a pair at a time.
-use Rattle.std.proofs.Common.{◌≡◌, ℕ, ℤ, ◌≤ℤ◌, ◌<◌, ◌≤◌, ◌+◌, ◌-◌, List, length, false, IsTrue, inl, inr, refl, arith, ap, sym, subst, ◌∙◌}
+use Rattle.std.proofs.Common.{◌≡◌, ℕ, ℤ, ◌≤ℤ◌, ◌<◌, ◌+◌, ◌-◌, List, length, false, IsTrue, inl, inr, refl, arith, ap, sym, subst, ◌∙◌}
 use Rattle.std.proofs.lemmas.Int.{ints}
 use mathlib.Core.Bool.{true≢false}
 use lib.Ieee.{Float}
@@ -93,10 +93,6 @@ pub none_by_least : (sense : Sense) (v : ℤ) (row prices : List Float) (j : ℕ
 none_by_least sense v row prices j c (inl a) h k lt n = absurd (true≢false (sym n ∙ a.1 k lt))
 none_by_least sense v row prices j c (inr f) h k lt n =
     let l = f.least k lt n in let b = h f.first f.finite in omega (arith, ints)
-
-pub least_within : (sense : Sense) (row prices : List Float) (j : ℕ) (c : Float) → IsLeastAt sense row prices j c → j ≤ length row
-least_within sense row prices j c (inl a) = let z = a.0 in omega arith
-least_within sense row prices j c (inr f) = f.within
 
 -- the rows of one more person
 pub above_more : (sense : Sense) (costs prices of_costs of_prices : List Float) (k : ℕ) → AreAbove sense costs prices of_costs of_prices k →

@@ -1,2 +1,2 @@
 mod Answering
-mod Fitting
+pub mod Fitting

@@ -9,5 +9,6 @@ mod fault;
 pub mod lists;
 mod size;
 
+pub use buffers::put_hall;
 pub use fault::Fault;
 pub use size::Shape;

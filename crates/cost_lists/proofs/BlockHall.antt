@@ -20,9 +20,9 @@ use Rattle.cost_lists.proofs.ExactDuality.{some_cost}
 abbrev owned : List ℕ → List ℕ → List ℕ
 owned xs persons = map (λ i. numbered xs i 0) persons
 
-module _ (sense : Sense) (rows : List Listing) (blocks : List Block) (persons objects xs : List ℕ)
-    (are : AreBlocks sense rows blocks) (rise : IsStrictlyIncreasing persons) (within : All (IsNumber (length rows)) persons)
-    (only : (i j : ℕ) (c : ℤ) → Contains persons i → SomeHas blocks i j c → Contains objects j) (a : IsAssignment rows xs) where
+-- persons whose objects are all in a list are at most as many as the list has
+module _ (rows : List Listing) (persons objects xs : List ℕ) (rise : IsStrictlyIncreasing persons) (within : All (IsNumber (length rows)) persons)
+    (own : (i : ℕ) → Contains persons i → IsNumber (length rows) i → Contains objects (numbered xs i 0)) (a : IsAssignment rows xs) where
   long : length xs ≡ length rows
   long = sym (length_zip (λ row j. IsSome (listed_in row j)) rows xs a.listed)
 
@@ -53,12 +53,16 @@ module _ (sense : Sense) (rows : List Listing) (blocks : List Block) (persons ob
   among j h =
       let same = same_long in
       let lt : h.0 < length persons = omega arith in
-      let i : ℕ = get_or persons h.0 0 in
-      let number = within h.0 0 lt in
-      let seen = pair_number (λ row x. IsSome (listed_in row x)) rows xs i [] 0 a.listed number.first number.last in
-      let some = are.each i (numbered xs i 0) (listed_or_zero (row_of rows i) (numbered xs i 0)) (some_cost (listed_in (row_of rows i) (numbered xs i 0)) seen) in
       subst (Contains objects) (sym (owned_at h.0 j lt) ∙ h.2)
-      (only i (numbered xs i 0) (listed_or_zero (row_of rows i) (numbered xs i 0)) (Contains-get_or persons h.0 0 lt) some)
+      (own (get_or persons h.0 0) (Contains-get_or persons h.0 0 lt) (within h.0 0 lt))
 
-  pub few_for_persons : length persons ≤ length objects
-  few_for_persons = let few = few_among (owned xs persons) objects distinct among in let same = same_long in omega arith
+  pub few_for_owners : length persons ≤ length objects
+  few_for_owners = let few = few_among (owned xs persons) objects distinct among in let same = same_long in omega arith
+
+pub few_for_persons : (sense : Sense) (rows : List Listing) (blocks : List Block) (persons objects xs : List ℕ) →
+    AreBlocks sense rows blocks → IsStrictlyIncreasing persons → All (IsNumber (length rows)) persons →
+    ((i j : ℕ) (c : ℤ) → Contains persons i → SomeHas blocks i j c → Contains objects j) → IsAssignment rows xs → length persons ≤ length objects
+few_for_persons sense rows blocks persons objects xs are rise within only a = few_for_owners rows persons objects xs rise within (λ i has number.
+    let seen = pair_number (λ row x. IsSome (listed_in row x)) rows xs i [] 0 a.listed number.first number.last in
+    let some = are.each i (numbered xs i 0) (listed_or_zero (row_of rows i) (numbered xs i 0)) (some_cost (listed_in (row_of rows i) (numbered xs i 0)) seen) in
+    only i (numbered xs i 0) (listed_or_zero (row_of rows i) (numbered xs i 0)) has some) a

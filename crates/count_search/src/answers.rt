@@ -1,9 +1,9 @@
 // The best answer of a row to whole prices.
-use super::offers::{Offer, select};
+use super::offers::Offer;
 use super::problem::{Problem, Row};
 use super::state::{State, count_chosen};
 use super::values::{FAR, count_at, set_byte, set_count};
-use sparse_search::place_at;
+use search_base::{place_at, select};
 use std::alloc::{AllocError, Global};
 
 /// What rows are offered, one after another.

@@ -7,7 +7,7 @@ use super::slots::{Slot, Slots};
 use super::state::State;
 use super::tournament::Tournament;
 use super::values::{FAR, ONE_LESS, add_count, count_at, price_at, set_count, set_price};
-use sparse_search::{Looks, place_at};
+use search_base::{Looks, place_at};
 use std::alloc::{AllocError, Global};
 
 /// By what the prices of a phase go.

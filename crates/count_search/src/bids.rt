@@ -1,11 +1,11 @@
 // Bids of rows and of the dummy row.
 use super::auction::Auction;
-use super::offers::{NO_PLACE, Offer, Two, select, two_best_open, value_at};
+use super::offers::{NO_PLACE, Offer, Two, two_best_open, value_at};
 use super::problem::{Problem, Row};
 use super::slots::Slot;
 use super::state::State;
 use super::values::{FAR, add_count, count_at, price_at, set_price};
-use sparse_search::{NOBODY, place_at};
+use search_base::{NOBODY, place_at, select};
 use std::alloc::AllocError;
 
 // Values from here on are out of reach.

@@ -10,7 +10,7 @@ use super::repair::{PathEnd, Repair, answer_all};
 use super::shortage::{Lack, Marks, find_shortage};
 use super::state::State;
 use super::values::{count_at, set_byte, sum_of, unsigned};
-use sparse_search::{Looks, place_at};
+use search_base::{Looks, place_at};
 use std::alloc::{AllocError, Global};
 
 /// What a search writes.

@@ -4,7 +4,7 @@ use super::auction::Auction;
 use super::layout::Layout;
 use super::state::State;
 use super::values::{FAR, count_at, price_at, set_byte, set_price, unsigned};
-use sparse_search::{Heap, Reached, place_at};
+use search_base::{Heap, Reached, place_at};
 use std::alloc::{AllocError, Global};
 
 fn mark_residues(prices: &[i64], base: i64, scale: i64, is_used: &mut [u8]) {

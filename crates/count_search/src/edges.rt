@@ -4,7 +4,7 @@ use super::problem::{Problem, Row};
 use super::repair::Holder;
 use super::state::State;
 use super::values::FAR;
-use sparse_search::{Looks, NOBODY, place_at};
+use search_base::{Looks, NOBODY, place_at};
 
 /// The row leaves a pair, or takes one more (`NOBODY`), and takes another, or none (`NOBODY`).
 #[derive(Clone, Copy)]

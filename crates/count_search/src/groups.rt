@@ -2,7 +2,7 @@
 use super::problem::{Problem, Row};
 use super::state::State;
 use super::values::{byte_at, clear_bytes, count_at, set_byte};
-use sparse_search::{NOBODY, place_at};
+use search_base::{NOBODY, place_at};
 use std::alloc::{AllocError, Global};
 
 /// For each pair whether a group begins with it in its row, and whether the row takes its group; empty

@@ -3,7 +3,7 @@ use super::answers::{Range, range_of};
 use super::problem::Problem;
 use super::state::State;
 use super::values::{add_count, count_at, set_price};
-use sparse_search::place_at;
+use search_base::place_at;
 use std::alloc::{AllocError, Global};
 
 /// A number a row and a number a column.

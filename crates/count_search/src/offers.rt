@@ -1,6 +1,7 @@
 // What a row is offered: values of pairs, cost and price, of which less is better.
 use super::problem::Row;
 use super::values::{FAR, price_at};
+use search_base::Valued;
 
 /// A pair's value, or that of staying out.
 #[derive(Clone, Copy)]
@@ -10,6 +11,12 @@ pub struct Offer {
     pub next: i64,
     /// The place of the pair among all; `NOBODY` for staying out.
     pub pair: u32,
+}
+
+impl Valued for Offer {
+    fn value(&self) -> i64 {
+        self.value
+    }
 }
 
 /// The best pair of a row, by its place in it, and the two least values.
@@ -113,61 +120,4 @@ pub fn two_best_open(row: Row<'_>, bytes: &[u8], prices: &[i64], scale: i64) -> 
         scale,
     };
     values.two_best()
-}
-
-// The offers below this value come first, or those up to it. Returns how many they are.
-fn split(offers: &mut [Offer], pivot: i64, is_up_to: bool) -> usize {
-    let mut count = 0usize;
-    for k in 0..offers.len() {
-        let value = offers[k].value;
-        if (value < pivot || (is_up_to && value == pivot)) && count < offers.len() {
-            offers.swap(k, count);
-            count = count.wrapping_add(1);
-        }
-    }
-    count
-}
-
-// A part of the offers, from one place to another.
-#[derive(Clone, Copy)]
-struct Part {
-    from: usize,
-    to: usize,
-}
-
-// The part of offers in which the one at this place stands among equal ones, or nothing where it stands
-// already.
-fn narrow(offers: &mut [Offer], part: Part, count: usize) -> Option<Part> {
-    let middle = part
-        .from
-        .wrapping_add(part.to.saturating_sub(part.from) / 2);
-    let pivot = offers.get(middle)?.value;
-    let below = split(offers.get_mut(part.from..part.to)?, pivot, false);
-    let first = part.from.wrapping_add(below);
-    if count < first {
-        return Some(Part { to: first, ..part });
-    }
-    let same = split(offers.get_mut(first..part.to)?, pivot, true);
-    let last = first.wrapping_add(same);
-    if count < last {
-        return None;
-    }
-    Some(Part { from: last, ..part })
-}
-
-/// Brings the least so many offers to the front, and the next one after them (Hoare 1961).
-pub fn select(offers: &mut [Offer], count: usize) {
-    let mut part = Part {
-        from: 0,
-        to: offers.len(),
-    };
-    for _split in 0..offers.len() {
-        if part.from >= part.to {
-            return;
-        }
-        match narrow(offers, part, count) {
-            Some(narrower) => part = narrower,
-            None => return,
-        }
-    }
 }

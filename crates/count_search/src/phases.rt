@@ -5,7 +5,7 @@ use super::layout::Layout;
 use super::problem::Problem;
 use super::state::State;
 use super::values::{clear_bytes, clear_counts, count_at, set_count};
-use sparse_search::{Looks, place_at};
+use search_base::{Looks, place_at};
 use std::alloc::{AllocError, Global};
 
 // The numbers come from measurements; no answer depends on them.

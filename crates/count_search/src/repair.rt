@@ -10,7 +10,7 @@ use super::state::State;
 use super::values::{
     FAR, byte_at, count_at, price_at, set_byte, set_count, set_price, short, signed,
 };
-use sparse_search::{Heap, Looks, NOBODY, Reached, place_at};
+use search_base::{Heap, Looks, NOBODY, Reached, place_at};
 use std::alloc::{AllocError, Global};
 
 /// A row that takes a column, and the place of the pair.

@@ -12,7 +12,7 @@ use super::values::{
     FAR, ONE_LESS, add_count, clear_counts, count_at, price_at, set_count, set_price, short,
     signed64,
 };
-use sparse_search::{NOBODY, place_at};
+use search_base::{NOBODY, place_at};
 use std::alloc::AllocError;
 
 // Prices of 0 and above.

@@ -3,7 +3,7 @@ use super::cut::by_price;
 use super::problem::{Problem, Row};
 use super::state::State;
 use super::values::{byte_at, count_at, set_byte};
-use sparse_search::place_at;
+use search_base::place_at;
 use std::alloc::{AllocError, Global};
 
 /// Which side lacks.

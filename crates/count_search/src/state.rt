@@ -3,7 +3,7 @@ use super::problem::{Problem, Row};
 use super::values::{
     FAR, ONE_LESS, add_count, count_at, price_at, set_byte, set_count, set_price, short, signed,
 };
-use sparse_search::place_at;
+use search_base::place_at;
 use std::alloc::{AllocError, Global};
 
 /// Counts that are no greater than what is listed, the groups' keys, the plan, how many columns each

@@ -1,6 +1,6 @@
 // The column of the least price, for the dummy row: a tournament, whose leaves are columns.
 use super::values::{FAR, count_at, price_at, set_count, set_price};
-use sparse_search::place_at;
+use search_base::place_at;
 use std::alloc::{AllocError, Global};
 
 #[derive(Drop)]

@@ -5,7 +5,7 @@ use super::matrix::Matrix;
 use super::reading::Reading;
 use super::record::{Ended, Record};
 use super::rows::two_best;
-use sparse_search::{Looks, NOBODY, place_at};
+use search_base::{Looks, NOBODY, place_at};
 use std::alloc::{AllocError, Global};
 use std::collections::VecDeque;
 

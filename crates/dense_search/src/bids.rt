@@ -7,7 +7,7 @@ use super::matrix::Matrix;
 use super::number::Number;
 use super::reading::Reading;
 use super::rows::{two_best, unowned_below};
-use sparse_search::{Looks, NOBODY, place_at};
+use search_base::{Looks, NOBODY, place_at};
 
 // A chain without slackness, of persons who lose their objects in turn, has at most this part of all
 // persons as bids. A longer one is a war of a few, which a search ends sooner.

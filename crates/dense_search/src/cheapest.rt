@@ -2,7 +2,7 @@
 use super::market::Market;
 use super::matrix::Matrix;
 use super::reading::Reading;
-use sparse_search::{NOBODY, place_at};
+use search_base::{NOBODY, place_at};
 
 // The number of costs that are compared at once.
 const BLOCK: usize = 64;

@@ -6,7 +6,8 @@ use super::prices::{begin_at_zero, reduce};
 use super::pricing::{Better, better_pairs, merge, pairs_around};
 use super::reading::Reading;
 use super::record::{Ended, Record};
-use sparse_search::{Looks, Pair, SparseProblem};
+use search_base::Looks;
+use sparse_search::{Pair, SparseProblem};
 use std::alloc::{AllocError, Global};
 
 // The most passes.

@@ -7,7 +7,7 @@ use super::matrix::Matrix;
 use super::number::{Number, least_of, lesser};
 use super::reading::Reading;
 use super::tree::Scanned;
-use sparse_search::{Looks, NOBODY, place_at};
+use search_base::{Looks, NOBODY, place_at};
 use std::alloc::{AllocError, Global};
 
 // The number of objects of a block. Only blocks with a nearest object are looked at again.

@@ -1,7 +1,7 @@
 // The objects of a row with a value below a limit.
 use super::reading::Reading;
 use super::rows::{BLOCK, is_any_below};
-use sparse_search::place_at;
+use search_base::place_at;
 use std::alloc::AllocError;
 
 // An object and its value.

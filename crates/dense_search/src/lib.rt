@@ -28,5 +28,4 @@ mod tree;
 
 pub use matrix::DenseProblem;
 pub use record::{Outcome, Record, Stage};
-pub use sparse_search::NOBODY;
 pub use stages::search;

@@ -1,6 +1,6 @@
 // Prices and owners during a search.
 use super::number::{Number, least_of};
-use sparse_search::{NOBODY, at, place_at, put};
+use search_base::{NOBODY, at, place_at, put};
 use std::alloc::{AllocError, Global};
 
 // The price and the owner of each object, and the object of each person, by places from 0.

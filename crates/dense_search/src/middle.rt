@@ -8,7 +8,7 @@ use super::paths::serve_by_rows;
 use super::prices::begin;
 use super::reading::Reading;
 use super::record::{Ended, Record, Stage};
-use sparse_search::Looks;
+use search_base::Looks;
 use std::alloc::{AllocError, Global};
 
 // The bids of each person before the searches, without slackness.

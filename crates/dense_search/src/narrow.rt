@@ -2,7 +2,7 @@
 use super::matrix::Matrix;
 use super::number::{NARROW, Number};
 use super::reading::Reading;
-use sparse_search::place_at;
+use search_base::place_at;
 use std::alloc::{AllocError, Global};
 
 // The low 32 bits of a number.

@@ -7,7 +7,7 @@ use super::reading::Reading;
 use super::record::Ended;
 use super::settling::lower_prices;
 use super::shortest::Search;
-use sparse_search::{Looks, NOBODY, Pace, place_at};
+use search_base::{Looks, NOBODY, Pace, place_at};
 use std::alloc::{AllocError, Global};
 
 // The looks that searches may take, and how they are foretold.

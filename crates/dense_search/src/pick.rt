@@ -4,7 +4,8 @@ use super::market::Market;
 use super::matrix::Matrix;
 use super::reading::Reading;
 use super::rows::two_best;
-use sparse_search::{NOBODY, Pair, place_at};
+use search_base::{NOBODY, place_at};
+use sparse_search::Pair;
 use std::alloc::{AllocError, Global};
 
 // The most pairs of a person by each measure.

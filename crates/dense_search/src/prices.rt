@@ -2,7 +2,7 @@
 use super::matrix::Matrix;
 use super::number::{Number, lesser};
 use super::reading::Reading;
-use sparse_search::place_at;
+use search_base::place_at;
 
 // Greater prices of a caller, and lower ones than its negative, are cut.
 const GREATEST_PRICE: i64 = 1 << 60;

@@ -6,7 +6,8 @@ use super::matrix::Matrix;
 use super::pick::{Core, GAPS};
 use super::reading::Reading;
 use super::rows::two_best;
-use sparse_search::{Pair, place_at};
+use search_base::place_at;
+use sparse_search::Pair;
 use std::alloc::{AllocError, Global};
 
 // The most pairs of a person that join in one pass, and the most that are gathered for that.

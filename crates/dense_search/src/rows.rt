@@ -2,7 +2,7 @@
 // its price.
 use super::number::{Number, lesser};
 use super::reading::Reading;
-use sparse_search::{NOBODY, place_at};
+use search_base::{NOBODY, place_at};
 
 // The number of objects that are compared at once.
 pub const BLOCK: usize = 32;

@@ -4,7 +4,7 @@ use super::market::Market;
 use super::matrix::Matrix;
 use super::reading::Reading;
 use super::rows::two_best;
-use sparse_search::{NOBODY, place_at};
+use search_base::{NOBODY, place_at};
 use std::alloc::{AllocError, Global};
 
 // The part of all persons by which first prices are judged.

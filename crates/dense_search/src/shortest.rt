@@ -6,7 +6,7 @@ use super::number::Number;
 use super::reading::Reading;
 use super::rows::{BLOCK, is_any_below};
 use super::tree::{Label, Scanned, Tree};
-use sparse_search::{Looks, NOBODY, put};
+use search_base::{Looks, NOBODY, put};
 use std::alloc::{AllocError, Global};
 
 // The prices of objects, or what is far where an object is passed, and the paths.

@@ -13,7 +13,7 @@ use super::reading::{AsCosts, AsGains, Reading};
 use super::record::{Ended, Outcome, Record, SHIFT, Stage};
 use super::settling::{settle_all, settle_up_to};
 use assign_core::Sense;
-use sparse_search::Looks;
+use search_base::Looks;
 use std::alloc::{AllocError, Global};
 
 /// The most persons and the most objects.

@@ -2,7 +2,7 @@
 use super::market::Market;
 use super::number::Number;
 use super::reading::Reading;
-use sparse_search::{NOBODY, place_at};
+use search_base::{NOBODY, place_at};
 use std::alloc::{AllocError, Global};
 use std::collections::BinaryHeap;
 

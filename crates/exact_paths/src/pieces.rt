@@ -1,7 +1,8 @@
 // Searches in pieces, between which an observer hears how far they are.
 use super::observer::Observer;
 use dense_search::DenseProblem;
-use sparse_search::{HallSet, NOBODY, SparseProblem};
+use search_base::NOBODY;
+use sparse_search::{HallSet, SparseProblem};
 use std::alloc::{AllocError, Global};
 
 // The most pieces. A search that takes more goes on without a stop.

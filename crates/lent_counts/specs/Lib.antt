@@ -5,3 +5,4 @@ pub mod Answers
 pub mod Ends
 pub mod Checks
 pub mod Lent
+pub mod Ones

@@ -8,6 +8,7 @@ mod fault;
 mod given;
 mod info;
 mod judge;
+mod ones;
 mod prepare;
 mod search;
 mod solving;

@@ -46,15 +46,19 @@ fn columns_of(alloc: Global, lists: CountLists<'_>) -> Result<Vec<u32>, AllocErr
     Ok(columns)
 }
 
+/// A cost as one to minimise.
+pub fn turned(sense: Sense, cost: Cost) -> Cost {
+    match sense {
+        Sense::Min => cost,
+        Sense::Max => cost.wrapping_neg(),
+    }
+}
+
 // The costs as ones to minimise.
 fn costs_of(alloc: Global, lists: CountLists<'_>) -> Result<Vec<Cost>, AllocError> {
     let mut costs = Vec::with_capacity(alloc, lists.costs.len())?;
     for cost in lists.costs {
-        let turned = match lists.sense {
-            Sense::Min => *cost,
-            Sense::Max => cost.wrapping_neg(),
-        };
-        costs.push(turned)?;
+        costs.push(turned(lists.sense, *cost))?;
     }
     Ok(costs)
 }

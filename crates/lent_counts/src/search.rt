@@ -5,6 +5,7 @@ ghost use Rattle.count_checker.specs.CountLists.{problem_in};
 ghost use Rattle.lent_counts.specs.Answers.{HasLengths, IsAnswer, IsEnd, marks_of};
 
 use crate::end::End;
+use crate::ones::{are_ones, goes_by_ones, solve_ones};
 use crate::prepare::Prepared;
 use count_checker::{
     CheckedLists, CountVerdict, Marks, ShortageVerdict, Side, check, check_shortage,
@@ -59,6 +60,9 @@ fn run(
     budget: u64,
 ) -> Result<Found, AllocError> {
     let lists = problem.lists();
+    if goes_by_ones(&answer.record) && are_ones(lists) {
+        return solve_ones(alloc, problem, answer, budget);
+    }
     let prepared = Prepared::of(alloc, lists)?;
     let problem = Problem {
         starts: prepared.starts.as_slice(),

@@ -1,8 +1,9 @@
--- What a call on a plan leaves where memory was refused.
+-- What calls on a plan leave where memory was refused.
 use Rattle.std.proofs.Common.{◌≡◌, ℤ, pos, refl}
 use Rattle.c_calls.specs.declared.fault.Fault.TheVariants.{Memory}
 use Rattle.c_calls.specs.lists.Faults.{IsWhole}
 use Rattle.c_calls.specs.lists.Given.{GivenLists}
+use Rattle.lent_plans.specs.Next.{IsNextRefused, NextBuffers}
 use Rattle.lent_plans.specs.Unique.{IsUniqueRefused, UniqueBuffers}
 
 -- buffers that are the same, part by part
@@ -16,4 +17,16 @@ memory_refused g before after code whole is other ranks info = record {
   is = is;
   first = whole;
   stays = same_buffers after before other ranks info;
+}
+
+same_next : (a b : NextBuffers) → a.other ≡ b.other → a.margin ≡ b.margin → a.info ≡ b.info → a ≡ b
+same_next a b other margin info = rw (other, margin, info) refl
+
+pub next_refused : (g : GivenLists) (before after : NextBuffers) (code : ℤ) → IsWhole g → code ≡ pos 9 →
+    after.other ≡ before.other → after.margin ≡ before.margin → after.info ≡ before.info → IsNextRefused g before after code
+next_refused g before after code whole is other margin info = record {
+  fault = Memory;
+  is = is;
+  first = whole;
+  stays = same_next after before other margin info;
 }

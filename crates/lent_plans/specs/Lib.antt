@@ -1,2 +1,4 @@
 pub mod Answers
+pub mod Next
+pub mod NextAnswers
 pub mod Unique

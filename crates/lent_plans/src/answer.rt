@@ -24,7 +24,7 @@ pub enum Answer {
 }
 
 // Whether two lists differ.
-fn differ(first: &[Object], second: &[Object]) -> bool
+pub fn differ(first: &[Object], second: &[Object]) -> bool
     ensures { IsTrue result ↔ (first.now ≢ second.now) }
 {
     first != second
@@ -58,17 +58,20 @@ fn answer_of(
     requires { IsOptimum lists.now objects.now prices.now }
     ensures { IfOk result (IsAnswer lists.now objects.now prices.now) }
 {
-    let found = find_other(alloc, lists, objects, prices)?;
-    match found {
-        Found::Ranks(ranks) => {
-            if are_ranked(alloc, lists, objects, prices, ranks.as_slice(), true)? {
-                return Ok(Answer::Only(ranks));
-            }
+    let Found {
+        other,
+        ranks,
+        prices: _prices,
+    } = find_other(alloc, lists, objects, prices, 1, u64::MAX)?;
+    if let Some(other) = other {
+        if is_other(alloc, lists, objects, prices, other.as_slice())? {
+            return Ok(Answer::Other(other));
         }
-        Found::Other(other) => {
-            if is_other(alloc, lists, objects, prices, other.as_slice())? {
-                return Ok(Answer::Other(other));
-            }
+        return Ok(Answer::Open);
+    }
+    if let Some(ranks) = ranks {
+        if are_ranked(alloc, lists, objects, prices, ranks.as_slice(), true, 1)? {
+            return Ok(Answer::Only(ranks));
         }
     }
     Ok(Answer::Open)

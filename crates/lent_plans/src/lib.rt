@@ -3,6 +3,9 @@
 #![tactic(auto)]
 
 mod answer;
+mod next;
+mod next_plan;
 mod unique;
 
+pub use next_plan::next_on;
 pub use unique::unique_on;

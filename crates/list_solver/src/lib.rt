@@ -15,6 +15,7 @@ mod standing;
 mod whole;
 
 pub use found::Found;
+pub use grouped::Grouped;
 pub use hungarian::HallSet;
 pub use record::Record;
 pub use solver::solve_lists;

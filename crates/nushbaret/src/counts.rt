@@ -35,7 +35,9 @@ pub extern "C" fn nushbaret_counts(
         (buffers plan.new row_numbers.new column_numbers.new row_marks.new column_marks.new info.new)
         result }
 {
-    let given = given_of(
+    let mut record = CountsRecord::cold();
+    nushbaret_counts_from(
+        alloc,
         sense,
         of_rows,
         of_columns,
@@ -45,17 +47,12 @@ pub extern "C" fn nushbaret_counts(
         column_least,
         column_most,
         groups,
-    );
-    let mut record = CountsRecord::cold();
-    solve(
-        alloc,
-        &given,
-        0,
         plan,
         row_numbers,
         column_numbers,
         row_marks,
         column_marks,
+        0,
         &mut record,
         info,
     )

@@ -3,22 +3,26 @@
 #![tactic(auto)]
 
 mod blocks;
+mod bottleneck;
 mod check;
 mod counts;
 mod dense;
 mod doubles;
+mod next;
 mod rows;
 mod sparse;
 mod unique;
 mod version;
 
 pub use blocks::{nushbaret_block, nushbaret_block_doubles};
+pub use bottleneck::nushbaret_bottleneck;
 pub use check::{nushbaret_check, nushbaret_check_hall};
 pub use counts::{
     nushbaret_check_counts, nushbaret_check_shortage, nushbaret_counts, nushbaret_counts_from,
 };
 pub use dense::{nushbaret_dense, nushbaret_dense_from};
 pub use doubles::{nushbaret_check_doubles, nushbaret_doubles, nushbaret_doubles_from};
+pub use next::nushbaret_next;
 pub use rows::nushbaret_rows;
 pub use sparse::{nushbaret_sparse, nushbaret_sparse_from};
 pub use unique::nushbaret_unique;

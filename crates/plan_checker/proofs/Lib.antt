@@ -1,4 +1,4 @@
 pub mod Covered
-pub mod RankSums
+pub mod PairSums
 pub mod RankLaws
 pub mod Reading

@@ -1,3 +1,4 @@
+pub mod Next
 pub mod Only
 pub mod Ranks
 pub mod inside

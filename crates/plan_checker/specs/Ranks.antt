@@ -1,5 +1,5 @@
--- Ranks of objects, which order those that cost and price leave equal.
-use Rattle.std.specs.Prelude.{◌≡◌, ◌≢◌, ℕ, ℤ, pos, neg_ℤ, ◌^◌, ◌+ℤ◌, ◌≤ℤ◌, List, Some, Bool, true, false, length, All}
+-- Ranks of objects, which rise from each person's own object to those that cost little more with their prices.
+use Rattle.std.specs.Prelude.{◌≡◌, ◌≢◌, ℕ, ℤ, pos, neg_ℤ, ◌^◌, ◌+ℤ◌, ◌≤ℤ◌, ◌<ℤ◌, List, Some, Bool, true, false, length, All}
 use Rattle.assign_core.specs.Numbered.{IsNumber}
 use Rattle.assign_core.specs.Rows.{listed_in, listed_or_zero, row_of}
 use Rattle.assign_core.specs.Assignment.{IsBest}
@@ -8,6 +8,8 @@ use Rattle.dual_checker.specs.Faults.{own_object}
 use Rattle.cost_lists.specs.Blocks.{reduced_sum}
 use Rattle.cost_lists.specs.Exact.{AreFree, IsOptimum}
 use Rattle.cost_lists.specs.ListedCosts.{AreInLimits, ListedCosts}
+use Rattle.plan_checker.specs.declared.rank.TheConstants.{NO_BOUND}
+use Rattle.plan_checker.specs.Next.{IsBestBy, IsOnlyAssignment}
 use Rattle.plan_checker.specs.Only.{IsOnlyBest}
 
 -- a number of 32 bits
@@ -23,39 +25,50 @@ rank_of ranks j = price_of ranks j
 abbrev pub own_sum : ListedCosts → List ℕ → List ℤ → ℕ → ℤ
 own_sum l xs prices i = reduced_sum l.sense prices (own_object xs i) (listed_or_zero (row_of l.rows i) (own_object xs i))
 
--- person i lists object k, which is as good for it, with its price, as its own
-pub record IsTied (l : ListedCosts) (xs : List ℕ) (prices : List ℤ) (i k : ℕ) : Type 0 where
+-- person i lists object k, whose reduced cost is below a bound: with its price it costs less than so much
+-- more than the own one
+pub record IsInCore (bound : ℤ) (l : ListedCosts) (xs : List ℕ) (prices : List ℤ) (i k : ℕ) : Type 0 where
   pub cost : ℤ
   pub listed : listed_in (row_of l.rows i) k ≡ Some cost
-  pub low : reduced_sum l.sense prices k cost ≤ℤ own_sum l xs prices i
+  pub low : reduced_sum l.sense prices k cost <ℤ (own_sum l xs prices i +ℤ bound)
 
 -- by how much ranks must rise
 abbrev pub step_of : Bool → ℤ
 step_of false = pos 0
 step_of true = pos 1
 
--- no other object that is as good for a person as its own has a lower rank, and where ranks are strict
--- none has the same
-abbrev pub RanksRise : Bool → ListedCosts → List ℕ → List ℤ → List ℤ → Type 0
-RanksRise strict l xs prices ranks =
-    (i k : ℕ) → IsTied l xs prices i k → k ≢ own_object xs i → (rank_of ranks (own_object xs i) +ℤ step_of strict) ≤ℤ rank_of ranks k
+-- in the core below a bound no other object of a person has a lower rank than its own, and where ranks are
+-- strict none has the same
+abbrev pub RanksRise : Bool → ℤ → ListedCosts → List ℕ → List ℤ → List ℤ → Type 0
+RanksRise strict bound l xs prices ranks =
+    (i k : ℕ) → IsInCore bound l xs prices i k → k ≢ own_object xs i → (rank_of ranks (own_object xs i) +ℤ step_of strict) ≤ℤ rank_of ranks k
 
--- a rank for each object: ranks rise, and the rank is 0 where nobody owns the object, and from 0 where its
--- price is 0
-pub record AreRanked (strict : Bool) (l : ListedCosts) (xs : List ℕ) (prices ranks : List ℤ) : Type 0 where
+-- a rank for each object: ranks rise in the core below a bound, and the rank is 0 where nobody owns the
+-- object, and from 0 where its price is below the bound
+pub record AreRanked (strict : Bool) (bound : ℤ) (l : ListedCosts) (xs : List ℕ) (prices ranks : List ℤ) : Type 0 where
   pub long : length ranks ≡ l.m
   pub in_range : All IsRank ranks
-  pub rise : RanksRise strict l xs prices ranks
+  pub rise : RanksRise strict bound l xs prices ranks
   pub unowned : AreFree l.m ranks xs
-  pub free : (j : ℕ) → IsNumber l.m j → price_of prices j ≡ pos 0 → pos 0 ≤ℤ rank_of ranks j
+  pub free : (j : ℕ) → IsNumber l.m j → price_of prices j <ℤ bound → pos 0 ≤ℤ rank_of ranks j
 
--- with strict ranks an optimal assignment is the only one
+-- with strict ranks below a bound each other assignment costs at least as much more than an optimal one
+abbrev pub RanksMeanNext : Type 0
+RanksMeanNext = (bound : ℤ) (l : ListedCosts) (xs : List ℕ) (prices ranks : List ℤ) → AreInLimits l → IsOptimum l xs prices →
+    AreRanked true bound l xs prices ranks → IsBestBy l.sense l.rows xs bound
+
+-- with strict ranks below each bound there is no other assignment
+abbrev pub RanksMeanAlone : Type 0
+RanksMeanAlone = (l : ListedCosts) (xs : List ℕ) (prices ranks : List ℤ) → AreInLimits l → IsOptimum l xs prices →
+    AreRanked true NO_BOUND l xs prices ranks → IsOnlyAssignment l.rows xs
+
+-- with strict ranks below 1 an optimal assignment is the only one
 abbrev pub RanksMeanOnly : Type 0
 RanksMeanOnly = (l : ListedCosts) (xs : List ℕ) (prices ranks : List ℤ) → AreInLimits l → IsOptimum l xs prices →
-    AreRanked true l xs prices ranks → IsOnlyBest l.sense l.rows xs
+    AreRanked true (pos 1) l xs prices ranks → IsOnlyBest l.sense l.rows xs
 
--- with ranks each person's object has the same rank in each optimal assignment
+-- with ranks below 1 each person's object has the same rank in each optimal assignment
 abbrev pub RanksMeanKept : Type 0
 RanksMeanKept = (l : ListedCosts) (xs : List ℕ) (prices ranks : List ℤ) → AreInLimits l → IsOptimum l xs prices →
-    AreRanked false l xs prices ranks → (ys : List ℕ) → IsBest l.sense l.rows ys →
+    AreRanked false (pos 1) l xs prices ranks → (ys : List ℕ) → IsBest l.sense l.rows ys →
     (i : ℕ) → IsNumber (length l.rows) i → rank_of ranks (own_object ys i) ≡ rank_of ranks (own_object xs i)

@@ -10,6 +10,6 @@ mod ranked;
 mod rises;
 mod rows;
 
-pub use law::{ranks_mean_kept, ranks_mean_only};
-pub use rank::Rank;
+pub use law::{ranks_mean_alone, ranks_mean_kept, ranks_mean_next, ranks_mean_only};
+pub use rank::{NO_BOUND, Rank};
 pub use ranked::are_ranked;

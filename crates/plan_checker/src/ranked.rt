@@ -15,7 +15,7 @@ use cost_lists::{CostLists, Object, Price, Source};
 use dual_checker::mark_numbers;
 use std::alloc::{AllocError, Global};
 
-// Whether no other object that is as good for a person as its own has a rank that doesn't rise.
+// Whether no other object of a person, in the core below the bound, has a rank that doesn't rise.
 fn all_rise(lists: &CostLists<'_>, plan: Plan<'_>) -> bool
     requires plan { IsPlan (length lists.now.rows) lists.now.m plan }
     requires sense { plan.sense ≡ lists.now.sense }
@@ -23,7 +23,7 @@ fn all_rise(lists: &CostLists<'_>, plan: Plan<'_>) -> bool
     requires optimum { IsOptimum lists.now plan.objects.now plan.prices.now }
     ensures { IsTrue result
         ↔ let p = plan.entry in
-        RanksRise p.is_strict lists.now p.objects.now p.prices.now p.ranks.now }
+        RanksRise p.is_strict p.bound lists.now p.objects.now p.prices.now p.ranks.now }
 {
     // These calls show the prover that persons and objects are few enough.
     let (_persons, _objects) = (lists.persons(), lists.objects());
@@ -33,42 +33,27 @@ fn all_rise(lists: &CostLists<'_>, plan: Plan<'_>) -> bool
     }
 }
 
-// Whether ranks of the right number are ranks of an optimum's objects. The own costs are those of the
-// persons' objects, and no object is marked at first.
-fn ranked_by(
-    owned: &mut [bool],
-    own: &[Cost],
-    lists: &CostLists<'_>,
-    objects: &[Object],
-    prices: &[Price],
-    ranks: &[Rank],
-    is_strict: bool,
-) -> bool
+// Whether ranks of the right number are ranks of an optimum's objects. No object is marked at first.
+fn ranked_by(owned: &mut [bool], lists: &CostLists<'_>, plan: Plan<'_>) -> bool
     requires owned { owned.old ≡ replicate lists.now.m false }
-    requires own { AreOwnCosts lists.now.sense lists.now.rows objects.now own.now }
-    requires ranks { length ranks.now ≡ lists.now.m }
-    requires optimum { IsOptimum lists.now objects.now prices.now }
-    ensures { IsTrue result ↔ AreRanked is_strict lists.now objects.now prices.now ranks.now }
+    requires sense { plan.sense ≡ lists.now.sense }
+    requires own { AreOwnCosts lists.now.sense lists.now.rows plan.objects.now plan.own.now }
+    requires ranks { length plan.ranks.now ≡ lists.now.m }
+    requires optimum { IsOptimum lists.now plan.objects.now plan.prices.now }
+    ensures { let p = plan.entry in IsTrue result
+        ↔ AreRanked p.is_strict p.bound lists.now p.objects.now p.prices.now p.ranks.now }
 {
     // This call shows the prover that the costs are in range.
     let _persons = lists.persons();
-    mark_numbers(owned, objects);
-    if !are_free(owned, prices, ranks) {
+    mark_numbers(owned, plan.objects);
+    if !are_free(owned, plan) {
         return false;
     }
-    let plan = Plan {
-        sense: lists.sense(),
-        own,
-        objects,
-        prices,
-        ranks,
-        is_strict,
-    };
     all_rise(lists, plan)
 }
 
-/// Whether these are ranks of the objects of an optimum, strict ones if that is wanted. They may have any
-/// length.
+/// Whether these are ranks of the objects of an optimum in the core below a bound, strict ones if that is
+/// wanted. They may have any length.
 ///
 /// The time is linear in the costs; the memory is 8 bytes a person and 1 an object.
 ///
@@ -81,10 +66,11 @@ pub fn are_ranked(
     prices: &[Price],
     ranks: &[Rank],
     is_strict: bool,
+    bound: Cost,
 ) -> Result<bool, AllocError>
     requires { IsOptimum lists.now objects.now prices.now }
     ensures { IfOk result (λ ranked. IsTrue ranked
-        ↔ AreRanked is_strict lists.now objects.now prices.now ranks.now) }
+        ↔ AreRanked is_strict bound lists.now objects.now prices.now ranks.now) }
 {
     let m = lists.objects() as usize;
     if ranks.len() != m {
@@ -92,6 +78,14 @@ pub fn are_ranked(
     }
     let own = lists.own_costs(alloc, objects)?;
     let mut owned = vec![in alloc; false; m]?;
-    let (owned, own) = (owned.as_mut_slice(), own.as_slice());
-    Ok(ranked_by(owned, own, lists, objects, prices, ranks, is_strict))
+    let plan = Plan {
+        sense: lists.sense(),
+        own: own.as_slice(),
+        objects,
+        prices,
+        ranks,
+        is_strict,
+        bound,
+    };
+    Ok(ranked_by(owned.as_mut_slice(), lists, plan))
 }

@@ -1,9 +1,9 @@
-// Whether ranks rise from a person's own object to another one that is as good.
-ghost use Rattle.std.specs.Prelude.{◌≡◌, ◌↔◌, ◌+ℤ◌, ◌≤ℤ◌, ℕ, IsTrue};
+// Whether ranks rise from a person's own object to another one of low reduced cost.
+ghost use Rattle.std.specs.Prelude.{◌≡◌, ◌↔◌, ◌+ℤ◌, ◌≤ℤ◌, ◌<ℤ◌, ℕ, IsTrue};
 ghost use Rattle.assign_core.specs.Numbered.{IsNumber};
 ghost use Rattle.assign_core.specs.Rows.{IsCost};
 ghost use Rattle.plan_checker.specs.Ranks.{step_of};
-ghost use Rattle.plan_checker.specs.inside.Rises.{IsPlan, Rises};
+ghost use Rattle.plan_checker.specs.inside.Rises.{IsPlan, IsSum, Rises};
 
 use super::rank::Rank;
 use assign_core::{Cost, Sense};
@@ -19,6 +19,17 @@ pub struct Plan<'a> {
     pub prices: &'a [Price],
     pub ranks: &'a [Rank],
     pub is_strict: bool,
+    pub bound: Cost,
+}
+
+// Whether a sum of cost and price is below another one and the bound.
+fn is_below(sum: Cost, own_sum: Cost, bound: Cost) -> bool
+    requires sum { IsSum sum }
+    requires own_sum { IsSum own_sum }
+    ensures { IsTrue result ↔ (sum <ℤ (own_sum +ℤ bound)) }
+{
+    let reduced = sum - own_sum;
+    reduced < bound
 }
 
 // Whether a rank is above another one, or, if ranks aren't strict, the same.
@@ -28,8 +39,8 @@ fn is_above(own: Rank, other: Rank, is_strict: bool) -> bool
     if is_strict { own < other } else { own <= other }
 }
 
-// Whether a pair costs its person more than its own, or the object is its own, or the object's rank
-// rises.
+// Whether the reduced cost of a pair reaches the bound, or the object is the person's own, or the object's
+// rank rises.
 pub fn pair_rises(plan: Plan<'_>, person: Person, object: Object, cost: Cost) -> bool
     requires plan { (n m : ℕ) × IsPlan n m plan × IsNumber n person × IsNumber m object }
     requires cost { IsCost cost }
@@ -39,7 +50,7 @@ pub fn pair_rises(plan: Plan<'_>, person: Person, object: Object, cost: Cost) ->
     let own = plan.objects[place];
     let sum = sum_of(plan.sense, cost, plan.prices[object as usize - 1]);
     let own_sum = sum_of(Sense::Min, plan.own[place], plan.prices[own as usize - 1]);
-    if own_sum < sum || object == own {
+    if !is_below(sum, own_sum, plan.bound) || object == own {
         return true;
     }
     let (from, to) = (

@@ -1,20 +1,23 @@
-// The core of a best plan: the pairs that are as good for their persons as their own.
+// The core of a best plan: the pairs whose reduced cost is below a bound.
 use super::values::{place_of, set_value, value_at};
 use assign_core::{Cost, Sense};
-use cost_lists::{CostLists, Object, Pairs, Price, Source};
+use cost_lists::{Object, Pairs, Price, Source};
 use std::alloc::{AllocError, Global};
 
 /// Nodes are the persons by their places, and after them one for all objects that nobody owns. From a
-/// person arcs go to the owners of the other objects of its core; from the last node to each person whose
-/// object has price 0.
+/// person arcs go to the owners of the other objects of its core, and weigh the reduced cost; from the last
+/// node to each person whose object has a price below the bound, and weigh the price.
 #[derive(Drop)]
 pub struct Arcs {
     /// Where the arcs of each node begin, and where the last ones end.
     starts: Vec<usize>,
     /// The object of each arc.
     objects: Vec<Object>,
+    weights: Vec<Cost>,
     /// The node of each object.
     owners: Vec<usize>,
+    /// The least reduced cost of each person that isn't below the bound.
+    above: Vec<Cost>,
 }
 
 impl Arcs {
@@ -23,15 +26,25 @@ impl Arcs {
         self.objects.len().wrapping_add(self.starts.len())
     }
 
+    /// How many nodes there are.
+    pub fn nodes(&self) -> usize {
+        self.starts.len().wrapping_sub(1)
+    }
+
     /// The object of the arc of a node at a place among all arcs, if the node has it.
     pub fn object(&self, node: usize, arc: usize) -> Option<Object> {
-        if arc >= value_at(self.starts.as_slice(), node.wrapping_add(1), 0) {
+        if arc >= self.start(node.wrapping_add(1)) {
             return None;
         }
         self.objects.get(arc).copied()
     }
 
-    /// Where the arcs of a node begin.
+    /// The weight of the arc at a place.
+    pub fn weight(&self, arc: usize) -> Cost {
+        value_at(self.weights.as_slice(), arc, Cost::MAX)
+    }
+
+    /// Where the arcs of a node begin, and those of the node before it end.
     pub fn start(&self, node: usize) -> usize {
         value_at(self.starts.as_slice(), node, 0)
     }
@@ -39,6 +52,51 @@ impl Arcs {
     /// The node of an object.
     pub fn owner(&self, object: Object) -> usize {
         value_at(self.owners.as_slice(), place_of(object), 0)
+    }
+
+    /// The middle one of the least reduced costs that aren't below the bound, or the least one if the middle
+    /// person has none.
+    pub fn middle(&self, alloc: Global) -> Result<Cost, AllocError> {
+        let mut above = Vec::from_slice(alloc, self.above.as_slice())?;
+        above.sort_unstable();
+        let middle = value_at(above.as_slice(), above.len() / 2, Cost::MAX);
+        let least = value_at(above.as_slice(), 0, Cost::MAX);
+        Ok(if middle == Cost::MAX { least } else { middle })
+    }
+
+    // Adds an arc.
+    fn push(&mut self, object: Object, weight: Cost) -> Result<(), AllocError> {
+        self.objects.push(object)?;
+        self.weights.push(weight)?;
+        Ok(())
+    }
+
+    // Adds the arcs of a node of a greater core whose weight is below a bound.
+    fn add_below(&mut self, all: &Arcs, node: usize, bound: Cost) -> Result<(), AllocError> {
+        self.starts.push(self.objects.len())?;
+        for arc in all.start(node)..all.start(node.wrapping_add(1)) {
+            if all.weight(arc) < bound {
+                let object = value_at(all.objects.as_slice(), arc, 0);
+                self.push(object, all.weight(arc))?;
+            }
+        }
+        Ok(())
+    }
+
+    /// The arcs whose weight is below a lower bound.
+    pub fn below(&self, alloc: Global, bound: Cost) -> Result<Arcs, AllocError> {
+        let mut arcs = Arcs {
+            starts: Vec::new(alloc),
+            objects: Vec::new(alloc),
+            weights: Vec::new(alloc),
+            owners: Vec::from_slice(alloc, self.owners.as_slice())?,
+            above: Vec::new(alloc),
+        };
+        for node in 0..self.nodes() {
+            arcs.add_below(self, node, bound)?;
+        }
+        arcs.starts.push(arcs.objects.len())?;
+        Ok(arcs)
     }
 }
 
@@ -50,11 +108,20 @@ fn sum_of(sense: Sense, cost: Cost, price: Price) -> Cost {
     }
 }
 
-// The sum of each person's own cost and price.
-fn own_sums(own: &mut [Cost], objects: &[Object], prices: &[Price]) {
+/// The sum of each person's own cost and price.
+pub fn own_sums(own: &mut [Cost], objects: &[Object], prices: &[Price]) {
     for (cost, object) in own.iter_mut().zip(objects.iter()) {
         *cost = cost.wrapping_add(value_at(prices, place_of(*object), 0));
     }
+}
+
+/// A best plan: its persons' objects with their sums of cost and price, and the prices.
+#[derive(Clone, Copy)]
+pub struct Best<'a> {
+    pub sense: Sense,
+    pub sums: &'a [Cost],
+    pub objects: &'a [Object],
+    pub prices: &'a [Price],
 }
 
 // The node of each object.
@@ -66,60 +133,114 @@ fn owners_of(alloc: Global, objects: &[Object], m: usize) -> Result<Vec<usize>, 
     Ok(owners)
 }
 
-// Adds the objects of a row of costs that are as good as the person's own.
-fn add_row(
-    found: &mut Vec<Object>,
-    sense: Sense,
-    row: &[Cost],
+// How many costs of a row are looked at together.
+const BLOCK: Object = 16;
+
+// The least sum of some costs and prices.
+fn least_sum(sense: Sense, costs: &[Cost], prices: &[Price]) -> Cost {
+    let mut least = Cost::MAX;
+    for (cost, price) in costs.iter().zip(prices.iter()) {
+        least = least.min(sum_of(sense, *cost, *price));
+    }
+    least
+}
+
+// Adds the objects after some first ones whose reduced costs are below the bound, and returns the least of
+// the others.
+fn add_block(
+    arcs: &mut Arcs,
+    best: Best<'_>,
+    costs: &[Cost],
     prices: &[Price],
-    sum: Cost,
-    own: Object,
-) -> Result<(), AllocError> {
-    let mut object: Object = 0;
-    for (cost, price) in row.iter().zip(prices.iter()) {
+    place: usize,
+    first: Object,
+    bound: Cost,
+) -> Result<Cost, AllocError> {
+    let (sum, own) = (
+        value_at(best.sums, place, 0),
+        value_at(best.objects, place, 0),
+    );
+    let mut above = Cost::MAX;
+    let mut object = first;
+    for (cost, price) in costs.iter().zip(prices.iter()) {
         object = object.wrapping_add(1);
-        if sum_of(sense, *cost, *price) <= sum && object != own {
-            found.push(object)?;
+        let reduced = sum_of(best.sense, *cost, *price).wrapping_sub(sum);
+        if reduced >= bound {
+            above = above.min(reduced);
+        } else if object != own {
+            arcs.push(object, reduced)?;
         }
     }
+    Ok(above)
+}
+
+// Adds the arcs of a person, of its row of costs.
+fn add_row(
+    arcs: &mut Arcs,
+    best: Best<'_>,
+    row: &[Cost],
+    place: usize,
+    bound: Cost,
+) -> Result<(), AllocError> {
+    let sum = value_at(best.sums, place, 0);
+    let mut above = Cost::MAX;
+    let mut first: Object = 0;
+    arcs.starts.push(arcs.objects.len())?;
+    for (costs, prices) in row
+        .chunks(BLOCK as usize)
+        .zip(best.prices.chunks(BLOCK as usize))
+    {
+        let mut least = least_sum(best.sense, costs, prices).wrapping_sub(sum);
+        if least < bound {
+            least = add_block(arcs, best, costs, prices, place, first, bound)?;
+        }
+        above = above.min(least);
+        first = first.wrapping_add(BLOCK);
+    }
+    arcs.above.push(above)?;
     Ok(())
 }
 
 // The arcs of all persons, of rows of costs.
 fn add_rows(
     arcs: &mut Arcs,
-    sense: Sense,
+    best: Best<'_>,
     costs: &[Cost],
-    sums: &[Cost],
-    objects: &[Object],
-    prices: &[Price],
+    bound: Cost,
 ) -> Result<(), AllocError> {
     let mut rest = costs;
-    for (sum, own) in sums.iter().zip(objects.iter()) {
-        let (row, others) = rest.split_at(prices.len().min(rest.len()));
+    for place in 0..best.objects.len() {
+        let (row, others) = rest.split_at(best.prices.len().min(rest.len()));
         rest = others;
-        arcs.starts.push(arcs.objects.len())?;
-        add_row(&mut arcs.objects, sense, row, prices, *sum, *own)?;
+        add_row(arcs, best, row, place, bound)?;
     }
     Ok(())
 }
 
-// The listed pairs that are as good as their persons' own, by persons.
+// The listed pairs whose reduced costs are below the bound, by persons.
 fn good_pairs(
+    arcs: &mut Arcs,
     alloc: Global,
-    sense: Sense,
+    best: Best<'_>,
     pairs: Pairs<'_>,
-    sums: &[Cost],
-    objects: &[Object],
-    prices: &[Price],
-) -> Result<Vec<(usize, Object)>, AllocError> {
+    bound: Cost,
+) -> Result<Vec<(usize, Object, Cost)>, AllocError> {
     let mut good = Vec::new(alloc);
+    let above = arcs.above.as_mut_slice();
     for (at, cost) in pairs.costs.iter().enumerate() {
         let node = place_of(value_at(pairs.persons, at, 0));
         let object = value_at(pairs.objects, at, 0);
-        let sum = sum_of(sense, *cost, value_at(prices, place_of(object), 0));
-        if sum <= value_at(sums, node, Cost::MIN) && object != value_at(objects, node, 0) {
-            good.push((node, object))?;
+        let sum = sum_of(
+            best.sense,
+            *cost,
+            value_at(best.prices, place_of(object), 0),
+        );
+        let reduced = sum.wrapping_sub(value_at(best.sums, node, 0));
+        if reduced >= bound {
+            let least = value_at(above, node, 0).min(reduced);
+            set_value(above, node, least);
+        } else if object != value_at(best.objects, node, 0) {
+            good.push((node, object, reduced))?;
         }
     }
     good.sort_unstable();
@@ -127,9 +248,13 @@ fn good_pairs(
 }
 
 // How many arcs each person has, of pairs by persons.
-fn counts_of(alloc: Global, good: &[(usize, Object)], n: usize) -> Result<Vec<usize>, AllocError> {
+fn counts_of(
+    alloc: Global,
+    good: &[(usize, Object, Cost)],
+    n: usize,
+) -> Result<Vec<usize>, AllocError> {
     let mut counts = vec![in alloc; 0usize; n]?;
-    for (node, _) in good {
+    for (node, _, _) in good {
         let count = value_at(counts.as_slice(), *node, 0);
         set_value(counts.as_mut_slice(), *node, count.wrapping_add(1));
     }
@@ -140,54 +265,56 @@ fn counts_of(alloc: Global, good: &[(usize, Object)], n: usize) -> Result<Vec<us
 fn add_pairs(
     arcs: &mut Arcs,
     counts: &[usize],
-    good: &[(usize, Object)],
+    good: &[(usize, Object, Cost)],
 ) -> Result<(), AllocError> {
     let mut start = 0usize;
     for count in counts {
         arcs.starts.push(start)?;
         start = start.wrapping_add(*count);
     }
-    for (_, object) in good {
-        arcs.objects.push(*object)?;
+    for (_, object, weight) in good {
+        arcs.push(*object, *weight)?;
     }
     Ok(())
 }
 
 // The arcs of the last node.
-fn add_last(arcs: &mut Arcs, objects: &[Object], prices: &[Price]) -> Result<(), AllocError> {
+fn add_last(arcs: &mut Arcs, best: Best<'_>, bound: Cost) -> Result<(), AllocError> {
     arcs.starts.push(arcs.objects.len())?;
-    for object in objects {
-        if value_at(prices, place_of(*object), 1) == 0 {
-            arcs.objects.push(*object)?;
+    for object in best.objects {
+        let price = value_at(best.prices, place_of(*object), Cost::MAX);
+        if price < bound {
+            arcs.push(*object, price)?;
         }
     }
     arcs.starts.push(arcs.objects.len())?;
     Ok(())
 }
 
-/// The arcs of a plan with these own costs, turned so that less is better.
-pub fn arcs_of(
+/// The core of a best plan below a bound.
+pub fn core_below(
     alloc: Global,
-    lists: &CostLists<'_>,
-    own: &mut [Cost],
-    objects: &[Object],
-    prices: &[Price],
+    source: Source<'_>,
+    best: Best<'_>,
+    bound: Cost,
 ) -> Result<Arcs, AllocError> {
-    let sense = lists.sense();
-    own_sums(own, objects, prices);
+    let n = best.objects.len();
     let mut arcs = Arcs {
         starts: Vec::new(alloc),
         objects: Vec::new(alloc),
-        owners: owners_of(alloc, objects, prices.len())?,
+        weights: Vec::new(alloc),
+        owners: owners_of(alloc, best.objects, best.prices.len())?,
+        above: Vec::new(alloc),
     };
-    match lists.source() {
-        Source::Dense(costs) => add_rows(&mut arcs, sense, costs, own, objects, prices)?,
+    match source {
+        Source::Dense(costs) => add_rows(&mut arcs, best, costs, bound)?,
         Source::Listed(pairs) => {
-            let good = good_pairs(alloc, sense, pairs, own, objects, prices)?;
-            let counts = counts_of(alloc, good.as_slice(), objects.len())?;
+            arcs.above = vec![in alloc; Cost::MAX; n]?;
+            let good = good_pairs(&mut arcs, alloc, best, pairs, bound)?;
+            let counts = counts_of(alloc, good.as_slice(), n)?;
             add_pairs(&mut arcs, counts.as_slice(), good.as_slice())?;
         }
     }
-    add_last(&mut arcs, objects, prices)?;
+    add_last(&mut arcs, best, bound)?;
     Ok(arcs)
 }

@@ -1,9 +1,11 @@
-//! Searches the pairs that are as good for their persons as their own (the core of a best plan) for
-//! another plan as good, or for ranks of the objects that show that there is none. What it finds proves
-//! nothing: `plan_checker` checks it.
+//! Searches the pairs of low reduced cost (the core of a best plan) for the next best plan, or for ranks of
+//! the objects that show that there is none below a bound. What it finds proves nothing: `plan_checker`
+//! checks it.
 #![tactic(auto)]
 
 mod arcs;
+mod nearest;
+mod pricing;
 mod search;
 mod values;
 mod walk;

@@ -1,4 +1,4 @@
-// A walk over the arcs, depth first, that stops at a cycle.
+// A walk over the arcs, depth first, that stops at each cycle.
 use super::arcs::Arcs;
 use super::values::{set_value, value_at};
 use cost_lists::Object;
@@ -34,17 +34,9 @@ impl Walk {
         value_at(self.left.as_slice(), node, 0)
     }
 
-    /// The nodes of the path.
-    pub fn path(&self) -> &[usize] {
-        self.path.as_slice()
-    }
-
-    /// The object of the arc by which the path goes on from a node.
-    pub fn taken(&self, arcs: &Arcs, node: usize) -> Option<Object> {
-        arcs.object(
-            node,
-            value_at(self.next.as_slice(), node, 0).wrapping_sub(1),
-        )
+    /// The last node of the path.
+    pub fn last(&self) -> Option<usize> {
+        self.path.last().copied()
     }
 
     // Puts a node at the end of the path.
@@ -55,8 +47,8 @@ impl Walk {
         Ok(())
     }
 
-    // Takes the last node off the path.
-    fn leave(&mut self, node: usize) {
+    /// Takes the last node off the path.
+    pub fn leave(&mut self, node: usize) {
         let _last = self.path.pop();
         self.count = self.count.wrapping_add(1);
         set_value(self.is_on.as_mut_slice(), node, false);
@@ -71,24 +63,27 @@ impl Walk {
         Some(object)
     }
 
-    /// Walks from a node until all that it reaches was left, or up to the first arc to a node of the path,
-    /// and returns its object.
-    pub fn go(&mut self, arcs: &Arcs, from: usize) -> Result<Option<Object>, AllocError> {
-        if self.left(from) != 0 {
-            return Ok(None);
+    /// Begins a path at a node, unless it was left.
+    pub fn begin(&mut self, arcs: &Arcs, node: usize) -> Result<(), AllocError> {
+        if self.left(node) != 0 {
+            return Ok(());
         }
-        self.enter(arcs, from)?;
+        self.enter(arcs, node)
+    }
+
+    /// Goes on until all that the path reaches was left, or up to the first arc to a node of the path. Returns
+    /// whether there is one: it leads on from the last node.
+    pub fn go(&mut self, arcs: &Arcs) -> Result<bool, AllocError> {
         for _ in 0..arcs.size() {
-            let Some(last) = self.path.last() else {
-                return Ok(None);
+            let Some(node) = self.last() else {
+                return Ok(false);
             };
-            let node = *last;
             match self.step(arcs, node) {
                 None => self.leave(node),
                 Some(object) => {
                     let owner = arcs.owner(object);
                     if value_at(self.is_on.as_slice(), owner, false) {
-                        return Ok(Some(object));
+                        return Ok(true);
                     }
                     if self.left(owner) == 0 {
                         self.enter(arcs, owner)?;
@@ -96,6 +91,6 @@ impl Walk {
                 }
             }
         }
-        Ok(None)
+        Ok(false)
     }
 }

@@ -1,10 +1,9 @@
 // The auction with slackness (Bertsekas 1979), a phase at a time: persons bid from a queue, and a price
 // rises by the gap of the two best values and the slackness.
-use super::looks::Looks;
 use super::market::Market;
-use super::place::{NOBODY, at, place_at, put};
 use super::problem::{Pair, Scaled};
 use super::row::{Two, two_best};
+use search_base::{Looks, NOBODY, at, place_at, put};
 use std::alloc::{AllocError, Global};
 
 // Beyond this price sums could leave the range.

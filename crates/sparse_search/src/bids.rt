@@ -1,10 +1,9 @@
 // First prices and bids without slackness: the column reduction and the augmenting row reduction of
 // Jonker and Volgenant (1987).
-use super::looks::Looks;
 use super::market::Market;
-use super::place::{NOBODY, at, is_unowned, place_at};
 use super::problem::{Pair, Scaled, SparseProblem};
 use super::row::{FAR, Two, two_best};
+use search_base::{Looks, NOBODY, at, is_unowned, place_at};
 
 fn lower_to_costs(pairs: &[Pair], prices: &mut [i64]) {
     for pair in pairs {

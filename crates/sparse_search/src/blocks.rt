@@ -1,11 +1,10 @@
 // Pairs that lie in no assignment of all persons. Given one such assignment, a person points to the
 // owners of the objects that it lists; a pair whose two persons lie in different strongly connected
 // blocks (Tarjan 1972) can be dropped. Persons who reach an unowned object are one block.
-use super::looks::Looks;
 use super::market::Market;
-use super::place::{NOBODY, at, place_at, put};
 use super::problem::{Pair, SparseProblem};
 use super::row::{FAR, own_cost};
+use search_base::{Looks, NOBODY, at, place_at, put};
 use std::alloc::{AllocError, Global};
 
 /// The block of each person, and the persons block by block: a block stands after those that it

@@ -1,7 +1,7 @@
 // Whether the first searches are worth going on with: how long they have been so far says how many
 // looks all will take.
-use super::looks::Looks;
 use super::record::Record;
+use search_base::Looks;
 
 // The numbers come from measurements; no answer depends on them. They are looks for each pair.
 // The most looks in all where searches grow longer, as in random problems.

@@ -1,5 +1,5 @@
 // Prices and owners during a search.
-use super::place::{NOBODY, at, is_unowned, place_at, put};
+use search_base::{NOBODY, at, is_unowned, place_at, put};
 use std::alloc::{AllocError, Global};
 
 // Greater first prices, and lower ones than its negative, are cut.

@@ -1,8 +1,7 @@
 // Matchings of as many persons as possible, costs aside (Hopcroft and Karp 1973), and Hall sets.
-use super::looks::Looks;
 use super::outcome::HallSet;
-use super::place::{NOBODY, at, is_unowned, place_at, put};
 use super::problem::{Pair, SparseProblem};
+use search_base::{Looks, NOBODY, at, is_unowned, place_at, put};
 use std::alloc::{AllocError, Global};
 
 /// Who has which object, and the layers of the search in breadth.

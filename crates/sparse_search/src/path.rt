@@ -2,12 +2,10 @@
 // listed pairs. It keeps the objects at the current distance in a list, farther ones in a heap, and
 // none beyond the nearest unowned one. A pair's length is how much it is worse than the person's best
 // pair, so persons may own objects that are worse by some slackness.
-use super::heap::{Heap, Reached};
-use super::looks::Looks;
 use super::market::Market;
-use super::place::{NOBODY, at};
 use super::problem::{Pair, Scaled};
 use super::row::{FAR, least_value, value};
+use search_base::{Heap, Looks, NOBODY, Reached, at};
 use std::alloc::{AllocError, Global};
 
 // How an object was reached.

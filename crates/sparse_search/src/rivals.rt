@@ -1,6 +1,6 @@
 // Two persons who list the same object alone.
-use super::place::{NOBODY, at, place_at, put};
 use super::problem::SparseProblem;
+use search_base::{NOBODY, at, place_at, put};
 use std::alloc::{AllocError, Global};
 
 /// The first two persons who list one object each, and the same one: there is no assignment then.

@@ -1,7 +1,7 @@
 // What a person sees at some prices: the value of a pair is its cost plus the object's price, and less
 // is better.
-use super::place::{NOBODY, is_unowned};
 use super::problem::Pair;
+use search_base::{NOBODY, is_unowned};
 
 /// No value of a pair is as great.
 pub const FAR: i64 = 1 << 62;

@@ -3,15 +3,14 @@ use super::auction::{Ahead, Queue, Terms, bid_for_dummies, bid_from_queue};
 use super::bids::{bid_all, set_first_prices};
 use super::blocks::{Blocks, find_blocks};
 use super::forecast::Forecast;
-use super::looks::Looks;
 use super::market::Market;
 use super::matching::{Known, Matching};
 use super::path::{End, PathSearch};
-use super::place::{NOBODY, place_at};
 use super::problem::{Scaled, SparseProblem};
 use super::record::{Record, Stage};
 use super::tight::{count_slack, match_tight, settle};
 use super::unowned::{bring_down, bring_down_many, lower_unowned};
+use search_base::{Looks, NOBODY, place_at};
 use std::alloc::{AllocError, Global};
 
 // The numbers come from measurements; no answer depends on them.

@@ -1,9 +1,8 @@
 // Tight pairs, those with a person's least value: which persons can have one.
-use super::looks::Looks;
 use super::market::Market;
-use super::place::{NOBODY, at, is_unowned, place_at, put};
 use super::problem::{Pair, Scaled};
 use super::row::{FAR, Look, least_value, look_at, value};
+use search_base::{Looks, NOBODY, at, is_unowned, place_at, put};
 use std::alloc::{AllocError, Global};
 
 // Where a search along tight pairs stands: the least value of each person seen, the next pairs of

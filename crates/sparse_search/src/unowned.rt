@@ -1,14 +1,12 @@
 // Fewer persons than objects: an unowned object has to be as cheap as any. First each dear one's price
 // falls until a person would pay it, and then searches from the cheapest objects bring down the rest.
 use super::auction::price_at;
-use super::heap::Reached;
-use super::looks::Looks;
 use super::market::Market;
 use super::path::{Level, PathSearch};
-use super::place::{NOBODY, at, place_at};
 use super::problem::{Pair, Scaled};
 use super::row::{FAR, least_value};
 use super::tight::match_dear;
+use search_base::{Looks, NOBODY, Reached, at, place_at};
 use std::alloc::{AllocError, Global};
 
 // The greatest price at which a person would pay for each unowned object as for its best one.

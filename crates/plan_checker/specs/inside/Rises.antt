@@ -1,13 +1,20 @@
 -- An optimum as it is read, and pairs compared with the own ones of their persons.
-use Rattle.std.specs.Prelude.{◌≡◌, ◌≢◌, ◌⊎◌, ◌-◌, ◌+◌, ℕ, ℤ, pos, ◌+ℤ◌, ◌≤ℤ◌, ◌<◌, List, Bool, length, slice_index_or, All}
+use Rattle.std.specs.Prelude.{◌≡◌, ◌≢◌, ◌⊎◌, ◌-◌, ◌+◌, ℕ, ℤ, pos, neg_ℤ, ◌+ℤ◌, ◌≤ℤ◌, ◌<ℤ◌, ◌<◌, List, Bool, length, slice_index_or, All}
+use Rattle.assign_core.specs.declared.numbers.TheConstants.{GREATEST_COST}
 use Rattle.assign_core.specs.Numbered.{IsMarked, IsNumber}
 use Rattle.assign_core.specs.Rows.{IsCost}
+use Rattle.cost_lists.specs.declared.numbers.TheConstants.{GREATEST_PRICE}
 use Rattle.cost_lists.specs.declared.source.Pairs.{Pairs}
 use Rattle.cost_lists.specs.Exact.{IsPriceInLimits}
 use Rattle.cost_lists.specs.Own.{minimised}
 use Rattle.cost_lists.specs.Source.{part_of}
 use Rattle.plan_checker.specs.declared.rises.Plan.{Plan}
 use Rattle.plan_checker.specs.Ranks.{IsRank, step_of}
+
+-- the sum of a cost and a price
+pub record IsSum (s : ℤ) : Type 0 where
+  pub least : neg_ℤ GREATEST_COST ≤ℤ s
+  pub greatest : s ≤ℤ (GREATEST_COST +ℤ GREATEST_PRICE)
 
 -- n persons' objects and costs, and prices and ranks of m objects
 pub record IsPlan (n m : ℕ) (p : Plan) : Type 0 where
@@ -34,11 +41,11 @@ rank_at p j = slice_index_or p.ranks.now (j - 1) (pos 0)
 abbrev pub sum_at : Plan → ℕ → ℤ
 sum_at p i = slice_index_or p.own.now (i - 1) (pos 0) +ℤ price_at p (object_at p i)
 
--- if object k, not the own one, is as good for person i at this cost, its rank is higher; where ranks
--- aren't strict it may be the same
+-- if the reduced cost of object k, not the own one, is below the bound for person i at this cost, its rank is
+-- higher; where ranks aren't strict it may be the same
 abbrev pub Rises : Plan → ℕ → ℕ → ℤ → Type 0
 Rises p i k cost =
-    (minimised p.sense cost +ℤ price_at p k) ≤ℤ sum_at p i → k ≢ object_at p i →
+    (minimised p.sense cost +ℤ price_at p k) <ℤ (sum_at p i +ℤ p.bound) → k ≢ object_at p i →
     (rank_at p (object_at p i) +ℤ step_of p.is_strict) ≤ℤ rank_at p k
 
 -- the objects of a row of costs, of person i
@@ -55,8 +62,9 @@ PairsRise p pairs =
     (q : ℕ) → q < length pairs.persons.now →
     Rises p (slice_index_or pairs.persons.now q 0) (slice_index_or pairs.objects.now q 0) (slice_index_or pairs.costs.now q (pos 0))
 
--- by its mark, price and rank: an object that isn't owned has rank 0, and one of price 0 a rank from 0
-pub record IsFreeAt (owned : List Bool) (prices ranks : List ℤ) (j : ℕ) : Type 0 where
+-- by its mark, price and rank: an object that isn't owned has rank 0, and one whose price is below the bound
+-- a rank from 0
+pub record IsFreeAt (bound : ℤ) (owned : List Bool) (prices ranks : List ℤ) (j : ℕ) : Type 0 where
   pub in_range : IsRank (slice_index_or ranks j (pos 0))
   pub unowned : IsMarked owned (j + 1) ⊎ (slice_index_or ranks j (pos 0) ≡ pos 0)
-  pub free : slice_index_or prices j (pos 0) ≡ pos 0 → pos 0 ≤ℤ slice_index_or ranks j (pos 0)
+  pub free : slice_index_or prices j (pos 0) <ℤ bound → pos 0 ≤ℤ slice_index_or ranks j (pos 0)

@@ -13,7 +13,7 @@ use Rattle.plan_checker.proofs.ranked.ranked_by.Goals as goal
 pub mark_numbers-requires : goal.mark_numbers-requires
 mark_numbers-requires c =
     let l = c.args.lists.now in
-    let xs = c.args.objects.now in
+    let xs = c.args.plan.objects.now in
     let long = ap length c.requires.owned ∙ length-replicate l.m _ in
     subst (λ k. All (IsNumber k) xs) (sym long) (All-from_recursion (IsNumber l.m) xs
     (objects_within l.m l.rows xs c.persons-persons.ensures.rule.within c.requires.optimum.assigned.listed))
@@ -24,7 +24,7 @@ returns-then-not-are_free c =
     let owned = c.mark_numbers.new.marks in
     let long = c.mark_numbers.auto.marks ∙ ap length c.requires.owned ∙ length-replicate l.m _ in
     let marks = just_added l.m c.args.owned.now owned _ c.requires.owned c.mark_numbers.ensures in
-    let same = free_same l.m c.args.objects.now owned c.args.prices.now c.args.ranks.now long c.requires.optimum.priced c.requires.ranks marks in (
+    let same = free_same c.args.plan.bound l.m c.args.plan.objects.now owned c.args.plan.prices.now c.args.plan.ranks.now long c.requires.optimum.priced c.requires.ranks marks in (
       (λ e. absurd (true≢false (sym e))),
       (λ r. absurd (true≢false (sym (c.are_free.ensures.1 (same.1 (record { in_range = r.in_range; unowned = r.unowned; free = r.free }))) ∙ c.if-not-are_free.true))),
     )
@@ -32,13 +32,13 @@ returns-then-not-are_free c =
 pub all_rise-requires-clause-plan : goal.all_rise-requires-clause-plan
 all_rise-requires-clause-plan c =
     let l = c.args.lists.now in
-    let xs = c.args.objects.now in
+    let xs = c.args.plan.objects.now in
     record {
       own_long = c.requires.own.long;
       objects_long = listed_long l.rows xs c.requires.optimum.assigned.listed;
       prices_long = c.requires.optimum.priced;
       ranks_long = c.requires.ranks;
-      own_in = own_range l.sense l.rows xs c.args.own.now c.requires.own c.requires.optimum.assigned.listed c.persons-persons.ensures.rule.costs;
+      own_in = own_range l.sense l.rows xs c.args.plan.own.now c.requires.own c.requires.optimum.assigned.listed c.persons-persons.ensures.rule.costs;
       objects_in = All-from_recursion (IsNumber l.m) xs (objects_within l.m l.rows xs c.persons-persons.ensures.rule.within c.requires.optimum.assigned.listed);
       prices_in = c.requires.optimum.in_range;
     }
@@ -49,7 +49,7 @@ returns c =
     let owned = c.mark_numbers.new.marks in
     let long = c.mark_numbers.auto.marks ∙ ap length c.requires.owned ∙ length-replicate l.m _ in
     let marks = just_added l.m c.args.owned.now owned _ c.requires.owned c.mark_numbers.ensures in
-    let same = free_same l.m c.args.objects.now owned c.args.prices.now c.args.ranks.now long c.requires.optimum.priced c.requires.ranks marks in
+    let same = free_same c.args.plan.bound l.m c.args.plan.objects.now owned c.args.plan.prices.now c.args.plan.ranks.now long c.requires.optimum.priced c.requires.ranks marks in
     let free = same.0 (c.are_free.ensures.0 c.if-not-are_free.false) in (
       (λ yes. record { long = c.requires.ranks; in_range = free.in_range; rise = c.all_rise.ensures.0 yes; unowned = free.unowned; free = free.free }),
       (λ r. c.all_rise.ensures.1 r.rise),

@@ -1,10 +1,38 @@
-use Rattle.std.proofs.Common.{ℕ, pos, ◌-◌, ◌<ℤ◌, ◌≤ℤ◌, get_or, refl, arith, rules, SFits, w32, w64}
+use Rattle.std.proofs.Common.{ℕ, pos, ◌-◌, get_or, refl, arith, rules, sym, ◌∙◌, SFits, w32, w64}
+use mathlib.Core.Bool.{true≢false}
 use Rattle.std.proofs.lemmas.Int.{ints, to_z-of_z}
+use Rattle.assign_core.specs.declared.sense.Sense.TheVariants.{Min}
+use Rattle.assign_core.specs.Rows.{IsCost}
+use Rattle.cost_lists.specs.Exact.{IsPriceInLimits}
+use Rattle.plan_checker.proofs.Reading.{sum_in}
 use Rattle.plan_checker.proofs.rises.pair_rises.Goals as goal
-use Rattle.plan_checker.proofs.rises.pair_rises.Goals.{then-own_sum-sum-via-then-own_sum-sum, then-own_sum-sum-via-else-own_sum-sum+then-object-own}
+use Rattle.plan_checker.proofs.rises.pair_rises.Goals.{then-not-is_below-via-then-not-is_below, then-not-is_below-via-else-not-is_below+then-object-own}
 
-pub returns-then-own_sum-sum : goal.returns-then-own_sum-sum
-returns-then-own_sum-sum c =
+pub is_below-requires-clause-sum : goal.is_below-requires-clause-sum
+is_below-requires-clause-sum c =
+    let p = c.args.plan in
+    let f = c.ranges.cost in
+    let b : SFits w64 (get_or p.prices.now (c.args.object - 1) (pos 0)) = search rules in
+    let s : SFits w64 c.sum_of-sum.result = search rules in
+    let price : IsPriceInLimits (get_or p.prices.now (c.args.object - 1) (pos 0)) = search rules in
+    let sum = simp to_z-of_z at c.sum_of-sum.ensures in
+    simp to_z-of_z (sum_in p.sense c.args.cost (get_or p.prices.now (c.args.object - 1) (pos 0)) c.sum_of-sum.result c.requires.cost price sum)
+
+pub is_below-requires-clause-own_sum : goal.is_below-requires-clause-own_sum
+is_below-requires-clause-own_sum c =
+    let p = c.args.plan in
+    let i = c.args.person in
+    let own : ℕ = get_or p.objects.now (i - 1) 0 in
+    let a : SFits w64 (get_or p.own.now (i - 1) (pos 0)) = search rules in
+    let d : SFits w64 (get_or p.prices.now (own - 1) (pos 0)) = search rules in
+    let s : SFits w64 c.sum_of-own_sum.result = search rules in
+    let cost : IsCost (get_or p.own.now (i - 1) (pos 0)) = search rules in
+    let price : IsPriceInLimits (get_or p.prices.now (own - 1) (pos 0)) = search rules in
+    let sum = simp to_z-of_z at c.sum_of-own_sum.ensures in
+    simp to_z-of_z (sum_in Min (get_or p.own.now (i - 1) (pos 0)) (get_or p.prices.now (own - 1) (pos 0)) c.sum_of-own_sum.result cost price sum)
+
+pub returns-then-not-is_below : goal.returns-then-not-is_below
+returns-then-not-is_below c =
     let p = c.args.plan in
     let i = c.args.person in
     let own : ℕ = get_or p.objects.now (i - 1) 0 in
@@ -14,14 +42,14 @@ returns-then-own_sum-sum c =
     let d : SFits w64 (get_or p.prices.now (own - 1) (pos 0)) = search rules in
     let s : SFits w64 c.sum_of-sum.result = search rules in
     let t : SFits w64 c.sum_of-own_sum.result = search rules in
+    let u : SFits w64 p.bound = search rules in
     let sum = simp to_z-of_z at c.sum_of-sum.ensures in
     let own_sum = simp to_z-of_z at c.sum_of-own_sum.ensures in
-    elim c.then-own_sum-sum.branch [
-      | then-own_sum-sum-via-then-own_sum-sum w ↦
-          let test = simp to_z-of_z at w.if-own_sum-sum.true in
-          let less : c.sum_of-own_sum.result <ℤ c.sum_of-sum.result = grind (arith, ints, test) in
-          ((λ _ low other. absurd (omega (arith, ints))), (λ _. refl))
-      | then-own_sum-sum-via-else-own_sum-sum+then-object-own w ↦ ((λ _ low other. absurd (other w.if-object-own.true)), (λ _. refl))
+    let below = simp to_z-of_z at c.is_below.ensures in
+    elim c.then-not-is_below.branch [
+      | then-not-is_below-via-then-not-is_below w ↦
+          ((λ _ low other. absurd (true≢false (sym (below.1 (omega (arith, ints))) ∙ w.if-not-is_below.true))), (λ _. refl))
+      | then-not-is_below-via-else-not-is_below+then-object-own w ↦ ((λ _ low other. absurd (other w.if-object-own.true)), (λ _. refl))
     ]
 
 pub returns : goal.returns
@@ -35,11 +63,12 @@ returns c =
     let d : SFits w64 (get_or p.prices.now (own - 1) (pos 0)) = search rules in
     let s : SFits w64 c.sum_of-sum.result = search rules in
     let t : SFits w64 c.sum_of-own_sum.result = search rules in
+    let u : SFits w64 p.bound = search rules in
     let q : SFits w32 (get_or p.ranks.now (own - 1) (pos 0)) = search rules in
     let r : SFits w32 (get_or p.ranks.now (c.args.object - 1) (pos 0)) = search rules in
     let sum = simp to_z-of_z at c.sum_of-sum.ensures in
     let own_sum = simp to_z-of_z at c.sum_of-own_sum.ensures in
-    let test = simp to_z-of_z at c.if-own_sum-sum.false in
-    let upto : c.sum_of-sum.result ≤ℤ c.sum_of-own_sum.result = grind (arith, ints, test) in
+    let below = simp to_z-of_z at c.is_below.ensures in
+    let low = below.0 c.if-not-is_below.false in
     let above = simp to_z-of_z at c.is_above.ensures in
-    ((λ yes low other. above.0 yes), (λ h. above.1 (h (omega (arith, ints)) c.if-object-own.false)))
+    ((λ yes least other. above.0 yes), (λ h. above.1 (h (omega (arith, ints)) c.if-object-own.false)))

@@ -1,0 +1,3 @@
+pub mod Bottlenecks
+pub mod Below
+pub mod WorstCosts

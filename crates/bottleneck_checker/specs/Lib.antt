@@ -1,0 +1,2 @@
+pub mod Bottleneck
+pub mod inside

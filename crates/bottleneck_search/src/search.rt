@@ -1,0 +1,356 @@
+// The search: a matching at the bound, one up to some threshold, and thresholds by halves.
+ghost use Rattle.std.specs.Prelude.{◌≡◌, length};
+
+use super::bounds::Bound;
+use super::found::{Found, made_of, places_of, set_of, write_objects};
+use super::lists::{Listed, count_listed, matched, up_to, worst_of};
+use super::rows::Rows;
+use super::steps::{ALL, Stage, Standing, Table};
+use super::thresholds::{costs_between, count_below, sample_above};
+use assign_core::Cost;
+use cost_lists::{CostLists, Object, Source};
+use list_solver::{Grouped, HallSet, Record};
+use search_base::Looks;
+use sparse_search::{Known, Matching, SparseProblem, hall_set};
+use std::alloc::{AllocError, Global};
+
+// A search: what it reads, where it stands, and a matching from which it goes on.
+#[derive(Drop)]
+struct Search<'a> {
+    alloc: Global,
+    table: Table<'a>,
+    n: usize,
+    bound: Bound,
+    standing: Standing,
+    kept: Vec<u32>,
+    is_fresh: bool,
+    looks: Looks,
+}
+
+// All pairs up to a threshold, and a plan of them.
+#[derive(Drop)]
+struct Held {
+    listed: Listed,
+    plan: Vec<u32>,
+}
+
+// The end of a step: pairs and a plan with which the search goes on, or its end.
+#[derive(Drop)]
+enum Step {
+    On(Held),
+    End(Found),
+}
+
+// Persons that a matching leaves short, and their objects.
+fn short_of(
+    alloc: Global,
+    problem: SparseProblem<'_>,
+    matching: Matching,
+    person: u32,
+) -> Result<HallSet, AllocError> {
+    let mut matching = matching;
+    matching.blocked_persons(problem, person)?;
+    let set = hall_set(alloc, problem, matching.persons())?;
+    Ok(set_of(set.persons, set.objects))
+}
+
+impl<'a> Search<'a> {
+    // The looks of a matching without which the search can't go on.
+    fn unlimited(&self) -> Looks {
+        Looks {
+            done: self.looks.done,
+            limit: u64::MAX,
+        }
+    }
+
+    // A greatest matching of these pairs from the one that is kept, within the budget. The first one of
+    // a call serves at least one person more, if it isn't the greatest.
+    fn match_on(
+        &mut self,
+        problem: SparseProblem<'_>,
+        plan: &[u32],
+    ) -> Result<(Matching, Known), AllocError> {
+        let from_plan = count_listed(problem, plan);
+        let first = if count_listed(problem, self.kept.as_slice()) > from_plan {
+            self.kept.as_slice()
+        } else {
+            plan
+        };
+        let mut looks = self.looks;
+        let ended = matched(self.alloc, problem, first, self.is_fresh, &mut looks)?;
+        self.looks = looks;
+        self.is_fresh = false;
+        Ok(ended)
+    }
+
+    fn stop(&mut self, stage: Stage, matching: Matching) -> Found {
+        self.standing.stage = stage;
+        self.kept = matching.objects;
+        Found::Stopped
+    }
+
+    // A plan at the bound, if there is one among the pairs that are tried.
+    fn try_bound(&mut self) -> Result<Option<Found>, AllocError> {
+        let listed = self.table.at_bound(self.alloc, self.n, self.bound.cost)?;
+        let (matching, known) = self.match_on(listed.problem(), &[])?;
+        match known {
+            Known::Full => {
+                let short = self
+                    .bound
+                    .shown_by(self.alloc, self.n, self.table.objects())?;
+                Ok(Some(made_of(matching.objects, short)))
+            }
+            Known::Blocked(_) => {
+                self.kept = matching.objects;
+                self.standing = Standing {
+                    stage: Stage::Low,
+                    low: self.bound.cost.saturating_sub(1),
+                    high: ALL,
+                };
+                Ok(None)
+            }
+            Known::Open => Ok(Some(self.stop(Stage::Bound, matching))),
+        }
+    }
+
+    // Tries pairs up to a threshold.
+    fn try_up_to(&mut self, most: Cost) -> Result<Option<Step>, AllocError> {
+        let listed = self.table.up_to(self.alloc, self.n, most)?;
+        let (matching, known) = self.match_on(listed.problem(), &[])?;
+        match known {
+            Known::Full => {
+                self.standing.stage = Stage::High;
+                self.standing.high = worst_of(listed.problem(), matching.objects.as_slice());
+                let plan = matching.objects;
+                Ok(Some(Step::On(Held { listed, plan })))
+            }
+            Known::Blocked(person) => {
+                if most == ALL {
+                    let set = short_of(self.alloc, listed.problem(), matching, person)?;
+                    return Ok(Some(Step::End(Found::Short(set))));
+                }
+                self.standing.low = self.standing.low.max(most);
+                self.kept = matching.objects;
+                Ok(None)
+            }
+            Known::Open => Ok(Some(Step::End(self.stop(Stage::Low, matching)))),
+        }
+    }
+
+    // Tries thresholds of a sample, each with some times as many pairs as the one before, and then all
+    // pairs.
+    fn begin(&mut self) -> Result<Step, AllocError> {
+        let sample = self.table.sample(self.alloc)?;
+        let whole = self.table.objects();
+        let mut share = sample
+            .len()
+            .saturating_mul(10)
+            .checked_div(whole)
+            .unwrap_or(0);
+        for _ in 0..sample.len() {
+            let Some(most) = sample_above(sample.as_slice(), share, self.standing.low) else {
+                break;
+            };
+            if let Some(step) = self.try_up_to(most)? {
+                return Ok(step);
+            }
+            share = share.saturating_mul(5).saturating_add(2) / 2;
+        }
+        match self.try_up_to(ALL)? {
+            Some(step) => Ok(step),
+            None => Ok(Step::End(Found::Lost)),
+        }
+    }
+
+    // The plan up to the threshold that a record names.
+    fn return_to_high(&mut self) -> Result<Option<Held>, AllocError> {
+        let listed = self.table.up_to(self.alloc, self.n, self.standing.high)?;
+        let mut looks = self.unlimited();
+        let kept = self.kept.as_slice();
+        let (matching, known) = matched(self.alloc, listed.problem(), kept, false, &mut looks)?;
+        match known {
+            Known::Full => {
+                self.standing.high = worst_of(listed.problem(), matching.objects.as_slice());
+                let plan = matching.objects;
+                Ok(Some(Held { listed, plan }))
+            }
+            _ => {
+                self.standing.stage = Stage::Low;
+                Ok(None)
+            }
+        }
+    }
+
+    // Looks for the least threshold up to which there is a plan, by halves.
+    fn halve(&mut self, held: Held) -> Result<Step, AllocError> {
+        let mut held = held;
+        let (low, high) = (self.standing.low, self.standing.high);
+        let found = costs_between(self.alloc, held.listed.pairs.as_slice(), low, high)?;
+        let costs = found.as_slice();
+        let (mut first, mut last) = (0usize, costs.len().saturating_sub(1));
+        for _ in 0..costs.len() {
+            if first >= last {
+                break;
+            }
+            let middle = first.wrapping_add(last.wrapping_sub(first) / 2);
+            let most = costs.get(middle).copied().unwrap_or(high);
+            let part = up_to(self.alloc, held.listed.problem(), most)?;
+            let (matching, known) = self.match_on(part.problem(), held.plan.as_slice())?;
+            match known {
+                Known::Full => {
+                    self.standing.high = worst_of(part.problem(), matching.objects.as_slice());
+                    last = count_below(costs, self.standing.high).min(middle);
+                    held = Held {
+                        listed: part,
+                        plan: matching.objects,
+                    };
+                }
+                Known::Blocked(_) => {
+                    self.standing.low = most;
+                    first = middle.wrapping_add(1);
+                    self.kept = matching.objects;
+                }
+                Known::Open => return Ok(Step::End(self.stop(Stage::High, matching))),
+            }
+        }
+        Ok(Step::On(held))
+    }
+
+    // Who shows that no plan has a better worst pair; or a plan that has one, which is only found where
+    // the record was wrong.
+    fn prove(&mut self, held: Held) -> Result<Step, AllocError> {
+        let Held { listed, plan } = held;
+        if self.standing.high <= self.bound.cost {
+            let short = self
+                .bound
+                .shown_by(self.alloc, self.n, self.table.objects())?;
+            return Ok(Step::End(made_of(plan, short)));
+        }
+        let better = up_to(
+            self.alloc,
+            listed.problem(),
+            self.standing.high.saturating_sub(1),
+        )?;
+        self.looks = self.unlimited();
+        let (matching, known) = self.match_on(better.problem(), plan.as_slice())?;
+        if let Known::Blocked(person) = known {
+            let short = short_of(self.alloc, better.problem(), matching, person)?;
+            return Ok(Step::End(made_of(plan, short)));
+        }
+        self.standing.low = Cost::MIN;
+        self.standing.high = worst_of(better.problem(), matching.objects.as_slice());
+        Ok(Step::On(Held {
+            listed: better,
+            plan: matching.objects,
+        }))
+    }
+
+    // From pairs and a plan to the end. If the record was wrong, the second turn is from nothing.
+    fn finish(&mut self, held: Held) -> Result<Found, AllocError> {
+        let mut held = held;
+        for _ in 0..3 {
+            match self.halve(held)? {
+                Step::End(found) => return Ok(found),
+                Step::On(halved) => match self.prove(halved)? {
+                    Step::End(found) => return Ok(found),
+                    Step::On(better) => held = better,
+                },
+            }
+        }
+        Ok(Found::Lost)
+    }
+
+    fn run(&mut self) -> Result<Found, AllocError> {
+        if self.standing.stage == Stage::High {
+            if let Some(held) = self.return_to_high()? {
+                return self.finish(held);
+            }
+        }
+        if self.standing.stage != Stage::Low {
+            if let Some(found) = self.try_bound()? {
+                return Ok(found);
+            }
+        }
+        match self.begin()? {
+            Step::End(found) => Ok(found),
+            Step::On(held) => self.finish(held),
+        }
+    }
+}
+
+// Searches from where the objects and the record stand.
+fn search_in(
+    alloc: Global,
+    table: Table<'_>,
+    objects: &mut [Object],
+    record: &mut Record,
+    budget: u64,
+) -> Result<Found, AllocError>
+    ensures { length objects.new ≡ length objects.old }
+{
+    let limit = if budget == 0 {
+        u64::MAX
+    } else {
+        record.looks.saturating_add(budget)
+    };
+    let n = objects.len();
+    let standing = Standing::of(*record);
+    let mut kept = Vec::from_slice(alloc, objects)?;
+    places_of(kept.as_mut_slice());
+    if standing.stage == Stage::Begin {
+        kept.clear();
+    }
+    let mut search = Search {
+        alloc,
+        table,
+        n,
+        bound: table.bound(alloc, n)?,
+        standing,
+        kept,
+        is_fresh: true,
+        looks: Looks {
+            done: record.looks,
+            limit,
+        },
+    };
+    let found = search.run()?;
+    if let Found::Stopped = found {
+        write_objects(objects, search.kept.as_slice());
+        *record = search.standing.record(search.looks.done);
+    }
+    Ok(found)
+}
+
+/// Searches for a plan whose worst pair is as good as possible, or for a Hall set, and stops after about
+/// `budget` looks at pairs (0: it doesn't). The objects and the record say where an earlier call stopped;
+/// objects are read only where the record's stage isn't 0, and written only at `Stopped`.
+///
+/// # Errors
+/// `AllocError` if memory is refused.
+pub fn find_bottleneck(
+    alloc: Global,
+    lists: &CostLists<'_>,
+    objects: &mut [Object],
+    record: &mut Record,
+    budget: u64,
+) -> Result<Found, AllocError>
+    ensures { length objects.new ≡ length objects.old }
+{
+    let (n, m) = (lists.persons(), lists.objects());
+    match lists.source() {
+        Source::Dense(costs) => {
+            let rows = Rows::new(lists.sense(), costs, m as usize);
+            search_in(alloc, Table::Rows(rows), objects, record, budget)
+        }
+        Source::Listed(pairs) => {
+            let grouped = Grouped::of(alloc, lists.sense(), n, m, pairs)?;
+            search_in(
+                alloc,
+                Table::Pairs(grouped.problem()),
+                objects,
+                record,
+                budget,
+            )
+        }
+    }
+}

@@ -1,0 +1,58 @@
+// Thresholds: costs of a sample, and the different costs of pairs.
+use super::rows::Rows;
+use assign_core::Cost;
+use sparse_search::Pair;
+use std::alloc::{AllocError, Global};
+
+// How many costs a sample has.
+const SAMPLE: usize = 4096;
+
+/// The costs of places that are drawn, sorted.
+pub fn sampled(alloc: Global, rows: Rows<'_>) -> Result<Vec<Cost>, AllocError> {
+    let mut costs = Vec::new(alloc);
+    let mut drawn: u64 = 12345;
+    for _ in 0..SAMPLE {
+        drawn = drawn
+            .wrapping_mul(6_364_136_223_846_793_005)
+            .wrapping_add(1_442_695_040_888_963_407);
+        let place = (drawn >> 20)
+            .checked_rem(rows.costs.len() as u64)
+            .unwrap_or(0);
+        costs.push(rows.cost(place as usize))?;
+    }
+    costs.sort_unstable();
+    Ok(costs)
+}
+
+/// The first cost of a sample, from a share of it on, that is above a cost.
+pub fn sample_above(sample: &[Cost], from: usize, low: Cost) -> Option<Cost> {
+    for cost in sample.iter().skip(from) {
+        if *cost > low {
+            return Some(*cost);
+        }
+    }
+    None
+}
+
+/// The different costs of pairs above one cost and up to another, rising.
+pub fn costs_between(
+    alloc: Global,
+    pairs: &[Pair],
+    low: Cost,
+    high: Cost,
+) -> Result<Vec<Cost>, AllocError> {
+    let mut costs = Vec::new(alloc);
+    for pair in pairs {
+        if low < pair.cost && pair.cost <= high {
+            costs.push(pair.cost)?;
+        }
+    }
+    costs.sort_unstable();
+    costs.dedup();
+    Ok(costs)
+}
+
+/// How many of rising costs are below one.
+pub fn count_below(costs: &[Cost], cost: Cost) -> usize {
+    costs.iter().filter(|other| **other < cost).count()
+}

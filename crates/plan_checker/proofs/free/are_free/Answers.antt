@@ -1,0 +1,18 @@
+use Rattle.std.proofs.Common.{pos, false, below_more, get_or, inl, inr, rules, ◌∙◌, SFits, w32, w64}
+use Rattle.std.proofs.lemmas.Int.{to_z-of_z}
+use Rattle.assign_core.proofs.NumberedLemmas.{numbered-next}
+use Rattle.plan_checker.specs.inside.Rises.{IsFreeAt}
+use Rattle.plan_checker.proofs.free.are_free.Goals as goal
+
+pub loop-j-preserved : goal.loop-j-preserved
+loop-j-preserved c =
+    let p = c.args.plan in
+    let j = c.loop-j.j in
+    let a : SFits w64 (get_or p.prices.now j (pos 0)) = search rules in
+    let b : SFits w32 (get_or p.ranks.now j (pos 0)) = search rules in
+    let d : SFits w64 p.bound = search rules in
+    let in_range = simp to_z-of_z at c.is_free.ensures.in_range in
+    let both = simp to_z-of_z at c.is_free.ensures.free in
+    let here = both.0 c.if-not-is_free.false in
+    let at : IsFreeAt p.bound c.args.owned.now p.prices.now p.ranks.now j = record { in_range = in_range; unowned = elim here.0 [ inl owned ↦ inl (numbered-next c.args.owned.now j false ∙ owned) | inr zero ↦ inr zero ]; free = here.1 } in
+    below_more _ _ c.loop-j.invariant at
