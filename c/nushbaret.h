@@ -107,7 +107,7 @@
 extern "C" {
 #endif
 
-#define NUSHBARET_VERSION "5.1.0"
+#define NUSHBARET_VERSION "5.2.0"
 
 /* The sense: the least sum of costs, or the greatest. */
 #define NUSHBARET_MIN 0u
@@ -149,7 +149,8 @@ enum nushbaret_code {
     NUSHBARET_STOPPED = 21,      /* the budget is spent: the same call goes on */
 
     NUSHBARET_UNDECIDED = 23,    /* the question stays open; over doubles where plans differ by less than rounding */
-    NUSHBARET_TIED = 24          /* from nushbaret_unique: another plan is as good */
+    NUSHBARET_TIED = 24,         /* from nushbaret_unique: another plan is as good */
+    NUSHBARET_ALONE = 25         /* from nushbaret_next: there is no other plan */
 };
 
 /* Where a search stands that a budget stopped. All 0: it begins. What the fields mean is the library's own affair, and may
@@ -266,6 +267,56 @@ int32_t nushbaret_unique(uint32_t sense, size_t n, size_t m,
     int32_t *ranks, size_t ranks_count,
     struct nushbaret_info *info);
 
+/* The next best assignment after a best one: of all others, one of the least cost (under NUSHBARET_MAX of the greatest).
+   The problem, its objects and their prices are given as for nushbaret_check. other has n values.
+
+   code                  written
+   NUSHBARET_BEST        other: a next best one; info->total: its cost; *margin: by how much it is worse, 0 if it is as good
+   NUSHBARET_ALONE       nothing: there is no other assignment
+   NUSHBARET_UNDECIDED   nothing: it is a best one, no more is shown
+   any other             as in nushbaret_check
+
+   The search looks at pairs at most so often, in addition to its passes over all, or it ends with NUSHBARET_UNDECIDED;
+   UINT64_MAX sets no end. The code is the same where it found no prices by which objects can be ordered: in some six of a
+   hundred drawn problems of up to 6 persons with few costs. */
+int32_t nushbaret_next(uint32_t sense, size_t n, size_t m,
+    const uint32_t *of_persons, size_t of_persons_count,
+    const uint32_t *of_objects, size_t of_objects_count,
+    const int64_t *costs, size_t costs_count,
+    const uint32_t *objects, size_t objects_count,
+    const int64_t *prices, size_t prices_count,
+    uint64_t looks,
+    uint32_t *other, size_t other_count,
+    int64_t *margin,
+    struct nushbaret_info *info);
+
+/* Looks for a plan whose worst pair is as good as possible: the greatest cost of its pairs is least, under NUSHBARET_MAX the
+   least one greatest. The problem is given as for nushbaret_check. objects, persons and few have n values each.
+
+   code                  written
+   NUSHBARET_BEST        objects; info->total: the cost of the worst pair; and persons who show that no plan has a better
+                         one: info->persons and info->objects say how many numbers stand at the beginning of persons and
+                         of few, rising. At better costs these persons list only these few objects, fewer than they are
+   NUSHBARET_HALL        the same two lists, of all costs: there is no plan
+   NUSHBARET_STOPPED     objects and record, as of a `_from` call: the same call goes on. It comes only with a budget
+   NUSHBARET_UNDECIDED   nothing: the search found nothing that the checker takes (never seen)
+   any other             as in nushbaret_check
+
+   Often one person shows it, who has no better pair, with no object; or all persons with all objects but one, which nobody
+   lists at a better cost. objects are read only where record->stage isn't 0. Whatever objects and record hold, an answer is
+   as good. A plan of the least sum among those whose worst pair is as good is one of the pairs up to info->total:
+   nushbaret_sparse finds it. */
+int32_t nushbaret_bottleneck(uint32_t sense, size_t n, size_t m,
+    const uint32_t *of_persons, size_t of_persons_count,
+    const uint32_t *of_objects, size_t of_objects_count,
+    const int64_t *costs, size_t costs_count,
+    uint32_t *objects, size_t objects_count,
+    uint32_t *persons, size_t persons_count,
+    uint32_t *few, size_t few_count,
+    uint64_t budget,
+    struct nushbaret_record *record,
+    struct nushbaret_info *info);
+
 /* BLOCKS. A problem of which no machine holds all pairs: blocks have its pairs, each at least once. A row may lie in several
    blocks. A plan has an object for each person and a price for each object; a person's number is the sum of the cost and the
    price of its own pair (under NUSHBARET_MAX the price less the cost). The plan is optimal for the whole problem if
@@ -279,6 +330,10 @@ int32_t nushbaret_unique(uint32_t sense, size_t n, size_t m,
    persons list only objects of a set which is smaller than they are: nushbaret_check_hall over a block returns
    NUSHBARET_HALL, NUSHBARET_HALL_EXTRA or NUSHBARET_HALL_COUNT only where the block's named persons list no object that
    isn't named (`closed_verdicts`, `blocks_forbid`).
+   Which other objects they list, nushbaret_block says of costs under NUSHBARET_MIN or NUSHBARET_MAX: with 10^12 + 1 as the
+   numbers of these persons and -10^12 as those of others, and with 2 * 10^12 + 1 as the prices of the set's objects and 0
+   as those of others, each better pair is one of these persons with an object outside of the set, and there is none only
+   where they list none there (`bounds_show_closed`).
 
    nushbaret_block looks at n persons of the problem, numbered from 1 in the block, and all m objects. The block's pairs are
    given as for nushbaret_check. objects and numbers have a value for each person: its own object and its number, any
@@ -293,8 +348,8 @@ int32_t nushbaret_unique(uint32_t sense, size_t n, size_t m,
 
    least[i] is the least sum of the person in the block, INT64_MAX if it has no pair there. own[i] is 1 if the block has the
    person's own pair at its number, else 0. At most `most` better pairs of a person are written, those of the least sums, by
-   persons, as far as the three lists reach, which have one length; it may be 0. The time is that of nushbaret_check, twice
-   where a pair is better. */
+   persons, as far as the three lists reach, which have one length; it may be 0. The time is that of nushbaret_check,
+   twice where a dozen pairs of a row are better, up to four times where most are. */
 int32_t nushbaret_block(uint32_t sense, size_t n, size_t m,
     const uint32_t *of_persons, size_t of_persons_count,
     const uint32_t *of_objects, size_t of_objects_count,
@@ -386,7 +441,11 @@ int32_t nushbaret_check_doubles(uint32_t sense, size_t n, size_t m,
    Of several faults the first of NUSHBARET_SENSE to NUSHBARET_COST is named, then prices, then numbers. least_objects[i] is an
    object whose sum of cost and price no other pair of the person is below, and least_costs[i] its cost; object 0 if all of its
    pairs are forbidden. These sums bound all plans as those of nushbaret_block do. own[i] is 1 if the person's own pair isn't
-   forbidden and its sum is the number, else 0. It takes no memory. */
+   forbidden and its sum is the number, else 0. It takes no memory.
+
+   A block may have some of the objects, with their prices. So listed pairs are packed into blocks: a few persons with the
+   objects that one of them lists, other pairs forbidden. Which pairs are better a caller finds by rounded sums: a wrong
+   choice costs a further look, and no proof. */
 int32_t nushbaret_block_doubles(uint32_t sense, size_t n, size_t m,
     const double *costs, size_t costs_count,
     const uint32_t *objects, size_t objects_count,
@@ -596,7 +655,8 @@ struct nushbaret_counts_record {
    row, column_numbers and column_marks one a column; marks are 1 and 0. Of several faults a call returns the first in the
    order of its codes, but NUSHBARET_COUNTS_MEMORY may come where there are faults from NUSHBARET_COUNTS_SIZE on. What a code
    doesn't name stays as it was. The search isn't trusted: its answer is checked, and NUSHBARET_COUNTS_UNDECIDED says that
-   the checker didn't take it. A call copies 13 bytes a pair, 21 where it writes the pairs out, and takes what the search needs. */
+   the checker didn't take it. A call copies up to 13 bytes a pair, 21 where it writes the pairs out, and takes what the
+   search needs. */
 int32_t nushbaret_counts(uint32_t sense,
     const uint32_t *of_rows, size_t of_rows_count,
     const uint32_t *of_columns, size_t of_columns_count,

@@ -163,7 +163,8 @@ int main(void) {
     test_verdicts();
     test_blocks();
     test_double_blocks();
-    test_unique();
+    test_plans();
+    test_bottleneck();
     test_drawn();
     test_memory();
     test_large();

@@ -56,12 +56,17 @@ int is_deep_right(void);
 int are_counts_right(void);
 int is_school_right(void);
 
+/* Whether a bottleneck is: of a drawn problem, and of one whose search is long. */
+int is_bottleneck_right(unsigned *seed);
+int is_bottleneck_long_right(void);
+
 void test_answers(void);
 void test_faults(void);
 void test_verdicts(void);
 void test_blocks(void);
 void test_double_blocks(void);
-void test_unique(void);
+void test_plans(void);
+void test_bottleneck(void);
 void test_drawn(void);
 void test_memory(void);
 void test_large(void);

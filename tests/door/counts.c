@@ -2,15 +2,15 @@
    what threads.c calls. */
 #include "calls.h"
 
-enum { ROWS = 3, COLUMNS = 2, LISTED = 6 };
+enum { ROWS = 3, COLUMNS = 2, MOST_COLUMNS = 3, LISTED = 6 };
 
 /* Three rows that take one column each, two columns of at most two rows; costs 1 2, 1 3, 1 4: the best plan costs 4. */
 struct counts {
-    uint32_t of_rows[LISTED], of_columns[LISTED], row_least[ROWS], row_most[ROWS], column_least[COLUMNS], column_most[COLUMNS];
-    uint32_t groups[COLUMNS];
-    size_t pairs, listed, groups_count;
-    int64_t costs[LISTED], row_numbers[ROWS], column_numbers[COLUMNS];
-    uint8_t plan[LISTED], row_marks[ROWS], column_marks[COLUMNS];
+    uint32_t of_rows[LISTED], of_columns[LISTED], row_least[ROWS], row_most[ROWS];
+    uint32_t column_least[MOST_COLUMNS], column_most[MOST_COLUMNS], groups[MOST_COLUMNS];
+    size_t columns, pairs, listed, groups_count;
+    int64_t costs[LISTED], row_numbers[ROWS], column_numbers[MOST_COLUMNS];
+    uint8_t plan[LISTED], row_marks[ROWS], column_marks[MOST_COLUMNS];
     uint32_t sense;
     struct nushbaret_counts_record record;
     struct nushbaret_counts_info info;
@@ -21,7 +21,7 @@ static struct counts worked(void) {
     struct counts c;
     size_t k;
     memset(&c, 0, sizeof c);
-    c.pairs = c.listed = LISTED;
+    c.columns = COLUMNS, c.pairs = c.listed = LISTED;
     memcpy(c.costs, costs, sizeof costs);
     for (k = 0; k < LISTED; k++) c.of_rows[k] = (uint32_t)(k / 2 + 1), c.of_columns[k] = (uint32_t)(k % 2 + 1);
     for (k = 0; k < ROWS; k++) c.row_least[k] = c.row_most[k] = 1;
@@ -30,33 +30,42 @@ static struct counts worked(void) {
     return c;
 }
 
+/* The same rows one to one with three columns, of which row 3 lists the third in place of the second: the best plan costs 7. */
+static struct counts ones(void) {
+    struct counts c = worked();
+    size_t k;
+    c.columns = MOST_COLUMNS, c.of_columns[5] = 3;
+    for (k = 0; k < MOST_COLUMNS; k++) c.column_most[k] = 1;
+    return c;
+}
+
 static int32_t from(struct counts *c, uint64_t budget) {
     int32_t code = nushbaret_counts_from(c->sense, c->of_rows, c->listed, c->of_columns, c->listed, c->costs, c->pairs,
-        c->row_least, ROWS, c->row_most, ROWS, c->column_least, COLUMNS, c->column_most, COLUMNS, c->groups, c->groups_count,
-        c->plan, c->pairs, c->row_numbers, ROWS, c->column_numbers, COLUMNS, c->row_marks, ROWS, c->column_marks, COLUMNS,
+        c->row_least, ROWS, c->row_most, ROWS, c->column_least, c->columns, c->column_most, c->columns, c->groups, c->groups_count,
+        c->plan, c->pairs, c->row_numbers, ROWS, c->column_numbers, c->columns, c->row_marks, ROWS, c->column_marks, c->columns,
         budget, &c->record, &c->info);
     return blocks == 0 ? code : -1;
 }
 
 static int32_t solved(struct counts *c) {
     int32_t code = nushbaret_counts(c->sense, c->of_rows, c->listed, c->of_columns, c->listed, c->costs, c->pairs,
-        c->row_least, ROWS, c->row_most, ROWS, c->column_least, COLUMNS, c->column_most, COLUMNS, c->groups, c->groups_count,
-        c->plan, c->pairs, c->row_numbers, ROWS, c->column_numbers, COLUMNS, c->row_marks, ROWS, c->column_marks, COLUMNS,
+        c->row_least, ROWS, c->row_most, ROWS, c->column_least, c->columns, c->column_most, c->columns, c->groups, c->groups_count,
+        c->plan, c->pairs, c->row_numbers, ROWS, c->column_numbers, c->columns, c->row_marks, ROWS, c->column_marks, c->columns,
         &c->info);
     return blocks == 0 ? code : -1;
 }
 
 static int32_t checked(struct counts *c) {
     int32_t code = nushbaret_check_counts(c->sense, c->of_rows, c->listed, c->of_columns, c->listed, c->costs, c->pairs,
-        c->row_least, ROWS, c->row_most, ROWS, c->column_least, COLUMNS, c->column_most, COLUMNS, c->groups, c->groups_count,
-        c->plan, c->pairs, c->row_numbers, ROWS, c->column_numbers, COLUMNS, &c->info);
+        c->row_least, ROWS, c->row_most, ROWS, c->column_least, c->columns, c->column_most, c->columns, c->groups, c->groups_count,
+        c->plan, c->pairs, c->row_numbers, ROWS, c->column_numbers, c->columns, &c->info);
     return blocks == 0 ? code : -1;
 }
 
 static int32_t short_of(struct counts *c, uint32_t side) {
     int32_t code = nushbaret_check_shortage(c->sense, c->of_rows, c->listed, c->of_columns, c->listed, c->costs, c->pairs,
-        c->row_least, ROWS, c->row_most, ROWS, c->column_least, COLUMNS, c->column_most, COLUMNS, c->groups, c->groups_count,
-        side, c->row_marks, ROWS, c->column_marks, COLUMNS, &c->info);
+        c->row_least, ROWS, c->row_most, ROWS, c->column_least, c->columns, c->column_most, c->columns, c->groups, c->groups_count,
+        side, c->row_marks, ROWS, c->column_marks, c->columns, &c->info);
     return blocks == 0 ? code : -1;
 }
 
@@ -89,6 +98,10 @@ static void answered(void) {
     c = worked(), c.sense = NUSHBARET_MAX;
     WANT(solved(&c) == NUSHBARET_COUNTS_BEST && c.info.total_low == 8 && checked(&c) == 0);
     c = worked(), c.column_most[1] = 0;
+    WANT(solved(&c) == NUSHBARET_COUNTS_ROWS_LACK && short_of(&c, NUSHBARET_COUNTS_ROWS_LACK) == NUSHBARET_COUNTS_ROWS_LACK);
+    c = ones();
+    WANT(solved(&c) == NUSHBARET_COUNTS_BEST && c.info.total_low == 7 && checked(&c) == 0);
+    c = ones(), c.of_columns[5] = 2;
     WANT(solved(&c) == NUSHBARET_COUNTS_ROWS_LACK && short_of(&c, NUSHBARET_COUNTS_ROWS_LACK) == NUSHBARET_COUNTS_ROWS_LACK);
 }
 
@@ -123,21 +136,22 @@ static void all_refused(void) {
     refused("check_shortage", short_of_rows, c);
     c = worked(), c.groups[0] = 1, c.groups[1] = 1, c.groups_count = COLUMNS;
     refused("counts with groups", solved, c);
+    refused("counts of ones", solved, ones());
 }
 
-static void in_pieces(void) {
-    struct counts c = worked();
+static void in_pieces(struct counts given, uint64_t cost) {
+    struct counts c = given;
     unsigned seed = 78;
     int calls = 1, k;
     while (from(&c, 1) == NUSHBARET_COUNTS_STOPPED && calls < 100000) calls++;
-    WANT(checked(&c) == NUSHBARET_COUNTS_BEST && c.info.total_low == 4);
+    WANT(checked(&c) == NUSHBARET_COUNTS_BEST && c.info.total_low == cost);
     for (k = 0; k < 500; k++) {
         size_t at;
-        c = worked();
+        c = given;
         for (at = 0; at < 8; at++) c.record.state[at] = drawn(&seed) % 3 ? drawn(&seed) % 5 : UINT64_MAX / (drawn(&seed) + 1);
         for (at = 0; at < LISTED; at++) c.plan[at] = (uint8_t)drawn(&seed);
-        for (at = 0; at < COLUMNS; at++) c.column_numbers[at] = drawn(&seed) % 2 ? INT64_MIN : (int64_t)drawn(&seed);
-        WANT(from(&c, 0) == NUSHBARET_COUNTS_BEST && c.info.total_low == 4);
+        for (at = 0; at < c.columns; at++) c.column_numbers[at] = drawn(&seed) % 2 ? INT64_MIN : (int64_t)drawn(&seed);
+        WANT(from(&c, 0) == NUSHBARET_COUNTS_BEST && c.info.total_low == cost);
     }
 }
 
@@ -173,5 +187,6 @@ void test_counts(void) {
     judged();
     answered();
     all_refused();
-    in_pieces();
+    in_pieces(worked(), 4);
+    in_pieces(ones(), 7);
 }

@@ -151,10 +151,13 @@ def drawn(dice):
     costs = [dice.choice([dice.randint(-3, 3), dice.randint(-10**12, 10**12)]) for _ in pairs]
     least = [dice.choice([0, 0, 1, 2]) for _ in range(n + m)]
     most = [low + dice.choice([0, 1, 2]) for low in least]
+    groups = dice.choice([[], [dice.randint(0, min(m, 2)) for _ in range(m)]])
+    if dice.random() < 0.2:
+        least, most, groups = [1] * n + [0] * m, [1] * (n + m), []
     return {"sense": dice.randint(0, 1), "rows": [] if dense else [i for i, _ in pairs],
             "columns": [] if dense else [j for _, j in pairs], "costs": costs,
             "row_least": least[:n], "row_most": most[:n], "column_least": least[n:], "column_most": most[n:],
-            "groups": dice.choice([[], [dice.randint(0, min(m, 2)) for _ in range(m)]])}
+            "groups": groups}
 
 
 def want(what, holds):

@@ -97,11 +97,12 @@ def count_codes():
 
 def plan_codes():
     """The codes of answers about a plan that no other call has."""
-    called = {"Other": "TIED", "Open": "UNDECIDED"}
-    for variant, number in re.findall(r"Answer::(\w+)(?:\(\w+\))? => (?:\{[^}]*?\n\s*)?(\d+)[,\n]",
-                                      (PLANS / "unique.rt").read_text()):
-        if variant in called:
-            yield called[variant], int(number)
+    called = {"Other": "TIED", "Open": "UNDECIDED", "Alone": "ALONE"}
+    named = r"(?:Answer|Next)::(\w+)(?:\([^)]*\))? => (?:\{[^}]*?\n\s*)?(\d+)[,\n]"
+    for file in ["unique.rt", "next_plan.rt"]:
+        for variant, number in re.findall(named, (PLANS / file).read_text()):
+            if variant in called:
+                yield called[variant], int(number)
 
 
 def double_codes():

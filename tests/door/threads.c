@@ -80,7 +80,8 @@ static void *on_the_rest(void *is_call_right) {
 
 /* Threads with just the stack that the header names; the compiler's own checks of addresses want more of it. */
 static void on_its_stack(void) {
-    int (*are_right[])(void) = {is_dense_right, is_sparse_right, are_doubles_right, is_deep_right, is_school_right};
+    int (*are_right[])(void) = {is_dense_right, is_sparse_right, are_doubles_right, is_deep_right, is_school_right,
+        is_bottleneck_long_right};
     pthread_attr_t attributes;
     size_t k;
 #ifdef __SANITIZE_ADDRESS__
@@ -102,7 +103,7 @@ static void on_its_stack(void) {
 static void *many(void *seed) {
     int trial;
     for (trial = 0; trial < 500; trial++)
-        if (!is_right((unsigned *)seed) || !are_counts_right()) return seed;
+        if (!is_right((unsigned *)seed) || !are_counts_right() || !is_bottleneck_right((unsigned *)seed)) return seed;
     return NULL;
 }
 

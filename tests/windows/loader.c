@@ -132,6 +132,7 @@ static void *exported(const char *wanted) {
 #define COSTS const int64_t *c, size_t cc
 #define ROOM uint32_t *o, size_t oc, uint32_t *p, size_t pc, int64_t *q, size_t qc
 #define INFO struct nushbaret_info *info
+#define PLAN const uint32_t *o, size_t oc, const int64_t *q, size_t qc
 #define PIECE const int64_t *f, size_t fc, ROOM, uint64_t budget, struct nushbaret_record *record, INFO
 #define CALL(type, name, taken, given) \
     static WINDOWS type(*dll_##name) taken; \
@@ -143,10 +144,17 @@ CALL(int32_t, sparse, (uint32_t s, size_t n, size_t m, PAIRS, COSTS, ROOM, INFO)
     (s, n, m, a, ac, b, bc, c, cc, o, oc, p, pc, q, qc, info))
 CALL(int32_t, sparse_from, (uint32_t s, size_t n, size_t m, PAIRS, COSTS, PIECE),
     (s, n, m, a, ac, b, bc, c, cc, f, fc, o, oc, p, pc, q, qc, budget, record, info))
-CALL(int32_t, check, (uint32_t s, size_t n, size_t m, PAIRS, COSTS, const uint32_t *o, size_t oc, const int64_t *q, size_t qc, INFO),
+CALL(int32_t, check, (uint32_t s, size_t n, size_t m, PAIRS, COSTS, PLAN, INFO),
     (s, n, m, a, ac, b, bc, c, cc, o, oc, q, qc, info))
 CALL(int32_t, check_hall, (size_t n, size_t m, PAIRS, COSTS, const uint32_t *p, size_t pc, const uint32_t *o, size_t oc, INFO),
     (n, m, a, ac, b, bc, c, cc, p, pc, o, oc, info))
+CALL(int32_t, bottleneck, (uint32_t s, size_t n, size_t m, PAIRS, COSTS, uint32_t *o, size_t oc, uint32_t *p, size_t pc,
+    uint32_t *q, size_t qc, uint64_t budget, struct nushbaret_record *record, INFO),
+    (s, n, m, a, ac, b, bc, c, cc, o, oc, p, pc, q, qc, budget, record, info))
+CALL(int32_t, unique, (uint32_t s, size_t n, size_t m, PAIRS, COSTS, PLAN, uint32_t *other, size_t count, int32_t *r, size_t rc, INFO),
+    (s, n, m, a, ac, b, bc, c, cc, o, oc, q, qc, other, count, r, rc, info))
+CALL(int32_t, next, (uint32_t s, size_t n, size_t m, PAIRS, COSTS, PLAN, uint64_t looks, uint32_t *other, size_t count,
+    int64_t *margin, INFO), (s, n, m, a, ac, b, bc, c, cc, o, oc, q, qc, looks, other, count, margin, info))
 CALL(int32_t, rows, (size_t n, const size_t *s, size_t sc, const uint32_t *v, size_t vc, COSTS, const int64_t *l, size_t lc,
     const int64_t *u, size_t uc, const uint8_t *p, size_t pc, const int64_t *t, size_t tc, struct nushbaret_rows_info *info),
     (n, s, sc, v, vc, c, cc, l, lc, u, uc, p, pc, t, tc, info))
@@ -161,5 +169,5 @@ __attribute__((constructor)) static void start(void) {
     relocate();
     protect();
     FOUND(dense), FOUND(dense_from), FOUND(sparse), FOUND(sparse_from);
-    FOUND(check), FOUND(check_hall), FOUND(rows), FOUND(version);
+    FOUND(check), FOUND(check_hall), FOUND(bottleneck), FOUND(unique), FOUND(next), FOUND(rows), FOUND(version);
 }

@@ -1,5 +1,5 @@
-/* Whether a plan is the only best one: what the call says is what a search of all plans finds, each fault leaves the lists
-   as they were, and so does each refused growth. */
+/* Whether a plan is the only best one, and which is the next: what the calls say is what a search of all plans finds, each
+   fault leaves the lists as they were, and so does each refused growth. */
 #include "calls.h"
 
 enum { ROWS = 6, COLUMNS = 7, ROOM = 60 };
@@ -12,13 +12,24 @@ struct asked {
     int64_t costs[ROOM], prices[COLUMNS + 1];
     uint32_t of_persons[ROOM], of_objects[ROOM], objects[ROWS + 1], other[ROWS + 1], persons[ROWS + 1];
     int32_t ranks[COLUMNS + 1];
+    int64_t margin;
     struct nushbaret_info info;
 };
 
-static int32_t ask(struct asked *a) {
+/* One of the two calls. */
+typedef int32_t question(struct asked *a);
+
+static int32_t ask_unique(struct asked *a) {
     const size_t pairs = a->is_sparse ? a->pairs : 0;
     int32_t code = nushbaret_unique(a->sense, a->n, a->m, a->of_persons, pairs, a->of_objects, pairs, a->costs, a->pairs,
         a->objects, a->n, a->prices, a->m, a->other, a->n, a->ranks, a->m, &a->info);
+    return blocks == 0 ? code : -1;
+}
+
+static int32_t ask_next(struct asked *a) {
+    const size_t pairs = a->is_sparse ? a->pairs : 0;
+    int32_t code = nushbaret_next(a->sense, a->n, a->m, a->of_persons, pairs, a->of_objects, pairs, a->costs, a->pairs,
+        a->objects, a->n, a->prices, a->m, UINT64_MAX, a->other, a->n, &a->margin, &a->info);
     return blocks == 0 ? code : -1;
 }
 
@@ -47,16 +58,20 @@ static int64_t cost_of(const struct asked *a, size_t i, size_t j) {
     return least;
 }
 
-/* All plans: the least sum, and how many have it. */
+/* All plans: how many there are, the two least sums, which may be one, and how many have the least. */
 struct all {
-    int64_t table[ROWS][COLUMNS], least;
-    size_t count;
+    int64_t table[ROWS][COLUMNS], least, next;
+    size_t count, plans;
 };
 
 static void look(const struct asked *a, struct all *all, size_t i, unsigned used, int64_t sum) {
     size_t j;
     if (i == a->n) {
-        if (all->count == 0 || sum < all->least) all->least = sum, all->count = 0;
+        if (all->plans++ == 0 || sum < all->least) {
+            all->next = all->least;
+            all->least = sum;
+            all->count = 0;
+        } else if (all->plans == 2 || sum < all->next) all->next = sum;
         if (sum == all->least) all->count++;
         return;
     }
@@ -74,18 +89,18 @@ static struct all look_at_all(const struct asked *a) {
     return all;
 }
 
-/* Whether these objects are a plan of the least sum. */
-static int is_best(const struct asked *a, const struct all *all, const uint32_t *objects) {
+/* The sum of a plan, INT64_MAX if these objects aren't one. */
+static int64_t sum_of(const struct asked *a, const struct all *all, const uint32_t *objects) {
     unsigned used = 0;
     int64_t sum = 0;
     size_t i;
     for (i = 0; i < a->n; i++) {
-        if (objects[i] < 1 || objects[i] > a->m || used >> objects[i] & 1) return 0;
-        if (all->table[i][objects[i] - 1] == INT64_MAX) return 0;
+        if (objects[i] < 1 || objects[i] > a->m || used >> objects[i] & 1) return INT64_MAX;
+        if (all->table[i][objects[i] - 1] == INT64_MAX) return INT64_MAX;
         used |= 1u << objects[i];
         sum += all->table[i][objects[i] - 1];
     }
-    return sum == all->least;
+    return sum;
 }
 
 /* Whether the ranks show what the header says. */
@@ -123,34 +138,76 @@ static struct asked draw(unsigned *seed) {
     return a;
 }
 
+/* How often each answer came. */
+struct counted {
+    size_t only, tied, next, alone, open;
+};
+
+/* Whether another plan was written, and what it costs. */
+static int64_t sum_of_other(const struct asked *a, const struct all *all) {
+    WANT(memcmp(a->other, a->objects, a->n * sizeof *a->other) != 0);
+    return sum_of(a, all, a->other);
+}
+
+static void judge_unique(const struct asked *a, const struct all *all, int32_t code, struct counted *counted) {
+    WANT(code == (all->count == 1 ? NUSHBARET_BEST : NUSHBARET_TIED));
+    if (code == NUSHBARET_BEST) {
+        WANT(are_ranks(a, all));
+        counted->only++;
+    } else {
+        WANT(sum_of_other(a, all) == all->least);
+        counted->tied++;
+    }
+}
+
+static void judge_next(const struct asked *a, const struct all *all, int32_t code, struct counted *counted) {
+    if (code == NUSHBARET_UNDECIDED) {
+        counted->open++;
+        return;
+    }
+    WANT(code == (all->plans == 1 ? NUSHBARET_ALONE : NUSHBARET_BEST));
+    if (code == NUSHBARET_ALONE) {
+        counted->alone++;
+        return;
+    }
+    WANT(sum_of_other(a, all) == all->next && a->margin == all->next - all->least);
+    WANT(a->info.total == (a->sense == NUSHBARET_MIN ? all->next : -all->next));
+    counted->next++;
+}
+
+/* What an answer writes stands in both; nothing else does. */
+static int is_all_else_the_same(const struct asked *a, const struct asked *before, int is_next, int32_t code) {
+    struct asked same = *before;
+    if (code == (is_next ? NUSHBARET_BEST : NUSHBARET_TIED)) memcpy(same.other, a->other, sizeof same.other);
+    if (code == NUSHBARET_BEST && !is_next) memcpy(same.ranks, a->ranks, sizeof same.ranks);
+    if (code == NUSHBARET_BEST && is_next) {
+        same.margin = a->margin;
+        same.info.total = a->info.total;
+    }
+    return memcmp(a, &same, sizeof same) == 0;
+}
+
 /* The answer on a drawn problem; then the verdict where a price or an object is another one. */
-static void compare(unsigned *seed, size_t *only, size_t *tied) {
+static void compare(unsigned *seed, question ask, struct counted *counted) {
     struct asked a = draw(seed), before;
     int32_t end = solve_plan(&a);
     const struct all all = look_at_all(&a);
     int32_t code;
-    WANT((end == NUSHBARET_BEST) == (all.count > 0));
+    WANT((end == NUSHBARET_BEST) == (all.plans > 0));
     if (end != NUSHBARET_BEST) return;
     before = a;
     code = ask(&a);
-    WANT(code == (all.count == 1 ? NUSHBARET_BEST : NUSHBARET_TIED));
-    if (code == NUSHBARET_BEST) {
-        WANT(are_ranks(&a, &all));
-        memcpy(before.ranks, a.ranks, sizeof a.ranks);
-        ++*only;
-    } else {
-        WANT(is_best(&a, &all, a.other) && memcmp(a.other, a.objects, a.n * sizeof *a.other) != 0);
-        memcpy(before.other, a.other, sizeof a.other);
-        ++*tied;
-    }
-    WANT(memcmp(&a, &before, sizeof a) == 0);
+    if (ask == ask_next) judge_next(&a, &all, code, counted);
+    else judge_unique(&a, &all, code, counted);
+    WANT(is_all_else_the_same(&a, &before, ask == ask_next, code));
     if (drawn(seed) % 2) a.prices[drawn(seed) % a.m] += (int64_t)(drawn(seed) % 5) - 2;
     else a.objects[drawn(seed) % a.n] = drawn(seed) % (a.m + 2);
     before = a;
     end = check_plan(&before);
     code = ask(&a);
     if (end != NUSHBARET_BEST) WANT(code == end && memcmp(&a, &before, sizeof a) == 0);
-    else WANT(code == (all.count == 1 ? NUSHBARET_BEST : NUSHBARET_TIED));
+    else if (ask == ask_next) judge_next(&a, &all, code, counted);
+    else judge_unique(&a, &all, code, counted);
 }
 
 /* Two persons and three objects: the plan 2, 1 is the only one of its sum; with another cost there are two. */
@@ -168,15 +225,17 @@ static struct asked worked(void) {
 
 static void shown(void) {
     struct asked a = worked();
-    WANT(ask(&a) == NUSHBARET_BEST);
+    WANT(ask_unique(&a) == NUSHBARET_BEST);
+    WANT(ask_next(&a) == NUSHBARET_BEST && a.margin == 4 && a.other[0] == 1 && a.other[1] == 2);
     a.costs[4] = -1;
     WANT(solve_plan(&a) == NUSHBARET_BEST && a.info.total == 3);
-    WANT(ask(&a) == NUSHBARET_TIED);
+    WANT(ask_unique(&a) == NUSHBARET_TIED);
     WANT(a.other[0] == (a.objects[0] == 1 ? 2 : 1) && a.other[1] == (a.objects[1] == 1 ? 2 : 1));
+    WANT(ask_next(&a) == NUSHBARET_BEST && a.margin == 0);
 }
 
 /* Each fault is the first, and writes its place alone. */
-static void faults(void) {
+static void faults(question ask) {
     static const int32_t codes[] = {NUSHBARET_SENSE, NUSHBARET_SIZE, NUSHBARET_SIZE, NUSHBARET_LENGTH, NUSHBARET_COST,
         NUSHBARET_PRICE_RANGE, NUSHBARET_UNLISTED};
     size_t k;
@@ -196,18 +255,24 @@ static void faults(void) {
         before.info = a.info;
         WANT(memcmp(&a, &before, sizeof a) == 0);
     }
-    {
-        struct asked a = worked();
-        WANT(nushbaret_unique(0, 2, 3, a.of_persons, 0, a.of_objects, 0, a.costs, 6, a.objects, 2, a.prices, 3, a.other, 1,
-            a.ranks, 3, &a.info) == NUSHBARET_LENGTH);
-        WANT(nushbaret_unique(0, 2, 3, a.of_persons, 0, a.of_objects, 0, a.costs, 6, a.objects, 2, a.prices, 3, a.other, 2,
-            a.ranks, 2, &a.info) == NUSHBARET_LENGTH);
-        WANT(nushbaret_unique(0, 2, 3, a.of_persons, 0, a.of_objects, 0, a.costs, 6, a.objects, 1, a.prices, 3, a.other, 2,
-            a.ranks, 3, &a.info) == NUSHBARET_ANSWER_LENGTH);
-    }
 }
 
-static void refused(int is_sparse, int is_tied) {
+/* Lists of wrong lengths. */
+static void lengths(void) {
+    struct asked a = worked();
+    WANT(nushbaret_unique(0, 2, 3, a.of_persons, 0, a.of_objects, 0, a.costs, 6, a.objects, 2, a.prices, 3, a.other, 1,
+        a.ranks, 3, &a.info) == NUSHBARET_LENGTH);
+    WANT(nushbaret_unique(0, 2, 3, a.of_persons, 0, a.of_objects, 0, a.costs, 6, a.objects, 2, a.prices, 3, a.other, 2,
+        a.ranks, 2, &a.info) == NUSHBARET_LENGTH);
+    WANT(nushbaret_unique(0, 2, 3, a.of_persons, 0, a.of_objects, 0, a.costs, 6, a.objects, 1, a.prices, 3, a.other, 2,
+        a.ranks, 3, &a.info) == NUSHBARET_ANSWER_LENGTH);
+    WANT(nushbaret_next(0, 2, 3, a.of_persons, 0, a.of_objects, 0, a.costs, 6, a.objects, 2, a.prices, 3, 9, a.other, 1,
+        &a.margin, &a.info) == NUSHBARET_LENGTH);
+    WANT(nushbaret_next(0, 2, 3, a.of_persons, 0, a.of_objects, 0, a.costs, 6, a.objects, 2, a.prices, 3, 0, a.other, 2,
+        &a.margin, &a.info) == NUSHBARET_UNDECIDED);
+}
+
+static void refused(question ask, int is_sparse, int is_tied) {
     struct asked a = worked();
     long k;
     a.is_sparse = is_sparse;
@@ -219,40 +284,51 @@ static void refused(int is_sparse, int is_tied) {
         growths = 0, refuse_at = k;
         code = ask(&now);
         refuse_at = 0;
-        WANT(code == (is_tied ? NUSHBARET_TIED : NUSHBARET_BEST)
+        WANT(code == (is_tied && ask == ask_unique ? NUSHBARET_TIED : NUSHBARET_BEST)
             || (code == NUSHBARET_MEMORY && memcmp(&now, &a, sizeof a) == 0));
         if (growths < k) break;
     }
     WANT(k > 5);
 }
 
-/* A ring in which each person could take the next one's object as well: its path has all persons. */
-static void ring(size_t n, int is_closed) {
+/* A ring in which each person could take the next one's object as well, or at 1 more each: its path has all persons. */
+static void ring(size_t n, int is_closed, int64_t more) {
     static uint32_t of_persons[200000], of_objects[200000], objects[100000], other[100000];
     static int64_t costs[200000], prices[100000];
     static int32_t ranks[100000];
     struct nushbaret_info info;
     const size_t pairs = 2 * n - (is_closed ? 0 : 1);
+    int64_t margin = -1;
     size_t i;
     for (i = 0; i < n; i++) {
         of_persons[2 * i] = of_objects[2 * i] = objects[i] = (uint32_t)i + 1;
         of_persons[2 * i + 1] = (uint32_t)i + 1, of_objects[2 * i + 1] = (uint32_t)((i + 1) % n) + 1;
+        costs[2 * i + 1] = more;
     }
     memset(&info, 0, sizeof info);
     WANT(nushbaret_unique(NUSHBARET_MIN, n, n, of_persons, pairs, of_objects, pairs, costs, pairs, objects, n, prices, n,
-        other, n, ranks, n, &info) == (is_closed ? NUSHBARET_TIED : NUSHBARET_BEST));
-    for (i = 0; i < n; i++) WANT(is_closed ? other[i] == (i + 1) % n + 1 : i == 0 || ranks[i] > ranks[i - 1]);
+        other, n, ranks, n, &info) == (is_closed && more == 0 ? NUSHBARET_TIED : NUSHBARET_BEST));
+    for (i = 0; i < n && more == 0; i++) WANT(is_closed ? other[i] == (i + 1) % n + 1 : i == 0 || ranks[i] > ranks[i - 1]);
+    if (is_closed && more > 0) return;
+    WANT(nushbaret_next(NUSHBARET_MIN, n, n, of_persons, pairs, of_objects, pairs, costs, pairs, objects, n, prices, n,
+        UINT64_MAX, other, n, &margin, &info) == (is_closed ? NUSHBARET_BEST : NUSHBARET_ALONE));
+    WANT(margin == (is_closed ? (int64_t)n * more : -1));
 }
 
-void test_unique(void) {
+void test_plans(void) {
     unsigned seed = 5;
-    size_t only = 0, tied = 0;
+    struct counted counted;
     int k;
+    memset(&counted, 0, sizeof counted);
     shown();
-    faults();
-    for (k = 0; k < 4; k++) refused(k / 2, k % 2);
-    ring(100000, 0);
-    ring(100000, 1);
-    for (k = 0; k < 6000; k++) compare(&seed, &only, &tied);
-    WANT(only > 1000 && tied > 1000);
+    faults(ask_unique);
+    faults(ask_next);
+    lengths();
+    for (k = 0; k < 4; k++) refused(ask_unique, k / 2, k % 2), refused(ask_next, k / 2, k % 2);
+    ring(100000, 0, 0);
+    ring(100000, 1, 0);
+    ring(100000, 0, 1);
+    for (k = 0; k < 6000; k++) compare(&seed, ask_unique, &counted), compare(&seed, ask_next, &counted);
+    WANT(counted.only > 1000 && counted.tied > 1000);
+    WANT(counted.next > 1000 && counted.alone > 100 && counted.open < 1000);
 }
