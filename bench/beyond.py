@@ -8,6 +8,7 @@
     changes    500 changed prices, plans or costs, each of which `check` refuses
     pairs      a file of listed pairs of 240 MB in a process that may have 100 MB more than it begins with
     kills      five workers killed in five passes: the same bytes
+    calls      the time of nushbaret_block next to that of nushbaret_check over the same block
     readers    arrays of zarr, and frames of Parquet, where their readers are there
 
 It needs NumPy, for `kills` distributed with its commands, and ends with status 1 where a promise isn't kept."""
@@ -29,6 +30,8 @@ from beyond import test_cluster, test_pairs  # noqa: E402
 from beyond.costs import Points, Products, best, kinds  # noqa: E402
 import nushbaret  # noqa: E402
 from nushbaret import beyond  # noqa: E402
+from nushbaret.beyond import blocks  # noqa: E402
+from nushbaret.lap import library  # noqa: E402
 
 MOST_MEMORY = 400
 # Peaks grow with memory that a fork shares, so each large run is a new process.
@@ -206,6 +209,32 @@ def kills(kept):
     kept.say(f"kills: {'not run' if ended.skipped else 'five workers killed'}", ended.wasSuccessful())
 
 
+def calls(kept):
+    """The least ratio of several in one process: rows without a better pair, and with a dozen of them each."""
+    random, (n, m) = numpy.random.default_rng(85), (32, 8000)
+    costs, prices, own = random.integers(0, 10**6, (n, m)), random.integers(0, 10**5, m), random.permutation(m)[:n]
+    costs[numpy.arange(n), own] = (costs + prices).min(1) - 1 - prices[own]
+    sums, objects = numpy.sort(costs + prices, 1), (own + 1).astype(numpy.uint32)
+    none = numpy.empty(0, numpy.uint32)
+
+    def check():
+        assert library.call("check", False, n, m, none, none, costs.ravel(), objects, prices)[0] == "OVERPRICED"
+    for name, place in (("none is better", 0), ("12 of each row", 12)):
+        asked = blocks.Asked(sums[:, place].copy(), None, own, prices, 24)
+        ratio = min(seconds(lambda: blocks.look(costs, asked)) / seconds(check) for _ in range(5))
+        kept.say(f"calls: {name}: {ratio:.2f} of nushbaret_check's time", ratio <= 2)
+
+
+def seconds(call):
+    """The least processor time of 20 calls."""
+    taken = []
+    for _ in range(20):
+        before = time.process_time()
+        call()
+        taken.append(time.process_time() - before)
+    return min(taken)
+
+
 def readers(kept):
     costs = Points(300, 300)
     wanted = beyond.solve(costs, costs.shape)
@@ -230,7 +259,7 @@ def readers(kept):
             print("Parquet: no reader is there")
 
 
-PARTS = {part.__name__: part for part in (large, looks, drawn, changes, pairs, kills, readers)}
+PARTS = {part.__name__: part for part in (large, looks, drawn, changes, pairs, kills, calls, readers)}
 
 
 def main():

@@ -6,7 +6,7 @@ all three. It needs NumPy and SciPy, and c++ with LEMON (in Debian python3-scipy
 
 `times` prints, for each kind, seconds of processor time of a whole call of the library, of LEMON's network simplex and
 of its cost scaling, whose building of the graph is left out, and the library's share of the better one; the least of
-several counts, and they take turns. Last come a million rows, with the memory that it takes, one-to-one problems
+several counts, and they take turns. First come a million rows, with the memory that it takes, last one-to-one problems
 next to nushbaret_dense, and calls that begin from the last answer after a change.
 `drawn` compares 5000 problems with every feature: LEMON finds the same cost, or that there is no plan, and for one in
 ten HiGHS does. `tiny` compares 2000 with a search of all plans. Both end with status 1 where something differs.
@@ -377,15 +377,17 @@ def main():
     words = sys.argv[1:] or ["times", "drawn", "tiny"]
     LIBRARY.nushbaret_counts_from.restype = c_int32
     peer = lemon_library()
+    if "times" in words:
+        # First: its memory shows as far as nothing before took more.
+        time_million()
+        time_kinds(peer)
+        time_ones()
+        time_warm()
     if "tiny" in words:
         compare_tiny()
     if "drawn" in words:
         compare_drawn(peer)
-    if "times" in words:
-        time_kinds(peer)
-        time_million()
-        time_ones()
-        time_warm()
 
 
-main()
+if __name__ == "__main__":
+    main()

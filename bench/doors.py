@@ -28,6 +28,7 @@ def least(calls, turns=9, target=0.004):
     """The least time of one run of each call, in turns."""
     counts = {}
     for name, call in calls.items():
+        call()
         begin = time.thread_time()
         call()
         call()
@@ -55,16 +56,23 @@ def forms(costs):
     return found
 
 
+def all_of(call, matrices):
+    """A call for each of some matrices."""
+    return lambda: [call(costs) for costs in matrices]
+
+
 def kinds():
-    """linear_sum_assignment of each form: its time by SciPy's on the plain array of doubles."""
+    """linear_sum_assignment of each form: its time by SciPy's on the plain array of doubles. Up to 20 rows, where times
+    differ by the matrix, it is the time of 20 drawn ones."""
     print("form", *SIZES, sep="\t")
     table = {}
     for n in SIZES:
-        costs = RNG.random((n, n))
-        for name, form in forms(costs).items():
-            plain = np.asarray(form, float).copy()
-            reference = (lambda: scipys(form.astype(float))) if name == "object" else (lambda: scipys(plain))
-            found = least({"own": lambda: nushbaret.linear_sum_assignment(form), "scipy": reference})
+        drawn = [forms(RNG.random((n, n))) for _ in range(20 if n <= 20 else 1)]
+        for name in drawn[0]:
+            own = [one[name] for one in drawn]
+            plain = own if name == "object" else [np.asarray(form, float).copy() for form in own]
+            scipy = (lambda costs: scipys(costs.astype(float))) if name == "object" else scipys
+            found = least({"own": all_of(nushbaret.linear_sum_assignment, own), "scipy": all_of(scipy, plain)})
             table.setdefault(name, []).append(found["own"] / found["scipy"])
     for name, ratios in table.items():
         print(name, *(f"{ratio:.2f}" for ratio in ratios), sep="\t")

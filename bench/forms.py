@@ -8,6 +8,7 @@ import random
 import resource
 import sys
 import warnings
+from functools import partial
 
 import numpy as np
 
@@ -31,14 +32,17 @@ def held():
 
 def calls():
     costs = np.random.default_rng(1).random((3, 4))
-    forms = costs, costs.tolist(), costs.astype(np.float32), np.ma.array(costs)
-    for form in forms:
+    forms = [costs, costs.tolist(), costs.astype(np.float32), np.ma.array(costs)]
+    listed = 3, 4, *np.nonzero(costs), costs.ravel()
+    doors = [*(partial(nushbaret.linear_sum_assignment, form) for form in forms),
+             partial(nushbaret.solve_sparse, *listed), partial(nushbaret.solve, forms[2])]
+    for door in doors:
         for _ in range(20000):
-            nushbaret.linear_sum_assignment(form)
+            door()
     before = held()
-    for _ in range(CALLS // len(forms)):
-        for form in forms:
-            nushbaret.linear_sum_assignment(form)
+    for _ in range(CALLS // len(doors)):
+        for door in doors:
+            door()
     more = held() - before
     print(f"{CALLS} small calls: {more} kB more")
     return more < 1024

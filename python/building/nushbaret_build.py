@@ -263,7 +263,8 @@ def build_sdist(sdist_directory, config_settings=None):
     files.update({file.name: file for file in _licenses()})
     files.update({f"nushbaret/{file.relative_to(PACKAGE).as_posix()}": file for file in _sources()})
     files[f"nushbaret/{_library().name}"] = _library()
-    with tarfile.open(pathlib.Path(sdist_directory) / f"{front}.tar.gz", "w:gz", format=tarfile.PAX_FORMAT) as archive:
+    with tarfile.open(pathlib.Path(sdist_directory) / f"{front}.tar.gz", "w:gz", format=tarfile.PAX_FORMAT,
+                      dereference=True) as archive:
         for name, file in files.items():
             archive.add(file, f"{front}/{name}", recursive=False)
         entry = tarfile.TarInfo(f"{front}/PKG-INFO")

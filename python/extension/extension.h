@@ -46,6 +46,8 @@ typedef int32_t dense_from_call(uint32_t, size_t, size_t, const int64_t *, size_
     size_t, int64_t *, size_t, uint64_t, struct record *, struct info *);
 typedef int32_t sparse_from_call(uint32_t, size_t, size_t, const uint32_t *, size_t, const uint32_t *, size_t, const int64_t *, size_t,
     const int64_t *, size_t, uint32_t *, size_t, uint32_t *, size_t, int64_t *, size_t, uint64_t, struct record *, struct info *);
+typedef int32_t check_call(uint32_t, size_t, size_t, const uint32_t *, size_t, const uint32_t *, size_t, const int64_t *, size_t,
+    const uint32_t *, size_t, const int64_t *, size_t, struct info *);
 typedef int32_t check_doubles_call(uint32_t, size_t, size_t, const double *, size_t, const uint32_t *, size_t, const double *, size_t,
     struct doubles_info *);
 
@@ -59,6 +61,7 @@ typedef struct {
     dense_from_call *dense_from;
     sparse_from_call *sparse_from;
     check_doubles_call *check_doubles;
+    check_call *check;
     PyTypeObject *array, *float64;
     new_array *make;
     PyObject *manager, *blocks, *values, *places, *as_array; /* names of what a frame of pandas has */
@@ -74,6 +77,17 @@ typedef struct {
     double end;                      /* when the call has to end, by the clock; infinite where it hasn't */
     int kind, swapped, turned, as_printed, gives_arrays;
 } Matrix;
+
+/* Pairs, person by person, from starts[i] to starts[i + 1], numbers from 1 on; and the search's answer. `costs` are doubles, and `whole` what
+   the library gets. */
+struct pairs {
+    size_t n, m, count;
+    uint32_t *persons, *objects, *found, *spare, *owners;
+    double *costs;
+    int64_t *whole, *prices;
+    size_t *starts;
+    void *taken;
+};
 
 /* Memory of a call. `costs` is last, and is there only if they are copied. */
 typedef struct {
@@ -142,6 +156,9 @@ int take(Room *room, const Matrix *matrix, int copies, double *spare);
 int32_t search(const State *state, const Matrix *matrix, int maximize, const double *costs, const Room *room, uint32_t *by_margin);
 int32_t solve(const State *state, const Matrix *matrix, int maximize, const double *costs, const Room *room, uint32_t *by_margin);
 int32_t solve_whole(const State *state, const Matrix *matrix, int maximize, const int64_t *costs, const Room *room, struct info *info);
+
+/* paths.c */
+int first_plan(const struct pairs *pairs, int maximize);
 
 /* rounded.c */
 int in_fixed_point(const double *costs, size_t count, int *shift, int64_t *to);

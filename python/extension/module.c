@@ -149,14 +149,16 @@ static PyObject *linear_sum_assignment(PyObject *module, PyObject *const *argume
 
 /* ---- What the package gives ---- */
 
-/* attach(addresses): those of nushbaret_doubles, nushbaret_check_doubles, nushbaret_dense_from and nushbaret_sparse_from. */
+/* attach(addresses): those of nushbaret_doubles, nushbaret_check_doubles, nushbaret_dense_from, nushbaret_sparse_from and
+   nushbaret_check. */
 static PyObject *attach(PyObject *module, PyObject *arguments) {
     State *state = PyModule_GetState(module);
-    unsigned long long doubles, check, dense, sparse;
-    if (!PyArg_ParseTuple(arguments, "KKKK", &doubles, &check, &dense, &sparse)) return NULL;
+    unsigned long long doubles, check_doubles, dense, sparse, check;
+    if (!PyArg_ParseTuple(arguments, "KKKKK", &doubles, &check_doubles, &dense, &sparse, &check)) return NULL;
+    state->check = (check_call *)(uintptr_t)check;
     state->sparse_from = (sparse_from_call *)(uintptr_t)sparse;
     state->dense_from = (dense_from_call *)(uintptr_t)dense;
-    state->check_doubles = (check_doubles_call *)(uintptr_t)check;
+    state->check_doubles = (check_doubles_call *)(uintptr_t)check_doubles;
     state->doubles = (doubles_call *)(uintptr_t)doubles;
     Py_RETURN_NONE;
 }

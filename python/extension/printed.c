@@ -8,7 +8,7 @@
 #include <string.h>
 #include "extension.h"
 #ifdef __SSE2__
-#include <emmintrin.h>
+#include <immintrin.h>
 #endif
 
 enum { MOST_PLACES_PRINTED = 12, DIGITS = 9 };
@@ -78,6 +78,8 @@ static inline both is_less(two first, two second) {
 
 /* So many places are enough for each float of an exponent, by its bits from LEAST_BITS on: their unit is less than the distance of floats. */
 enum { LEAST_BITS = 113 };
+/* The bits of 1.25, a usual float. */
+#define OTHER 0x3fa00000
 static const double ENOUGH[] = {
     1e12, 1e11, 1e11, 1e11, 1e10, 1e10, 1e10, 1e10, 1e9, 1e9, 1e9, 1e8, 1e8, 1e8, 1e7, 1e7, 1e7, 1e7, 1e6, 1e6, 1e6, 1e5, 1e5, 1e5,
     1e4, 1e4, 1e4, 1e4, 1e3, 1e3, 1e3, 1e2, 1e2, 1e2, 1e1, 1e1, 1e1, 1e1
@@ -92,49 +94,130 @@ struct block {
     } values, halves, powers;
 };
 
-/* The power with one place less where what is nearest there is read as its float, else the same; `fit` says for which. */
-static inline two with_fewer(two value, two half, two power, both *fit) {
-    const both size = {INT64_MAX, INT64_MAX};
-    const two tenth = {0.1, 0.1}, below = {0.5, 0.5}, to_whole = {TO_WHOLE, TO_WHOLE};
-    /* Rounded, a tenth of a power of ten is the next one exactly, and 0 below 1. */
-    const two less = power * tenth + to_whole - to_whole, scaled = value * less, off = scaled - (scaled + to_whole - to_whole);
-    *fit = is_less((two)((both)off & size), half * less) & is_less(below, less);
-    return power - (two)((both)(power - less) & *fit);
-}
-
-/* Tries a place less for each that may have one; whether any has. */
-static int try_fewer(struct block *block, int pairs) {
-    both any = {0, 0};
-    for (int k = 0; k < pairs; k++) {
-        both fit;
-        block->powers.pairs[k] = with_fewer(block->values.pairs[k], block->halves.pairs[k], block->powers.pairs[k], &fit);
-        any |= fit;
-    }
-    return (any[0] | any[1]) != 0;
-}
-
-/* The decimal of the fewest places for each of a block. What fits does so with more places too. */
-static void find_decimals(struct block *block, int pairs) {
-    const two to_whole = {TO_WHOLE, TO_WHOLE};
-    while (try_fewer(block, pairs));
-    for (int k = 0; k < pairs; k++) {
-        const two power = block->powers.pairs[k];
-        block->values.pairs[k] = (block->values.pairs[k] * power + to_whole - to_whole) / power;
-    }
-}
-
 /* Writes a float into a block where it is of a usual size and no power of two, above which floats are less near to each other than below
    it; else a usual one. Whether it is usual. */
-static int put(struct block *block, int place, float value) {
+static inline int put(struct block *block, int place, float value) {
     uint32_t bits;
     memcpy(&bits, &value, sizeof bits);
+    const int is_usual = (bits >> 23 & 255) - LEAST_BITS < sizeof ENOUGH / sizeof *ENOUGH && (bits & 0x7fffff);
+    bits = is_usual ? bits : OTHER;
     const uint32_t exponent = (bits >> 23 & 255) - LEAST_BITS;
-    if (exponent >= sizeof ENOUGH / sizeof *ENOUGH || !(bits & 0x7fffff)) return put(block, place, 1.25f) && 0;
     const uint64_t half = ((uint64_t)(exponent + LEAST_BITS - 151 + 1023) << 52) | !(bits & 1);
+    memcpy(&value, &bits, sizeof value);
     block->values.each[place] = value;
     block->powers.each[place] = ENOUGH[exponent];
     memcpy(block->halves.each + place, &half, sizeof half);
-    return 1;
+    return is_usual;
+}
+
+/* Lets each of the first floats of a block have a place less where what is nearest there is read as it; a bit for each that has. Rounded, a
+   tenth of a power of ten is the next one exactly, and 0 below 1. */
+static uint64_t try_fewer(struct block *block, int width) {
+    const both size = {INT64_MAX, INT64_MAX};
+    const two tenth = {0.1, 0.1}, below = {0.5, 0.5}, to_whole = {TO_WHOLE, TO_WHOLE};
+    uint64_t found = 0;
+    for (int k = 0; 2 * k < width; k++) {
+        const two power = block->powers.pairs[k], less = power * tenth + to_whole - to_whole, scaled = block->values.pairs[k] * less;
+        const two off = scaled - (scaled + to_whole - to_whole);
+        const both fit = is_less((two)((both)off & size), block->halves.pairs[k] * less) & is_less(below, less);
+        block->powers.pairs[k] = power - (two)((both)(power - less) & fit);
+        found |= (uint64_t)((fit[0] & 1) | (fit[1] & 2)) << 2 * k;
+    }
+    return found;
+}
+
+/* Writes floats into a block, each with a place less where it may have one, with a bit then; whether all are usual. */
+static int begin(struct block *block, const float *values, int width, uint64_t *found) {
+    int usual = 1;
+    for (int k = 0; k < width; k++) usual &= put(block, k, values[k]);
+    *found = try_fewer(block, width);
+    return usual;
+}
+
+#ifdef __SSE2__
+/* ---- The same, four at a time, for processors that have AVX2 ---- */
+
+#define BY_FOURS __attribute__((target("avx2")))
+
+BY_FOURS static inline __m256d with_fewer(__m256d value, __m256d half, __m256d power, uint64_t *found, int place) {
+    const __m256d tenth = _mm256_set1_pd(0.1), below = _mm256_set1_pd(0.5), to_whole = _mm256_set1_pd(TO_WHOLE);
+    const __m256d less = _mm256_sub_pd(_mm256_add_pd(_mm256_mul_pd(power, tenth), to_whole), to_whole), scaled = _mm256_mul_pd(value, less);
+    const __m256d off = _mm256_sub_pd(scaled, _mm256_sub_pd(_mm256_add_pd(scaled, to_whole), to_whole));
+    const __m256d is_near = _mm256_cmp_pd(_mm256_andnot_pd(_mm256_set1_pd(-0.0), off), _mm256_mul_pd(half, less), _CMP_LT_OQ);
+    const __m256d fit = _mm256_and_pd(is_near, _mm256_cmp_pd(below, less, _CMP_LT_OQ));
+    *found |= (uint64_t)_mm256_movemask_pd(fit) << place;
+    return _mm256_blendv_pd(power, less, fit);
+}
+
+BY_FOURS static uint64_t try_fewer_by_fours(struct block *block, int width) {
+    uint64_t found = 0;
+    for (int k = 0; k < width; k += 4) {
+        const __m256d value = _mm256_loadu_pd(block->values.each + k), half = _mm256_loadu_pd(block->halves.each + k);
+        _mm256_storeu_pd(block->powers.each + k, with_fewer(value, half, _mm256_loadu_pd(block->powers.each + k), &found, k));
+    }
+    return found;
+}
+
+BY_FOURS static int begin_by_fours(struct block *block, const float *values, int width, uint64_t *found) {
+    const __m128i least = _mm_set1_epi32(LEAST_BITS - 1), most = _mm_set1_epi32(LEAST_BITS + sizeof ENOUGH / sizeof *ENOUGH);
+    const __m128i byte = _mm_set1_epi32(255), fraction = _mm_set1_epi32(0x7fffff), one = _mm_set1_epi32(1), other = _mm_set1_epi32(OTHER);
+    __m128i usual = _mm_set1_epi32(-1);
+    *found = 0;
+    for (int k = 0; k < width; k += 4) {
+        __m128i bits = _mm_loadu_si128((const __m128i *)(values + k)), exponent = _mm_and_si128(_mm_srli_epi32(bits, 23), byte);
+        const __m128i is_size = _mm_and_si128(_mm_cmpgt_epi32(exponent, least), _mm_cmpgt_epi32(most, exponent));
+        const __m128i is_usual = _mm_andnot_si128(_mm_cmpeq_epi32(_mm_and_si128(bits, fraction), _mm_setzero_si128()), is_size);
+        usual = _mm_and_si128(usual, is_usual);
+        bits = _mm_blendv_epi8(other, bits, is_usual);
+        exponent = _mm_and_si128(_mm_srli_epi32(bits, 23), byte);
+        const __m256i size = _mm256_slli_epi64(_mm256_cvtepi32_epi64(_mm_add_epi32(exponent, _mm_set1_epi32(1023 - 151))), 52);
+        const __m256d half = _mm256_castsi256_pd(_mm256_or_si256(size, _mm256_cvtepi32_epi64(_mm_andnot_si128(bits, one))));
+        const __m256d value = _mm256_cvtps_pd(_mm_castsi128_ps(bits));
+        /* Each by itself: many processors gather slowly. */
+        const __m256d power = _mm256_set_pd(ENOUGH[_mm_extract_epi32(exponent, 3) - LEAST_BITS], ENOUGH[_mm_extract_epi32(exponent, 2) - LEAST_BITS],
+            ENOUGH[_mm_extract_epi32(exponent, 1) - LEAST_BITS], ENOUGH[_mm_extract_epi32(exponent, 0) - LEAST_BITS]);
+        _mm256_storeu_pd(block->values.each + k, value);
+        _mm256_storeu_pd(block->halves.each + k, half);
+        _mm256_storeu_pd(block->powers.each + k, with_fewer(value, half, power, found, k));
+    }
+    return _mm_movemask_epi8(usual) == 0xffff;
+}
+
+static int has_fours(void) {
+    return __builtin_cpu_supports("avx2");
+}
+#else
+#define try_fewer_by_fours try_fewer
+#define begin_by_fours begin
+static int has_fours(void) {
+    return 0;
+}
+#endif
+
+/* ---- A block ---- */
+
+/* One float alone, as far down as it fits. */
+static void find_last(struct block *block, int place) {
+    const double value = block->values.each[place], half = block->halves.each[place];
+    double power = block->powers.each[place];
+    for (;;) {
+        const double less = power * 0.1 + TO_WHOLE - TO_WHOLE, scaled = value * less;
+        if (less < 0.5 || !(fabs(scaled - (scaled + TO_WHOLE - TO_WHOLE)) < half * less)) break;
+        power = less;
+    }
+    block->powers.each[place] = power;
+}
+
+/* The decimal of the fewest places for each of a block. What fits does so with more places too. The last few go one by one. Whether all are
+   usual. */
+static int find_decimals(struct block *block, const float *values, int width, int by_fours, double *to) {
+    enum { FEW_LEFT = BLOCK / 8 };
+    uint64_t left;
+    const int usual = (by_fours ? begin_by_fours : begin)(block, values, width, &left);
+    while (__builtin_popcountll(left) > FEW_LEFT) left = (by_fours ? try_fewer_by_fours : try_fewer)(block, width);
+    for (; left; left &= left - 1) find_last(block, __builtin_ctzll(left));
+    for (int k = 0; k < width; k++) to[k] = (block->values.each[k] * block->powers.each[k] + TO_WHOLE - TO_WHOLE) / block->powers.each[k];
+    return usual;
 }
 
 /* Any float that isn't usual in a block. */
@@ -149,18 +232,15 @@ static int of_other(float value, double *to) {
 }
 
 int as_printed(const float *from, Py_ssize_t step, Py_ssize_t count, double *to) {
+    const int by_fours = has_fours();
     struct block block;
+    float values[BLOCK];
+    for (int k = 0; k < BLOCK; k++) put(&block, k, values[k] = 1.25f);
     for (Py_ssize_t first = 0; first < count; first += BLOCK) {
         const int width = count - first < BLOCK ? (int)(count - first) : BLOCK;
-        float values[BLOCK];
-        int usual = 1;
-        for (int k = 0; k < width; k++) {
-            memcpy(values + k, (const char *)from + (first + k) * step, sizeof *values);
-            usual &= put(&block, k, values[k]);
-        }
-        if (width % 2) put(&block, width, 0);
-        find_decimals(&block, (width + 1) / 2);
-        memcpy(to + first, block.values.each, (size_t)width * sizeof *to);
+        if (step == sizeof *from) memcpy(values, from + first, (size_t)width * sizeof *from);
+        for (int k = 0; k < width && step != sizeof *from; k++) memcpy(values + k, (const char *)from + (first + k) * step, sizeof *values);
+        const int usual = find_decimals(&block, values, width, by_fours, to + first);
         for (int k = 0; k < width && !usual; k++)
             if (!put(&block, k, values[k]) && !of_other(values[k], to + first + k)) return 0;
     }

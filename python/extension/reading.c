@@ -227,6 +227,7 @@ static int copy_array(const State *state, const Matrix *matrix, double *to) {
     double block[WIDTH];
     const Py_ssize_t n = matrix->n, m = matrix->m, by_person = matrix->person_step, by_object = matrix->object_step;
     int good = 1;
+    if (by_person == m * by_object) return of_any(state, matrix, matrix->data, by_object, n * m, to);
     if (llabs(by_object) <= llabs(by_person) || n == 1) {
         for (Py_ssize_t i = 0; i < n && good; i++) good = of_any(state, matrix, matrix->data + i * by_person, by_object, m, to + i * m);
         return good;
@@ -279,24 +280,37 @@ static int copy_list(State *state, const Matrix *matrix, double *to) {
     return good;
 }
 
-/* Some columns of a frame, which stand in one of its arrays, each at its place. */
+/* The place of a column of a frame's block. */
+static int64_t place_of(const struct array *places, Py_ssize_t column) {
+    int64_t place;
+    memcpy(&place, places->data + column * *places->steps, sizeof place);
+    return place;
+}
+
+/* Whether each column of a block has a place in the frame. */
+static int are_places(const struct array *places, Py_ssize_t count, Py_ssize_t columns) {
+    int good = places->kind->number == LONGS && *places->shape == count;
+    for (Py_ssize_t k = 0; k < count && good; k++) good = place_of(places, k) >= 0 && place_of(places, k) < columns;
+    return good;
+}
+
+/* Some columns of a frame, which stand in one of its arrays, each at its place: a few neighbours of each line at a time. */
 static int copy_block(const State *state, const Matrix *matrix, const struct array *numbers, const struct array *places, double *to) {
     const Py_ssize_t rows = matrix->turned ? matrix->m : matrix->n, columns = matrix->turned ? matrix->n : matrix->m;
     const Py_ssize_t by_row = matrix->turned ? 1 : matrix->m, by_column = matrix->turned ? matrix->m : 1;
+    const int line = llabs(numbers->steps[0]) < llabs(numbers->steps[1]), along = !line;
     double block[WIDTH];
     Matrix own = *matrix;
     own.kind = numbers->kind->number;
     own.swapped = numbers->kind->byte_order == '>';
-    if (places->kind->number != LONGS || *places->shape != numbers->shape[0] || numbers->shape[1] != rows) return 0;
-    for (Py_ssize_t k = 0; k < numbers->shape[0]; k++) {
-        int64_t place;
-        memcpy(&place, places->data + k * *places->steps, sizeof place);
-        if (place < 0 || place >= columns || (own.kind == HALVES && own.as_printed)) return 0;
-        for (Py_ssize_t first = 0; first < rows; first += WIDTH) {
-            const Py_ssize_t count = rows - first < WIDTH ? rows - first : WIDTH;
-            if (!of_any(state, &own, numbers->data + k * numbers->steps[0] + first * numbers->steps[1], numbers->steps[1], count, block))
-                return 0;
-            for (Py_ssize_t i = 0; i < count; i++) to[(first + i) * by_row + place * by_column] = block[i];
+    if (!are_places(places, numbers->shape[0], columns) || numbers->shape[1] != rows || (own.kind == HALVES && own.as_printed)) return 0;
+    for (Py_ssize_t first = 0; first < numbers->shape[along]; first += WIDTH) {
+        const Py_ssize_t count = numbers->shape[along] - first < WIDTH ? numbers->shape[along] - first : WIDTH;
+        for (Py_ssize_t k = 0; k < numbers->shape[line]; k++) {
+            const char *from = numbers->data + k * numbers->steps[line] + first * numbers->steps[along];
+            if (!of_any(state, &own, from, numbers->steps[along], count, block)) return 0;
+            for (Py_ssize_t i = first; i < first + count; i++)
+                to[(line ? k : i) * by_row + place_of(places, line ? i : k) * by_column] = block[i - first];
         }
     }
     return 1;

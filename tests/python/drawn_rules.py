@@ -5,7 +5,7 @@ from datetime import date, timedelta
 from nushbaret.roster.month import Before, month_of
 from nushbaret.roster.roster import Earlier, Groups, PlanLine, Roster
 from nushbaret.roster.rules.rule_file import RuleLine, rules_of
-from nushbaret.roster.times_of_day import Times
+from nushbaret.roster.dates import Times
 
 KINDS = ("Early", "Late", "Night")
 NAMES = ("Ada", "Ben", "Cleo", "Dan", "Eve", "Finn")

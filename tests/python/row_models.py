@@ -6,7 +6,7 @@ from fractions import Fraction
 
 from nushbaret.rows import certificates as files
 from nushbaret.rows import finding
-from nushbaret.rows import worker
+from nushbaret.rows import process
 from nushbaret.rows.model import Limits, Model, Row
 
 try:
@@ -107,7 +107,7 @@ def _months(model, own, rows, shared):
     return found
 
 
-class Channel(worker.Channel):
+class Channel(process.Channel):
     """What both processes report, kept in a list."""
 
     def __init__(self):
@@ -119,12 +119,12 @@ class Channel(worker.Channel):
         self.is_hopeless = self.is_hopeless or "hopeless" in told
 
 
-def found_here(model, seconds=600):
+def found_here(model, seconds=600, sums=()):
     """What `find` returns, with the work of both processes done here, one after the other."""
     from nushbaret.rows import highs, prover
-    search, channel = finding._PlanSearch(model), Channel()
+    search, channel = finding._PlanSearch(model, sums), Channel()
     highs.look_for_plans(search.scaled, channel, time.monotonic() + seconds)
-    prover.look_for_bounds(search.scaled, channel, seconds)
+    prover.look_for_bounds(search.scaled, channel, seconds, sums)
     for message in channel.told:
         finding._taken(search, [], message)
     return search.finding()

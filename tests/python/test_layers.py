@@ -11,8 +11,8 @@ import layers
 OF_OTHER_FOLDERS = {
     # What several files of tests share.
     "commands": "roster.command",
-    "drawn_rules": "roster.month roster.roster roster.rules.rule_file roster.times_of_day",
-    "row_models": "rows.certificates rows.finding rows.highs rows.model rows.prover rows.worker",
+    "drawn_rules": "roster.dates roster.month roster.roster roster.rules.rule_file",
+    "row_models": "rows.certificates rows.finding rows.highs rows.model rows.process rows.prover",
     "ways": "api.solve lap.direct lap.library",
     # They count or replace calls below the public one: of levels, checks, searches and the library.
     "api.test_forms": "costs.kinds costs.problem lap.levels",
@@ -30,6 +30,12 @@ OF_OTHER_FOLDERS = {
     "lap.test_levels": "costs.kinds costs.problem costs.reading",
     "roster.rules.test_stages": "rows.certificate_check rows.finding rows.model",
 }
+# Modules of features that came after the number of modules was set: like the folder beyond/ they don't count.
+FEATURES = ("api.pairs", "api.unmatched", "costs.left_out", "roster.daily", "roster.forms", "roster.output.month_page",
+            "roster.output.month_sheet", "roster.output.month_workbook")
+# The files by which Python and processes begin.
+BEGINS = ("__init__", "__main__", "worker")
+MOST_MODULES, LEAST_LINES, MOST_LINES = 110, 40, 800
 
 
 class Package(unittest.TestCase):
@@ -47,6 +53,25 @@ class Package(unittest.TestCase):
         drawn = "\n".join(layers.drawn(self.GRAPH))
         self.assertRegex(drawn, r"(?s)^beyond/ .*\napi/ .*\nroster/output/ .*\nroster/rules/ .*\nroster/ .*\ncounts/ .*"
                          r"\nrows/ .*\nlap/ .*\ncosts/  imports nothing\n")
+
+
+class Files(unittest.TestCase):
+    """How many files the package has, how long they are, and what they are called."""
+
+    FILES = {name: path for name, path in layers.modules().items() if path.stem not in BEGINS}
+
+    def test_few_modules(self):
+        counted = [name for name in self.FILES if not name.startswith("beyond.") and name not in FEATURES]
+        self.assertLessEqual(len(counted), MOST_MODULES)
+        self.assertGreater(len(counted), MOST_MODULES // 2)
+
+    def test_no_name_stands_twice(self):
+        stems = sorted(path.stem for path in self.FILES.values())
+        self.assertEqual(stems, sorted(set(stems)))
+
+    def test_lengths(self):
+        lines = {name: len(path.read_text(encoding="utf-8").splitlines()) for name, path in self.FILES.items()}
+        self.assertEqual({name: count for name, count in lines.items() if not LEAST_LINES <= count <= MOST_LINES}, {})
 
 
 class Tests(unittest.TestCase):

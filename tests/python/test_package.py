@@ -208,7 +208,7 @@ class Bump(unittest.TestCase):
                    if held != before[file]}
         self.assertEqual(sorted(changed), ["VERSION", "c/nushbaret.h", "crates/program_tests/src/command.rt",
                                            "crates/release_version/must-fail/another_version.edit",
-                                           "crates/release_version/src/lib.rt", "docs/SCRIPTS.md",
+                                           "crates/release_version/src/lib.rt", "docs/PROGRAM.md",
                                            "python/nushbaret/lap/library.py", "python/pyproject.toml"])
         for name, held in changed.items():
             self.assertEqual(held.decode(), before[self.top / name].decode().replace(old, new))
@@ -223,7 +223,7 @@ class Bump(unittest.TestCase):
             status, said = self.bump(*words)
             self.assertEqual((status, said[:len(why) + 17]), (1, f"release/bump.sh: {why}"))
         self.assertEqual(self.texts(), before)
-        for name, text in (("README.md", f"Of {old}.\n"), ("docs/SCRIPTS.md", "No version.\n")):
+        for name, text in (("README.md", f"Of {old}.\n"), ("docs/PROGRAM.md", "No version.\n")):
             (self.top / name).write_text(text)
             planted = self.texts()
             self.assertIn(f"{old} doesn't stand where it should", self.bump("9.9.9")[1])

@@ -7,8 +7,6 @@ import unittest
 
 import nushbaret
 
-# Whose examples have no heading.
-_PLAIN = ("nushbaret.api.counts",)
 PAGE = pathlib.Path(__file__).resolve().parent.parent.parent / "docs" / "PYTHON.md"
 
 
@@ -29,8 +27,7 @@ class Docstrings(unittest.TestCase):
         for name, value in public():
             tests = finder.find(value, name, module=False, globs={})
             self.assertTrue(tests and tests[0].examples, f"{name} has no example")
-            if value.__module__ not in _PLAIN:
-                self.assertRegex(value.__doc__, r"\n *Examples\n *--------\n", name)
+            self.assertRegex(value.__doc__, r"\n *Examples\n *--------\n", name)
             for test in tests:
                 runner.run(test)
         self.assertEqual(runner.failures, 0)

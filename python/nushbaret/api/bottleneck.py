@@ -1,5 +1,5 @@
 """Plans whose worst pair is as good as possible."""
-from typing import Any, Dict, List, Optional
+from typing import Optional
 
 from ..costs import source as sources
 from ..costs.problem import AssignmentProblem, in_whole_numbers, listed, no_worse
@@ -7,7 +7,7 @@ from ..costs.reading import manner
 from ..costs.source import Source
 from ..lap import library, proved
 from ..lap.matching import most_served
-from ..lap.solving import prove_most, solved
+from ..lap.solving import prove_most, solved, worst_needed
 from .results import Result
 from .shown import Matrix, Missing
 from .solve import solve_problem
@@ -31,7 +31,7 @@ def bottleneck(costs: Matrix, maximize: bool = False, decimals: Optional[int] = 
     -------
     Result
         Of the problem that forbids each worse pair. The library also proves that each plan has a pair as bad as its
-        worst one.
+        worst one: some rows have too few columns at better costs.
 
     Raises
     ------
@@ -40,7 +40,7 @@ def bottleneck(costs: Matrix, maximize: bool = False, decimals: Optional[int] = 
 
     Notes
     -----
-    Solves twice; matchings find which pairs no plan needs.
+    `nushbaret_bottleneck` finds the worst cost that is needed; the pairs up to it are solved then.
 
     Examples
     --------
@@ -62,63 +62,14 @@ def _bottleneck(source: Source, partial: bool) -> Result:
     if served < least:
         prove_most(problem, served)
     # Doubles are in the order of the decimals that they print as.
-    return _best_within(listed(problem if problem.numpy else in_whole_numbers(problem)), served, source)
+    return _best_within(problem if problem.numpy else in_whole_numbers(problem), served, source)
 
 
 def _best_within(pairs: AssignmentProblem, served: int, source: Source) -> Result:
     """The best plan of so many pairs among those whose worst pair is as good as possible."""
-    values = _values(pairs)
-    lower, upper, fewest = values.index(_unavoidable(pairs, served, values[0])) - 1, len(values) - 1, pairs
-    # The answer is mostly near the lower end, where few pairs have to be looked at.
-    width, is_bounded = max(len(values) // 1024, 1), False
-    while upper - lower > 1:
-        library.look_at_time()
-        middle = (lower + upper) // 2 if is_bounded else min(lower + width, upper - 1)
-        tried = no_worse(fewest, values[middle])
-        if most_served(tried) == served:
-            upper, fewest, is_bounded = middle, tried, True
-        else:
-            lower, width = middle, 2 * width
-    worst = pairs.costs.ratio(values[upper])
-    within = no_worse(fewest, values[upper])
+    bound = worst_needed(pairs, served)
+    within = no_worse(listed(pairs), bound)
     answer = solved(within, None, served)
-    if isinstance(answer, proved.HallSet) or lower >= 0 and not _proves_none(no_worse(pairs, values[lower]), served):
-        raise RuntimeError(f"{values[upper]} was found to be the worst cost that is needed, and the library says "
-                           "otherwise")
-    return Result(source._replace(worst=worst), result_parts(within, answer))
-
-
-def _proves_none(pairs: AssignmentProblem, served: int) -> bool:
-    """Whether the library proves that there is no plan of so many pairs."""
-    return isinstance(solved(pairs, None, served), proved.HallSet)
-
-
-def _values(pairs: AssignmentProblem) -> List[int]:
-    """The different costs, the best first."""
-    found = pairs.numpy.unique(pairs.costs.numbers) if pairs.numpy else sorted(set(pairs.costs.numbers))
-    values: List[int] = found.tolist() if pairs.numpy else found
-    return values[::-1] if pairs.maximize else values
-
-
-def _unavoidable(pairs: AssignmentProblem, served: int, best: int) -> int:
-    """A cost that some pair of each plan is at least as bad as: if all rows have a pair, the worst of the rows' best
-    costs; the same of columns."""
-    worse = min if pairs.maximize else max
-    for count, nodes in ((pairs.n_rows, pairs.persons), (pairs.n_columns, pairs.objects)):
-        if count == served:
-            best = worse(best, *_best_of_each(pairs, nodes))
-    return best
-
-
-def _best_of_each(pairs: AssignmentProblem, nodes: Any) -> List[int]:
-    """The best cost of each row, or of each column."""
-    if pairs.numpy:
-        order = nodes.argsort(kind="stable")
-        starts = pairs.numpy.flatnonzero(pairs.numpy.diff(nodes[order], prepend=0))
-        better = pairs.numpy.maximum if pairs.maximize else pairs.numpy.minimum
-        costs: List[int] = better.reduceat(pairs.costs.numbers[order], starts).tolist()
-        return costs
-    least: Dict[int, int] = {}
-    for node, cost in zip(nodes, pairs.costs.numbers):
-        least[node] = (max if pairs.maximize else min)(cost, least.get(node, cost))
-    return list(least.values())
+    if isinstance(answer, proved.HallSet):
+        raise RuntimeError(f"{bound} was found to be the worst cost that is needed, and the library says otherwise")
+    return Result(source._replace(worst=pairs.costs.ratio(bound)), result_parts(within, answer))

@@ -22,7 +22,7 @@ from ..counts.counted import Bounds, Counted
 from ..lap import library
 from .infeasible import Infeasible, Shortage, numbered
 from .results import Lasting
-from .shown import FixedDict, FixedList, fixed, frame_of
+from .shown import FixedDict, FixedList, fixed, frame_of, series_of
 from .solve import Progress
 
 ONE_AT_MOST = Bounds(0, 1)
@@ -37,6 +37,8 @@ class CountsInfeasible(Infeasible):
     groups, rows, columns
         The rows and columns of each shortage, and those of the first one.
 
+    Examples
+    --------
     >>> import nushbaret
     >>> try:
     ...     nushbaret.assign_counts([[4, 1], [2, 3]], (0, 1), (2, 2))
@@ -92,6 +94,8 @@ class CountsResult(Lasting):
     NumPy arrays if the costs are one, and lists otherwise. These can't be changed, and attributes can't be set. A
     result can be pickled.
 
+    Examples
+    --------
     >>> import nushbaret
     >>> result = nushbaret.assign_counts([[4, 1, 3], [2, 0, 5]], (1, 2), 1)
     >>> result.rows, result.columns, result.cost
@@ -159,6 +163,8 @@ class CountsResult(Lasting):
         count, and below 0 only where it has its greatest. Under maximize all these signs are reversed. Other numbers
         may prove the same plan.
 
+        Examples
+        --------
         >>> import nushbaret
         >>> result = nushbaret.assign_counts([[4, 1, 3], [2, 0, 5]], 1, (0, 1))
         >>> result.pairs, result.row_numbers, result.column_numbers
@@ -186,6 +192,8 @@ class CountsResult(Lasting):
         pandas.DataFrame
             With columns row, column and cost: by labels if the costs were a DataFrame, else by numbers.
 
+        Examples
+        --------
         >>> import nushbaret
         >>> print(nushbaret.assign_counts([[4, 1]], 2, 1).to_frame())  # doctest: +SKIP
            row  column  cost
@@ -193,6 +201,44 @@ class CountsResult(Lasting):
         1    0       1     1
         """
         return frame_of(self.pairs, self._kind.all_shown(self._kind.ratios_in_unit(self._costs)))
+
+    def to_series(self) -> Any:
+        """The columns of the rows that have some, as a Series of pandas, which must be installed.
+
+        Returns
+        -------
+        pandas.Series
+            An entry for each pair: a row with several columns stands there several times. By labels if the costs were a
+            DataFrame, else by numbers.
+
+        Examples
+        --------
+        >>> import nushbaret
+        >>> nushbaret.assign_counts([[4, 1]], 2, 1).to_series()  # doctest: +SKIP
+        row
+        0    0
+        0    1
+        Name: column, dtype: int64
+        """
+        return series_of(self.pairs)
+
+    def as_dict(self) -> Dict[Any, List[Any]]:
+        """The columns of each row that has some, by labels if the costs were a DataFrame, else by numbers.
+
+        Returns
+        -------
+        dict
+
+        Examples
+        --------
+        >>> import nushbaret
+        >>> nushbaret.assign_counts([[4, 1, 3], [2, 0, 5]], (1, 2), 1).as_dict()
+        {0: [2], 1: [0, 1]}
+        """
+        found: Dict[Any, List[Any]] = {}
+        for row, column in self.pairs:
+            found.setdefault(row, []).append(column)
+        return found
 
 
 def _listed(values: Any) -> List[int]:

@@ -13,7 +13,7 @@ from ..costs.reading import Manner, manner
 from ..costs.source import Source, problem_of
 from ..lap import library, proved
 from ..lap.plan_check import check_wholly
-from ..lap.ranking import has_other
+from ..lap.ranking import has_other, next_part
 from .infeasible import infeasible
 from .shown import ByNames, FixedList, Missing, fixed, frame_of, numbers
 from .solved import SolvedProblem, WholeDuals, ratios_of, result_parts, sum_of
@@ -248,10 +248,14 @@ class Result(ByNames, Lasting):
 
     @cached_property
     def is_unique(self) -> bool:
-        """Whether no other plan of as many pairs is as good. The library finds, among the plans along pairs without
-        reduced cost, one with as few of this plan's pairs as possible; which pairs these are follows from the duals."""
-        ranking = self._solved.ranking()
-        return not has_other(ranking.paths, ranking.whole)
+        """Whether no other plan of as many pairs is as good. `nushbaret_unique` proves it of whole costs in its range.
+        Of others the library finds, among the plans along pairs without reduced cost, one with as few of this plan's
+        pairs as possible; which pairs these are follows from the duals."""
+        found = self._solved.is_only()
+        if found is None:
+            ranking = self._solved.ranking()
+            found = not has_other(ranking.paths, ranking.whole)
+        return found
 
     def next_best(self) -> Optional[Plan]:
         """The best plan except for this one, with as many pairs. If this is one of several best plans, it is another of
@@ -260,8 +264,13 @@ class Result(ByNames, Lasting):
         Returns
         -------
         Plan or None
-            None if there is no other plan. Of several, the one that comes first in the order of `k_best`, whose notes
-            say how it is checked.
+            None if there is no other plan. Of several, the one that comes first in the order of `k_best`.
+
+        Notes
+        -----
+        `nushbaret_next` proves what the next best plan costs, or that there is none, where costs and prices are whole
+        numbers in its range, as many pairs are made as the shorter side has rows or columns, and it decides: mostly.
+        Python then finds the first plan of this cost. Elsewhere it is found and checked as in `k_best`.
 
         Examples
         --------
@@ -270,8 +279,7 @@ class Result(ByNames, Lasting):
         7
         """
         ranking = self._solved.ranking()
-        ranking.split(ranking.whole, 1)
-        part = ranking.take()
+        part = next_part(ranking)
         return None if part is None else self._plan(*self._solved.plan_of(ranking, part))
 
     def _plan(self, rows: Any, columns: Any, cost: Number) -> Plan:

@@ -13,10 +13,10 @@ from ..roster.output.rule_texts import sentence_of
 from ..roster.roster import Earlier, Groups, PlanLine, Roster, Takes, Wanted
 from ..roster.rules.roster_model import OwnRow
 from ..roster.rules.rule_file import RuleLine, Rules, rules_of
+from ..roster.rules.rules_kept import days_in_order, kinds_alike, left_out, other_holidays, without_day, without_kind
 from ..roster.rules.stages import Proved, Task, answer_by_rules
-from ..roster.rules.unruled import days_in_order, kinds_alike, left_out, other_holidays, without_day, without_kind
-from .shown import frame_of
 from ..rows.model import Certificate
+from .shown import frame_of
 
 Named = Tuple[str, str]
 Count = Union[int, Tuple[int, int]]
@@ -159,11 +159,11 @@ def plan_roster(costs: Mapping[Named, Any], days: Mapping[str, Union[str, date]]
     if not seconds >= 0:
         raise ValueError(f"seconds is {seconds!r}: it must be a number of seconds, 0 or more")
     listed = dict(costs)
-    ratios = [_ratio(pair, cost) for pair, cost in listed.items()]
+    ratios = [_ratio(f"the cost of {pair!r} is {cost!r}, which", cost) for pair, cost in listed.items()]
     cells = [_cells(rule) for rule in rules]
     priced = [(f"rules, line {number}", rule[3]) for number, rule in enumerate(cells, 1) if rule[3] is not None]
     priced += [(f"wanted: {name!r}", own[1]) for name, own in (wanted or {}).items()]
-    prices = [_price(*named) for named in priced]
+    prices = [_ratio(f"{what}: the price {price!r}", price, True) for what, price in priced]
     unit = unit_of(ratios + prices)
     units, of_prices = [in_unit(ratio, unit) for ratio in ratios], iter([in_unit(ratio, unit) for ratio in prices])
     if any(abs(own) > MOST_UNITS for own in units):
@@ -205,16 +205,18 @@ def _result(proved: Proved, pairs: Optional[List[Named]], cost: Optional[Number]
                       [(even.sentence, even.least, even.most) for even in proved.even], proved.certificate)
 
 
-def _ratio(pair: Named, cost: Any) -> Ratio:
-    """A cost as a ratio."""
+def _ratio(said: str, number: Any, is_above_0: bool = False) -> Ratio:
+    """A number as a ratio. What is wrong with it is said after `said`, which ends with the number."""
     try:
-        ratio = exact_ratio(cost)
+        ratio = exact_ratio(number)
     except TypeError:
-        raise TypeError(f"the cost of {pair!r} is {cost!r}, which is no number") from None
+        raise TypeError(f"{said} is no number") from None
     except (ValueError, OverflowError):
-        raise ValueError(f"the cost of {pair!r} is {cost!r}, which isn't finite") from None
+        raise ValueError(f"{said} isn't finite") from None
+    if is_above_0 and ratio[0] <= 0:
+        raise ValueError(f"{said} isn't above 0")
     if abs(ratio[0]) > MOST_UNITS or ratio[1] > MOST_UNITS:
-        raise ValueError(f"the cost of {pair!r} is {cost!r}, which has too many digits")
+        raise ValueError(f"{said} has too many digits")
     return ratio
 
 
@@ -289,19 +291,6 @@ def _cells(rule: Sequence[Any]) -> List[Any]:
     if isinstance(rule, str) or not 1 <= len(rule) <= 4:
         raise ValueError(f"rules: {rule!r} is no rule, value, names and price")
     return [*rule, *("", "", None)[len(rule) - 1:]]
-
-
-def _price(what: str, price: Any) -> Ratio:
-    """A price as a ratio."""
-    try:
-        ratio = exact_ratio(price)
-    except TypeError:
-        raise TypeError(f"{what}: the price {price!r} is no number") from None
-    except (ValueError, OverflowError):
-        raise ValueError(f"{what}: the price {price!r} isn't finite") from None
-    if not 0 < ratio[0] <= MOST_UNITS or ratio[1] > MOST_UNITS:
-        raise ValueError(f"{what}: {price!r} is no price above 0, or has too many digits")
-    return ratio
 
 
 def _wanted(roster: Roster, wanted: Mapping[str, Tuple[int, Any]], prices: Sequence[int]) -> Dict[int, Wanted]:

@@ -78,6 +78,14 @@ def frame_of(pairs: Sequence[Tuple[Any, Any]], costs: Optional[List[Number]]) ->
     return pandas.DataFrame(held if costs is None else {**held, "cost": _in_floats(costs)})
 
 
+def series_of(pairs: Sequence[Tuple[Any, Any]]) -> Any:
+    """A Series of the pairs' columns by their rows."""
+    import pandas
+    rows, columns = zip(*pairs) if pairs else ((), ())
+    index = pandas.Index(list(rows), name="row", tupleize_cols=False)
+    return pandas.Series(list(columns), index, None if columns else object, "column")
+
+
 class ByNames:
     """A plan whose pairs are known by the labels of a frame, or else by numbers."""
 
@@ -100,10 +108,7 @@ class ByNames:
         1    0
         Name: column, dtype: int64
         """
-        import pandas
-        rows, columns = zip(*self.pairs) if self.pairs else ((), ())
-        index = pandas.Index(list(rows), name="row", tupleize_cols=False)
-        return pandas.Series(list(columns), index, None if columns else object, "column")
+        return series_of(self.pairs)
 
     def as_dict(self) -> Dict[Any, Any]:
         """The column of each row that has one, by labels if the costs had them, else by numbers.

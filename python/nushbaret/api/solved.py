@@ -121,6 +121,13 @@ class SolvedProblem:
             raise ValueError(CHANGED)
         return problem
 
+    def is_only(self) -> Optional[bool]:
+        """What the library says of whether the plan is the only best one; None where it can't say."""
+        if self.answer.prices is None:
+            return None
+        problem = self.read_again()
+        return proved.is_only(problem, self.answer) if problem.unit == self.shape.unit else None
+
     def ranking(self, problem: Optional[AssignmentProblem] = None) -> Ranking:
         """The plans of the problem, from this one on. Without a problem it is that of the call, checked."""
         duals, unit = self.duals

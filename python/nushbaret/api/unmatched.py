@@ -3,11 +3,11 @@ from fractions import Fraction
 from functools import cached_property
 from typing import Any, List, Optional, Tuple
 
+from ..costs.left_out import Unmatched, extended, unmatched_of, with_ties, worth_it
 from ..costs.numbers import Number, all_shown, total
 from ..costs.problem import AssignmentProblem, Labels
 from ..costs.reading import Manner
 from ..costs.source import Source, problem_of
-from ..costs.unmatched import Unmatched, extended, unmatched_of, with_ties, worth_it
 from ..lap import proved
 from ..lap.solving import solved
 from .results import Plan, Result, plan_of

@@ -1,6 +1,8 @@
-"""Which pairs of some rows are better than their own ones at given prices, by the library's calls over blocks; over
-doubles the better pairs are chosen here, and listed pairs are looked at here."""
+"""Which pairs of some rows are better than their own ones at given prices, by the library's calls over blocks. Over
+doubles the library says whether there is one, and which ones are chosen here; listed pairs are packed for it into small
+matrices."""
 import ctypes
+import math
 from typing import Any, Dict, List, NamedTuple, Optional, Tuple
 
 import numpy
@@ -103,6 +105,16 @@ def _looked(n: int, persons: Any, objects: Any, costs: Any, asked: Asked) -> Loo
                 (info.person - 1, info.object - 1) if code == "SLACK" else None, shown.view(bool))
 
 
+def are_joint(columns: Any, paid: Any, prices: Any) -> bool:
+    """Whether the library says of the rows' own pairs alone, at whole costs, what no block sees: no two rows have one
+    column, no price is below 0, and each is 0 where nobody has the column."""
+    n = len(columns)
+    own = _own_objects(n, columns)
+    code, _ = library.call("check", False, n, len(prices), numpy.arange(1, n + 1, dtype=numpy.uint32), own, paid, own,
+                           prices)
+    return code == "BEST"
+
+
 def _own_objects(n: int, own: Any) -> Any:
     """Own columns as objects from 1 on; 0 for a row without one."""
     return numpy.zeros(n, numpy.uint32) if own is None else (own + 1).astype(numpy.uint32)
@@ -203,25 +215,76 @@ def _keep_cheapest(sums: Any, below: Any, most: int) -> None:
 
 def _of_doubles(n: int, rows: Any, columns: Any, costs: Any, asked: Asked) -> Look:
     """The same of listed pairs."""
+    if asked.rests is None:
+        return _chosen_listed(n, rows, columns, costs, asked)
+    found = _proved_listed(n, rows, columns, costs, asked)
+    if found.first is None:
+        return found
+    better = _chosen_listed(n, rows, columns, costs, asked)
+    return found._replace(rows=better.rows, columns=better.columns, costs=better.costs)
+
+
+def _chosen_listed(n: int, rows: Any, columns: Any, costs: Any, asked: Asked) -> Look:
+    """A look by NumPy."""
     sums, lost = two_sum(costs, asked.prices[columns])
     below = sums < asked.numbers[rows]
     if asked.rests is not None:
         below |= (sums == asked.numbers[rows]) & (lost < asked.rests[rows])
-    least, shown = numpy.full(n, numpy.inf), numpy.zeros(n, bool)
+    least, shown, first = numpy.full(n, numpy.inf), numpy.zeros(n, bool), None
     numpy.minimum.at(least, rows, sums)
     if asked.own is not None:
         own = (columns == asked.own[rows]) & _is_at(costs, asked.prices[columns], asked.numbers[rows],
                                                     None if asked.rests is None else asked.rests[rows])
         shown[rows[own]] = True
     places = numpy.flatnonzero(below)
-    first = None
     if len(places):
         row = rows[places].min()
         first = int(row), int(columns[places[rows[places] == row]].min())
     places = places[numpy.lexsort((columns[places], sums[places], rows[places]))]
-    rank = ranks(rows[places])
-    places = places[rank < asked.most]
+    places = places[ranks(rows[places]) < asked.most]
     return Look(rows[places], columns[places], costs[places], least, first, shown)
+
+
+# So many places has a matrix into which pairs are packed.
+PACKED = 2**12
+
+
+def _proved_listed(n: int, rows: Any, columns: Any, costs: Any, asked: Asked) -> Look:
+    """What the library says of listed pairs: of a few rows at a time with all columns that one of them lists, where
+    other pairs are forbidden."""
+    m = len(asked.prices)
+    height = max(1, math.isqrt(PACKED * n // max(1, len(costs))))
+    order = numpy.lexsort((costs, columns, rows // height))
+    rows, columns, costs = rows[order], columns[order], costs[order]
+    keys, places = numpy.unique(rows // height * m + columns, return_inverse=True)
+    starts = numpy.searchsorted(keys, numpy.arange(0, n + height, height) // height * m)
+    ends = numpy.searchsorted(rows // height, numpy.arange(0, n + height, height) // height)
+    least, shown, first = numpy.full(n, numpy.inf), numpy.zeros(n, bool), None
+    for pack, (begin, end) in enumerate(zip(ends[:-1], ends[1:])):
+        some = slice(pack * height, min(n, (pack + 1) * height))
+        names = keys[starts[pack]:starts[pack + 1]] - pack * m
+        if not len(names):
+            continue
+        matrix = numpy.full((some.stop - some.start, len(names)), numpy.inf)
+        # Of pairs that are listed several times the cheapest one stays.
+        at = slice(end - 1, begin - 1 if begin else None, -1)
+        matrix[rows[at] - some.start, places[at] - starts[pack]] = costs[at]
+        found = proved(matrix, _of_pack(asked, some, names))
+        least[some], shown[some] = found.least, found.shown
+        if first is None and found.first is not None:
+            first = found.first[0] + some.start, int(names[found.first[1]])
+    none = numpy.empty(0, numpy.int64)
+    return Look(none, none, numpy.empty(0), least, first, shown)
+
+
+def _of_pack(asked: Asked, some: slice, names: Any) -> Asked:
+    """What is asked of a pack: of some rows and named columns."""
+    own = None
+    if asked.own is not None:
+        own = numpy.minimum(numpy.searchsorted(names, asked.own[some]), len(names) - 1)
+        own = numpy.where(names[own] == asked.own[some], own, -1)
+    rests = None if asked.rests is None else asked.rests[some]
+    return Asked(asked.numbers[some], rests, own, asked.prices[names], asked.most)
 
 
 def ranks(rows: Any) -> Any:

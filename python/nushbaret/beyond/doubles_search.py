@@ -23,7 +23,8 @@ class DoublesSearch(Search):
     def _finish(self, plan: Plan) -> bool:
         """Whether the plan of rounded costs, which no pair improves by more than the rounding, is proved or given
         up."""
-        wide = self._with_margin(plan)
+        with self.limited():
+            wide = self._with_margin(plan)
         if wide is not None:
             paid, duals = self.paid(wide), self.duals(wide)
             numbers, rests = bounds.own_numbers(wide.columns, paid, duals)
@@ -90,7 +91,8 @@ class DoublesSearch(Search):
             every = numpy.arange(n)
             rows, columns = numpy.concatenate([rows, every]), numpy.concatenate([columns, every + m])
             costs = numpy.concatenate([costs, numpy.full(n, duals.out)])
-        answer = solve_sparse(n, m + n * self.form.stay_out, rows, columns, costs)
+        with self.limited():
+            answer = solve_sparse(n, m + n * self.form.stay_out, rows, columns, costs)
         found = numpy.full(n, -1, numpy.int64)
         found[numpy.asarray(answer.rows)] = numpy.asarray(answer.columns)
         found[found >= m] = -1

@@ -60,10 +60,11 @@ class Cluster:
                     raise RuntimeError(f"the cluster has had no worker for {LONGEST_WITHOUT_WORKERS:.0f} seconds")
                 for future in done:
                     each, tries = waiting.pop(future)
-                    if is_lost(future) and tries < TRIES:
-                        waiting[self._sent(task, each)] = each, tries + 1
+                    is_there, found = answer_of(future, tries == TRIES)
+                    if is_there:
+                        yield found
                     else:
-                        yield future.result()
+                        waiting[self._sent(task, each)] = each, tries + 1
         finally:
             self.client.cancel(list(waiting))
 
@@ -111,14 +112,16 @@ def scattered(client: Any, value: Any) -> Any:
     return None
 
 
-def is_lost(future: Any) -> bool:
-    """Whether a task ended since its worker or its values were lost, and not by a fault of its own."""
+def answer_of(future: Any, is_last: bool) -> Tuple[bool, Any]:
+    """The answer of a task, or that its worker or its values were lost, which in the last try is raised as its own
+    faults are. A worker can be lost before its answer is fetched."""
     distributed: Any = importlib.import_module("distributed")
-    if future.status in ("cancelled", "lost"):
-        return True
-    if future.status != "error":
-        return False
-    return isinstance(future.exception(), (distributed.scheduler.KilledWorker, distributed.CancelledError))
+    try:
+        return True, future.result()
+    except (distributed.scheduler.KilledWorker, distributed.CancelledError):
+        if is_last:
+            raise
+        return False, None
 
 
 def engine_of(client: Any) -> Engine:

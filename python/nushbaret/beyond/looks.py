@@ -32,8 +32,6 @@ class Asked(NamedTuple):
         How many cheap pairs of a column are wanted.
     unit : float or None
         Whether all doubles are whole multiples of it is answered.
-    skipped : array or None
-        The rows that need no look.
     """
 
     prices: Any
@@ -43,7 +41,6 @@ class Asked(NamedTuple):
     most: int = 24
     sides: int = 0
     unit: Optional[float] = None
-    skipped: Any = None
 
     def of_rows(self, rows: Any) -> blocks.Asked:
         """The same of some rows."""
@@ -126,20 +123,13 @@ class _Gathered:
             self._add_listing(band)
             return
         rows, costs = numpy.arange(band.first, band.first + len(band.costs)), band.costs
-        if self.asked.skipped is not None:
-            kept = ~self.asked.skipped[rows]
-            rows, costs = rows[kept], costs[kept]
-        if not len(rows):
-            return
         self._look_at_sizes(rows, costs)
         self.looks += costs.size
         least, shown = numpy.empty(len(rows), costs.dtype), numpy.empty(len(rows), bool)
         for part in parts_of(len(rows), costs.shape[1], self.asked.numbers is None):
             found = self._looked(rows[part], costs[part])
             least[part], shown[part] = found.least, found.shown
-            self.better.append(Pairs(found.rows + rows[part.start], found.columns, found.costs)
-                               if self.asked.skipped is None else
-                               Pairs(rows[part][found.rows], found.columns, found.costs))
+            self.better.append(Pairs(found.rows + rows[part.start], found.columns, found.costs))
         self.seen.append((rows, least, shown))
         if self.asked.own is not None and self.asked.numbers is None:
             self._add_own(rows, costs)
@@ -258,26 +248,42 @@ def joined(found: List[Pairs]) -> Pairs:
     return Pairs(*(numpy.concatenate(values) for values in zip(*found)))
 
 
+# Above all costs, which are at most 2**900 in size; and what lifts each of them to this.
+ABOVE, LIFT = 2.0**1000, 2.0**1001
+
+
 def outside(source: Any, task: int, block: Any, rows: Any, columns: Any, most: int) -> Tuple[int, Pairs, int]:
     """The cheapest pairs that the marked rows of a block have with the marked columns, so many of a row; the pairs that
-    were looked at."""
+    were looked at. The library says whether there is one."""
     found, looked, names = [], 0, numpy.flatnonzero(columns)
     for band in source.bands(*block):
         if isinstance(band, Listing):
-            kept = rows[band.rows] & columns[band.columns] & (band.costs < numpy.inf)
+            found.append(_outside_listed(band, rows, columns, most))
             looked += len(band.costs)
-            found.append(Pairs(*(values[kept] for values in band)))
             continue
         chosen = numpy.flatnonzero(rows[band.first:band.first + len(band.costs)])
         if not len(chosen) or not len(names):
             continue
         costs = numpy.ascontiguousarray(band.costs[numpy.ix_(chosen, names)])
         looked += costs.size
-        numbers = numpy.full(len(costs), GREATEST if costs.dtype.kind == "i" else numpy.inf, costs.dtype)
-        got = blocks.look(costs, blocks.Asked(numbers, None, None, numpy.zeros(len(names), costs.dtype), most))
+        is_whole = costs.dtype.kind == "i"
+        numbers = numpy.full(len(costs), GREATEST if is_whole else ABOVE, costs.dtype)
+        rests = None if is_whole else numpy.zeros(len(costs))
+        got = blocks.look(costs, blocks.Asked(numbers, rests, None, numpy.zeros(len(names), costs.dtype), most))
         found.append(Pairs(chosen[got.rows] + band.first, names[got.columns], got.costs))
     pairs = joined(found)
     return task, cheapest(pairs, numpy.zeros(len(columns)), most), looked
+
+
+def _outside_listed(band: Listing, rows: Any, columns: Any, most: int) -> Pairs:
+    """The same of listed pairs: at numbers above all costs for the marked rows, and at prices that lift the costs of
+    the other columns to these."""
+    kept = rows[band.rows]
+    names, local = numpy.unique(band.rows[kept], return_inverse=True)
+    numbers, none = numpy.full(len(names), ABOVE), numpy.zeros(len(names))
+    asked = blocks.Asked(numbers, none, None, numpy.where(columns, 0.0, LIFT), most)
+    got = blocks.look_listed(len(names), local, band.columns[kept], band.costs[kept], asked)
+    return Pairs(names[got.rows], got.columns, got.costs)
 
 
 def raised(source: Any, task: int, block: Any, rows: Any, numbers: Any) -> Any:

@@ -144,7 +144,8 @@ class Search:
     def solve_core(self) -> None:
         """The best plan of the core; where it has none, what it lacks is looked for in the blocks."""
         while True:
-            found = self.core.solve(self.units.whole(self.core.costs), self._out(), self._start())
+            with self.limited():
+                found = self.core.solve(self.units.whole(self.core.costs), self._out(), self._start())
             if isinstance(found, Plan):
                 self.plan = found
                 return
@@ -180,10 +181,14 @@ class Search:
         assert result is not None
         return result
 
+    def limited(self) -> library.limited:
+        """Within, the library's calls end when the caller's time is over."""
+        end = self.options.end
+        return library.limited(None if end is None else max(0.0, end - time.monotonic()))
+
     def _step(self) -> bool:
         """A plan of the core, and a look at all pairs; whether the search is over."""
-        with library.limited(None if self.options.end is None else max(0.0, self.options.end - time.monotonic())):
-            self.solve_core()
+        self.solve_core()
         plan = self.plan
         assert plan is not None
         paid, duals = self.paid(plan), self.duals(plan)
@@ -200,7 +205,9 @@ class Search:
             self.core.keep_cheapest(Duals(duals.prices, numbers, None), plan.columns, most)
             return False
         if is_exact:
-            self.is_proved = bounds.is_joint(self.form, plan.columns, duals, numbers, rests)
+            has_each = not (self.form.stay_out or self.form.is_turned or self.units.are_doubles)
+            self.is_proved = blocks.are_joint(plan.columns, paid, duals.prices) if has_each else (
+                bounds.is_joint(self.form, plan.columns, duals, numbers, rests))
             return True
         return self._finish(plan)
 

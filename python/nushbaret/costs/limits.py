@@ -16,6 +16,18 @@ GREATEST_PRICE = 9 * 10**18
 FEW = 1024
 
 
+class TooLarge(ValueError):
+    """A problem that is too large for the library: it has too many rows, columns or nodes, or too great costs."""
+
+
+def judge_size(n_rows: int, n_columns: int) -> None:
+    """Refuses numbers of rows and columns that no problem has."""
+    if n_rows < 0 or n_columns < 0:
+        raise ValueError(f"{n_rows} rows and {n_columns} columns: neither can be below 0")
+    if max(n_rows, n_columns) > MOST_PERSONS:
+        raise TooLarge(f"{n_rows} rows and {n_columns} columns: at most {MOST_PERSONS} of each are possible")
+
+
 class BorrowedNumbers:
     """A buffer of 64-bit numbers of another owner, which stays as long as this does."""
 

@@ -8,14 +8,10 @@ from typing import Any, Dict, Iterable, List, NamedTuple, Optional, Sequence, Tu
 
 from . import naming, parts, printing, reading as exact
 from .kinds import Costs, Doubles, WholeNumbers, chosen, plain, whole_numbers
-from .limits import MOST_PERSONS, BorrowedNumbers
+from .limits import MOST_PERSONS, BorrowedNumbers, judge_size
 from .numbers import Ratio, Unit
 
 Labels = Optional[Tuple[List[Any], List[Any]]]
-
-
-class TooLarge(ValueError):
-    """A problem that is too large for the library: it has too many rows, columns or nodes, or too great costs."""
 
 
 class AssignmentProblem(NamedTuple):
@@ -79,13 +75,6 @@ def _place_in(n_columns: int, labels: Labels) -> exact.Where:
         row, column = divmod(place, n_columns)
         return f"row {labels[0][row]}, column {labels[1][column]}" if labels else f"row {row}, column {column}"
     return where
-
-
-def _judge_size(n_rows: int, n_columns: int) -> None:
-    if n_rows < 0 or n_columns < 0:
-        raise ValueError(f"{n_rows} rows and {n_columns} columns: neither can be below 0")
-    if max(n_rows, n_columns) > MOST_PERSONS:
-        raise TooLarge(f"{n_rows} rows and {n_columns} columns: at most {MOST_PERSONS} of each are possible")
 
 
 def rows_of_any(costs: Any, manner: exact.Manner) -> List[Any]:
@@ -168,7 +157,7 @@ def native(view: memoryview) -> memoryview:
 def _of_view(view: memoryview, manner: exact.Manner) -> AssignmentProblem:
     """Of a memoryview: borrowed if it has the library's own kind of numbers."""
     n_rows, n_columns = _shape_of(view)
-    _judge_size(n_rows, n_columns)
+    judge_size(n_rows, n_columns)
     view = native(view)
     kind = view.format
     own = kind in ("q", "l") and view.itemsize == 8 and view.c_contiguous and not view.readonly
@@ -204,7 +193,7 @@ def _of_array(numpy: Any, costs: Any, manner: exact.Manner, labels: Labels) -> A
     if costs.ndim != 2:
         raise ValueError(f"expected a matrix (2-D array), got a {costs.ndim} array")
     n_rows, n_columns = costs.shape
-    _judge_size(n_rows, n_columns)
+    judge_size(n_rows, n_columns)
     read = exact.of_array(numpy, costs, manner, _place_in(n_columns, labels))
     return _dense(n_rows, n_columns, manner, read)._replace(arrays=numpy, labels=labels)
 
@@ -229,7 +218,7 @@ def _read_matrix(costs: Any, manner: exact.Manner) -> AssignmentProblem:
         else:
             return _of_view(view, manner)
     rows, n_columns, arrays = _rows_of(costs, manner)
-    _judge_size(len(rows), n_columns)
+    judge_size(len(rows), n_columns)
     read = exact.of_rows(rows, n_columns, manner, _place_in(n_columns, None))
     return _dense(len(rows), n_columns, manner, read)._replace(arrays=arrays)
 
@@ -423,7 +412,7 @@ def of_pairs(n_rows: Any, n_columns: Any, rows: Any, columns: Any, costs: Any, m
              labels: Labels = None) -> AssignmentProblem:
     """The problem of listed pairs, whose costs may be infinite or None to forbid a pair after all."""
     n_rows, n_columns = exact.whole_number(n_rows, "n_rows"), exact.whole_number(n_columns, "n_columns")
-    _judge_size(n_rows, n_columns)
+    judge_size(n_rows, n_columns)
     arrays = next(filter(None, map(exact.numpy_of, (costs, rows, columns))), None)
     persons, objects = _numbered(rows, n_rows, "rows"), _numbered(columns, n_columns, "columns")
 

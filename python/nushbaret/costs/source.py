@@ -2,7 +2,7 @@
 import copy
 from typing import Any, Dict, NamedTuple, Optional, Tuple
 
-from . import problem as reading, reading as exact, unmatched
+from . import left_out, problem as reading, reading as exact
 from .numbers import Ratio
 from .problem import AssignmentProblem, Labels
 
@@ -36,7 +36,7 @@ class Source(NamedTuple):
     manner: exact.Manner
     less: Tuple[Tuple[int, int], ...] = ()
     worst: Optional[Ratio] = None
-    out: Optional[unmatched.Unmatched] = None
+    out: Optional[left_out.Unmatched] = None
     labels: Labels = None
 
     def read(self) -> AssignmentProblem:
@@ -45,7 +45,7 @@ class Source(NamedTuple):
             raise ValueError(NO_COSTS)
         problem = self.own_problem()
         if self.out is not None:
-            problem = unmatched.extended(problem, self.out)
+            problem = left_out.extended(problem, self.out)
         for row, column in self.less:
             problem = reading.without_pair(problem, row, column)
         return problem if self.worst is None else reading.within(problem, self.worst)

@@ -6,8 +6,7 @@ from itertools import chain, compress
 from operator import itemgetter, le
 from typing import Any, Dict, Iterator, List, NamedTuple, NoReturn, Sequence, Tuple, Union
 
-from ..costs.limits import GREATEST_COST, MOST_PERSONS, Numbers
-from ..costs.problem import TooLarge
+from ..costs.limits import GREATEST_COST, MOST_PERSONS, Numbers, TooLarge
 from ..lap.library import PIECES, Pace, address, address_and_count, look_at_time, progress_asked
 
 Pair = Tuple[int, int]
@@ -21,6 +20,10 @@ class Bounds(NamedTuple):
 
     least: int
     most: int
+
+    def left(self, taken: int) -> "Bounds":
+        """What is left of them where so many are taken."""
+        return Bounds(max(0, self.least - taken), self.most - taken)
 
 
 class Counted(NamedTuple):

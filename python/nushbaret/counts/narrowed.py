@@ -132,19 +132,15 @@ def narrowed(counted: Counted, spare: Any, slack: int, row_bounds: Sequence[Boun
     columns: Dict[int, int] = {}
     of_rows = [rows.setdefault((row, free), len(rows)) for row, free, _, _ in order]
     of_columns = [columns.setdefault(column, len(columns)) for _, _, _, column in order]
-    sides = ([_less(row_bounds[row], had[row] + must[row]) if free else Bounds(must[row], must[row])
-              for row, free in rows], [_less(column_bounds[column], used[column]) for column in columns])
-    bounds = [[Bounds(max(0, bound.least), bound.most) for bound in side] for side in sides]
-    over = [frozenset(number for number, bound in enumerate(side) if bound.least < 0) for side in sides]
+    sides = ([(row_bounds[row], had[row] + must[row]) if free else (Bounds(must[row], must[row]), 0)
+              for row, free in rows], [(column_bounds[column], used[column]) for column in columns])
+    bounds = [[bound.left(taken) for bound, taken in side] for side in sides]
+    over = [frozenset(number for number, (bound, taken) in enumerate(side) if bound.least < taken) for side in sides]
     group_of = [group if group < counted.n_groups else counted.n_groups + number
                 for number, group in enumerate(map(counted.group_of.__getitem__, columns))]
     part = Counted(bounds[0], bounds[1], group_of, counted.n_groups, of_rows, of_columns, [])
     return Part(part, [row for row, _ in rows], list(columns), [place for _, _, place, _ in order], choice.taken,
                 frozenset(number for number, (_, free) in enumerate(rows) if not free), (over[0], over[1]))
-
-
-def _less(bounds: Bounds, count: int) -> Bounds:
-    return Bounds(bounds.least - count, bounds.most - count)
 
 
 def settled(counted: Counted, taken: Collection[Pair], left_out: Collection[Pair]) -> Counted:
@@ -155,7 +151,6 @@ def settled(counted: Counted, taken: Collection[Pair], left_out: Collection[Pair
         zip(counted.rows, counted.columns, counted.costs), counted.row_groups())
         if row_group not in gone and (row, column) not in left_out]
     rows, columns, costs = map(list, zip(*left)) if left else ([], [], [])
-    bounds = [[Bounds(max(0, bound.least - count[number]), bound.most - count[number])
-               for number, bound in enumerate(side)]
+    bounds = [[bound.left(count[number]) for number, bound in enumerate(side)]
               for side, count in ((counted.row_bounds, had), (counted.column_bounds, used))]
     return counted._replace(row_bounds=bounds[0], column_bounds=bounds[1], rows=rows, columns=columns, costs=costs)

@@ -20,7 +20,8 @@ from . import library, proved
 NAME = "nushbaret._extension"
 FILE = "_extension.abi3.so"
 # What the extension calls.
-EXPORTS = "nushbaret_doubles", "nushbaret_check_doubles", "nushbaret_dense_from", "nushbaret_sparse_from"
+EXPORTS = ("nushbaret_doubles", "nushbaret_check_doubles", "nushbaret_dense_from", "nushbaret_sparse_from",
+           "nushbaret_check")
 
 
 def extension() -> Any:
@@ -159,6 +160,11 @@ def _of_sparse(matrix: Any) -> Optional[Tuple[Any, ...]]:
         # Of pydata's, with 0 where nothing is stored.
         rows, columns = matrix.coords
         return (n_rows, n_columns, rows, columns, matrix.data, 0) if matrix.fill_value == 0 else None
+    if hasattr(matrix, "compressed_axes") and hasattr(matrix, "indptr"):
+        # Of pydata's too: row by row, or column by column.
+        if matrix.fill_value != 0:
+            return None
+        kind = "csr" if tuple(matrix.compressed_axes) == (0,) else "csc"
     if kind == "coo" and hasattr(matrix, "row"):
         return n_rows, n_columns, matrix.row, matrix.col, matrix.data, 0
     if kind == "csr" and hasattr(matrix, "indptr"):

@@ -11,7 +11,7 @@ from typing import Any, Callable, Dict, List, NamedTuple, Optional, Sequence, Tu
 
 from ..costs.limits import FEW, BorrowedNumbers, Numbers
 
-VERSION = "5.1.0"
+VERSION = "5.2.0"
 
 CODES = (
     "BEST", "HALL",
@@ -20,7 +20,7 @@ CODES = (
     "HALL_RANGE", "HALL_ORDER", "HALL_MISSING", "HALL_EXTRA", "HALL_COUNT",
     "OVERPRICED",
     "STOPPED", "",  # no code has the number 22
-    "UNDECIDED", "TIED",
+    "UNDECIDED", "TIED", "ALONE",
 )
 
 # What the library is called, where a checkout has it, and what makes it there.
@@ -57,7 +57,12 @@ class Record(ctypes.Structure):
 
 
 # How many lists each call takes.
-_LISTS = {"dense": 4, "dense_from": 5, "sparse": 6, "sparse_from": 7, "check": 5, "check_hall": 5}
+_LISTS = {"dense": 4, "dense_from": 5, "sparse": 6, "sparse_from": 7, "check": 5, "check_hall": 5, "bottleneck": 6,
+          "next": 5, "unique": 7}
+# What some take after these: a budget and a record; how many looks, another list, and where a number is written.
+_IN_PIECES = [ctypes.c_uint64, ctypes.c_void_p]
+_MORE = {"dense_from": _IN_PIECES, "sparse_from": _IN_PIECES, "bottleneck": _IN_PIECES,
+         "next": [ctypes.c_uint64, ctypes.c_void_p, ctypes.c_size_t, ctypes.c_void_p]}
 _loading = threading.Lock()
 _calls: Dict[str, Any] = {}
 
@@ -85,9 +90,8 @@ def _load() -> None:
     for name, lists in _LISTS.items():
         call = getattr(library, f"nushbaret_{name}")
         sense = [] if name == "check_hall" else [ctypes.c_uint32]
-        piece = [ctypes.c_uint64, ctypes.c_void_p] if name.endswith("_from") else []
-        call.argtypes = sense + [ctypes.c_size_t] * 2 + [ctypes.c_void_p,
-                                                         ctypes.c_size_t] * lists + piece + [ctypes.c_void_p]
+        call.argtypes = sense + [ctypes.c_size_t] * 2 + [ctypes.c_void_p, ctypes.c_size_t] * lists + _MORE.get(
+            name, []) + [ctypes.c_void_p]
         call.restype = ctypes.c_int32
         calls[name] = call
     with contextlib.suppress(MemoryError):
@@ -132,8 +136,8 @@ def address(export: str) -> int:
 
 
 def call(name: str, sense: Optional[bool], n: int, m: int, *lists: Any, piece: Sequence[int] = ()) -> Tuple[str, Info]:
-    """The name of the code, and its record. `sense` is None for `check_hall`; `piece` is a budget, and the address of
-    the record that says where a search stands. MemoryError where memory is refused."""
+    """The name of the code, and its record. `sense` is None for `check_hall`; `piece` is what stands after the lists,
+    as a budget, and the address of the record that says where a search stands. MemoryError where memory is refused."""
     info = Info()
     words: List[Any] = [n, m] if sense is None else [1 if sense else 0, n, m]
     for values in lists:
@@ -165,6 +169,26 @@ def searched(sense: bool, n: int, m: int, lists: Sequence[Any], first: Optional[
         if progress is not None and code in ("BEST", "STOPPED"):
             progress(n - written[0].count(0), n)
     return code, info
+
+
+def worst_pair(sense: bool, n: int, m: int, lists: Sequence[Any], written: Sequence[Numbers]) -> Tuple[str, Info]:
+    """What `nushbaret_bottleneck` says to a problem, in pieces as in `searched`. `written` are objects, persons and few
+    objects."""
+    record, code, info, pace = Record(), "STOPPED", Info(), Pace(PIECES["sparse"], len(lists[-1]))
+    while code == "STOPPED":
+        look_at_time()
+        code, info = call("bottleneck", sense, n, m, *lists, *written, piece=(pace.budget(), ctypes.addressof(record)))
+    return code, info
+
+
+def next_margin(sense: bool, n: int, m: int, lists: Sequence[Any], objects: Numbers,
+                prices: Numbers) -> Tuple[str, int]:
+    """What `nushbaret_next` says of a plan and its prices, and by how much the next best plan is worse."""
+    look_at_time()
+    margin, other = ctypes.c_int64(), array("I", bytes(4 * n))
+    code, _ = call("next", sense, n, m, *lists, objects, prices,
+                   piece=(_LOOKS_FOR_NEXT, *other.buffer_info(), ctypes.addressof(margin)))
+    return code, margin.value
 
 
 def progress_asked() -> Optional[Callable[[int, int], Any]]:
@@ -205,6 +229,8 @@ LONG = 2**27
 # The same of doubles, which mostly take a tenth of a second, for linear_sum_assignment and an Assigner.
 LONGEST = 2**33
 PIECES = {"dense": PieceSize(2 * 10**7, 10), "sparse": PieceSize(5 * 10**6, 4), "counts": PieceSize(5 * 10**6, 4)}
+# About a second, in which Ctrl-C and the time have to wait.
+_LOOKS_FOR_NEXT = 10**8
 _LONGEST_WAIT = 10.0**5
 _TIME_IS_OVER = "the time is over; nothing of the caller's was changed"
 

@@ -42,6 +42,16 @@ class Paths:
         self.n_rows, self.n_columns, self.rows_out, self.columns_out = len(lists), n_columns, rows_out, columns_out
         self.lists = lists + [(range(n_columns if columns_out else 0), repeat(0))]
 
+    def within(self, rows: List[int], columns: List[int], most: int) -> "Paths":
+        """The paths along pairs of a reduced cost of at most so much: all that are no longer."""
+        limits = [most + dual for dual in columns]
+        lists = []
+        for row, dual in enumerate(rows[:self.n_rows]):
+            own, values = self.lists[row]
+            kept = [(column, cost) for column, cost in zip(own, values) if cost - dual <= limits[column]]
+            lists.append(([column for column, _ in kept], [cost for _, cost in kept]))
+        return Paths(self.n_columns, lists, self.rows_out, self.columns_out)
+
     def choices(self, row: int) -> Iterable[Choice]:
         choices = zip(*self.lists[row])
         return [*choices, (self.n_columns, 0)] if self.rows_out and row < self.n_rows else choices

@@ -9,9 +9,9 @@ from fractions import Fraction
 from typing import Any, List, NamedTuple, NoReturn, Optional, Sequence, Tuple, Union
 
 from ..costs import naming
-from ..costs.limits import GREATEST_PRICE, MOST_PERSONS, Numbers
+from ..costs.limits import GREATEST_PRICE, MOST_PERSONS, Numbers, TooLarge
 from ..costs.orientation import by_rows, costs_by_persons, object_prices, oriented, row_and_column_duals
-from ..costs.problem import AssignmentProblem, TooLarge, listed
+from ..costs.problem import AssignmentProblem, listed
 from ..costs.reading import exact_ratio
 from . import library
 
@@ -128,6 +128,18 @@ def _searched(asked: Instance, maximize: bool, lists: Sequence[Any],
     if code == "BEST":
         return code, info, Assignment(n, m, info.total, objects, prices)
     return code, info, HallSet(persons[:info.persons], objects[:info.objects]) if code == "HALL" else None
+
+
+def is_only(problem: AssignmentProblem, best: Assignment) -> Optional[bool]:
+    """Whether `nushbaret_unique` proves that no other plan is as good as an answer without dummies, or names one that
+    is; None where it says neither, as of costs beyond its range."""
+    if best.prices is None or problem.costs.of_64_bits() is None or best.m != max(problem.n_rows, problem.n_columns):
+        return None
+    asked = instance_of(problem)
+    other, ranks = array("I", bytes(4 * asked.n)), array("i", bytes(4 * asked.m))
+    code, _ = library.call("unique", problem.maximize, asked.n, asked.m, *asked[2:], best.objects, best.prices, other,
+                           ranks)
+    return {"BEST": True, "TIED": False}.get(code)
 
 
 def best_of(asked: Instance) -> Assignment:

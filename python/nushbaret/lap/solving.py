@@ -1,8 +1,10 @@
 """The best plan of a problem: the library's, or by levels where costs are beyond its range."""
-from typing import List, NamedTuple, Optional, Union
+from array import array
+from typing import Any, List, NamedTuple, Optional, Tuple, Union
 
+from ..costs.kinds import WholeNumbers
 from ..costs.problem import AssignmentProblem, costs_of_pairs
-from . import levels, proved
+from . import levels, library, proved
 from .matching import most_served
 
 Outcome = Union[proved.Assignment, proved.HallSet]
@@ -42,6 +44,43 @@ def least_sum(problem: AssignmentProblem, served: int) -> Optional[int]:
     answer = solved(problem, None, served)
     return None if isinstance(answer, proved.HallSet) else sum(costs_of_pairs(problem,
                                                                               *proved.pairs_of(problem, answer)))
+
+
+def worst_needed(problem: AssignmentProblem, served: int) -> Any:
+    """The cost of the worst pair in a plan of so many pairs whose worst pair is as good as possible. The library proves
+    that each plan of so many pairs has one as bad."""
+    found = None if problem.costs.of_64_bits() is None else _worst(problem, served)
+    if found is not None:
+        return found
+    # Only the order of costs matters.
+    values, ranks = _ranks(problem)
+    found = _worst(problem._replace(costs=WholeNumbers(ranks, numpy=problem.numpy)), served)
+    return values[found or 0]
+
+
+def _worst(problem: AssignmentProblem, served: int) -> Optional[int]:
+    """The same by the library; None where a cost is beyond its range. Staying out costs as much as the best pair."""
+    out = 0
+    if served < min(problem.n_rows, problem.n_columns):
+        out = int((max if problem.maximize else min)(problem.costs.numbers))
+    asked = proved.instance_of(problem, served, out)
+    written = [array("I", bytes(4 * asked.n)) for _ in range(3)]
+    code, info = library.worst_pair(problem.maximize, asked.n, asked.m, (asked.persons, asked.objects, asked.costs),
+                                    written)
+    if code not in ("BEST", "COST"):
+        proved.refuse(code, info)
+    return info.total if code == "BEST" else None
+
+
+def _ranks(problem: AssignmentProblem) -> Tuple[Any, Any]:
+    """The different costs, rising, and the place of each cost among them."""
+    if problem.numpy:
+        values, ranks = problem.numpy.unique(problem.costs.numbers, return_inverse=True)
+        return values.tolist(), ranks.reshape(-1).astype(problem.numpy.int64)
+    numbers = problem.costs.listed()
+    values = sorted(set(numbers))
+    places = {value: place for place, value in enumerate(values)}
+    return values, array("q", [places[number] for number in numbers])
 
 
 class BestPlan(NamedTuple):

@@ -1,7 +1,9 @@
-"""Answers by names: the plan of a roster, or who is short of what."""
+"""Answers by names: the plan of a roster, or who is short of what; plans whose dearest pair is as cheap as possible;
+and what changes from an earlier plan: who loses which pairs, and who gets which."""
+from array import array
 from collections import Counter
-from itertools import islice
-from typing import List, Mapping, NamedTuple, Optional, Sequence, Set, Tuple
+from itertools import compress, islice
+from typing import Callable, Dict, Iterable, List, Mapping, NamedTuple, Optional, Sequence, Set, Tuple
 
 from ..costs.limits import Numbers
 from ..counts.counted import Bounds
@@ -10,13 +12,15 @@ from ..lap.matching import short_groups
 from ..lap.proved import rents
 from ..lap.ranking import plans_in_order
 from ..lap.solving import BestPlan, best_plan
-from .groups import missing_of, order_of
-from .names import NamesShown, joined, numbered
-from .roster import PlanLine, Roster
+from .groups import Paired, missing_of, order_of
+from .names import SHARED, NamesShown, joined, numbered
+from .roster import OldPlan, PlanLine, Roster
 from .single_nodes import (Edges, RosterNodes, Swap, changed, face_of, fewest_changes, is_only_one, least_costs,
     nodes_without, problem_of, swaps_of)
 
 MOST_NAMES_SHOWN = 20
+# A person and an object, by number.
+Numbered = Tuple[int, int]
 
 
 class Pair(NamedTuple):
@@ -205,10 +209,7 @@ def _part_of(name: str, had: int, wanted: int) -> str:
 
 
 # Titles are in any language, so plurals are of these words alone.
-PLURALS = {"person": "people", **{word: word + "s" for word in ("object", "pair", "nurse", "doctor", "worker", "driver",
-                                                                "teacher", "student", "volunteer", "vehicle", "shift",
-                                                                "job", "task", "place", "day", "room", "course",
-                                                                "project", "seat")}}
+PLURALS = {"person": "people", **{word: word + "s" for word in SHARED.with_s.split()}}
 
 
 def counted(count: int, word: str) -> str:
@@ -276,3 +277,131 @@ def _advice_on_objects(short: ShortGroup) -> str:
     if len(short.objects) == 1:
         return "allow it to somebody, or leave it open"
     return "allow each to somebody, or leave them open"
+
+
+Solve = Callable[[Roster, Request], Answer]
+
+
+def fair_answer(roster: Roster, request: Request, solve: Solve) -> Tuple[Answer, Optional[Fair]]:
+    """The plan of the least cost among those whose dearest pair, of those that aren't fixed, is as cheap as possible;
+    and what is to be said of it. Without a plan, or with fixed pairs alone, there is nothing to be said.
+
+    A bound on costs that leaves plans as full as before is looked for by halving."""
+    best = solve(roster, request._replace(kept=None))
+    dearest = _dearest(best.plan, request)
+    if best.plan is None or dearest is None:
+        return best, None
+    values = _values(roster, request, dearest.cost)
+    lower, upper = -1, len(values) - 1
+    while upper - lower > 1:
+        middle = (lower + upper) // 2
+        tried = solve(_within(roster, request, values[middle]), request._replace(kept=None))
+        if tried.plan is not None and _fullness(roster, tried.plan) == _fullness(roster, best.plan):
+            upper = middle
+        else:
+            lower = middle
+    answer = solve(_within(roster, request, values[upper]), request)
+    if answer.plan is None:
+        raise RuntimeError("a bound on costs was found to leave a plan, and then it left none")
+    return Answer(answer.plan, best.groups), Fair(_dearest(answer.plan, request), best.plan, dearest)
+
+
+def _dearest(plan: Optional[NamedPlan], request: Request) -> Optional[Pair]:
+    """The dearest pair of a plan that isn't fixed, the first of several; with the greatest cost in demand, the
+    cheapest."""
+    pairs = [] if plan is None else [pair for pair in plan.pairs if not pair.fixed]
+    if not pairs:
+        return None
+    return (min if request.maximize else max)(pairs, key=lambda pair: pair.cost)
+
+
+def _fullness(roster: Roster, plan: NamedPlan) -> Tuple[int, int]:
+    """How many are missing, and of how many pairs a plan is where the smaller side takes all."""
+    lack = sum(missing.least - missing.had for missing in missing_of(roster, plan.pairs))
+    return lack, 0 if roster.has_bounds else len(plan.pairs)
+
+
+def _values(roster: Roster, request: Request, enough: int) -> List[int]:
+    """The different costs, the best first, up to one that is enough."""
+    costs = set(roster.costs)
+    if request.maximize:
+        return sorted((cost for cost in costs if cost >= enough), reverse=True)
+    return sorted(cost for cost in costs if cost <= enough)
+
+
+def _within(roster: Roster, request: Request, worst: int) -> Roster:
+    """The roster without the pairs that are worse than a cost."""
+    is_kept = [cost >= worst if request.maximize else cost <= worst for cost in roster.costs]
+    persons, objects, costs = (array(values.typecode, compress(values, is_kept))
+                               for values in (roster.of_persons, roster.of_objects, roster.costs))
+    return roster._replace(of_persons=persons, of_objects=objects, costs=costs)
+
+
+class Lost(NamedTuple):
+    """A pair of an earlier plan that can't be any more, by names, and why."""
+
+    person: str
+    object: str
+    why: str
+
+
+class Changes(NamedTuple):
+    """The pairs that an earlier plan doesn't have, those that it has and could still be, and those that can't be any
+    more, which count as no changes."""
+
+    comes: List[Pair]
+    goes: List[PlanLine]
+    lost: List[Lost]
+
+
+def pairs_of(pairs: Iterable[Paired]) -> Set[Numbered]:
+    """The persons and objects of pairs, by number."""
+    return {(pair.person, pair.object) for pair in pairs}
+
+
+def changes_of(roster: Roster, plan: NamedPlan, kept: OldPlan) -> Changes:
+    """What changed from an earlier plan, in the order of persons."""
+    before, now = pairs_of(kept.known), pairs_of(plan.pairs)
+    left = [pair for pair in sorted(kept.known) if (pair.person, pair.object) not in now]
+    full = full_pairs(roster, plan.pairs, [(pair.person, pair.object) for pair in left])
+    return Changes([pair for pair in plan.pairs if (pair.person, pair.object) not in before],
+                   [pair for pair in left if (pair.person, pair.object) not in full], _lost(roster, kept, full, now))
+
+
+def full_pairs(roster: Roster, given: Iterable[Paired], pairs: Iterable[Numbered]) -> Set[Numbered]:
+    """Those of some pairs whose person takes no more than it has in the past, which `given` has, or whose object takes
+    nobody."""
+    past = Counter(pair.person for pair in given if pair.object in roster.past)
+    return {(person, object_) for person, object_ in pairs
+            if roster.tasks_of(person) <= past[person] or roster.capacity_of(object_) == 0}
+
+
+def _lost(roster: Roster, kept: OldPlan, full: Set[Numbered], now: Set[Numbered]) -> List[Lost]:
+    """What of an earlier plan can't be any more: names are gone, or take none, or a pair is forbidden."""
+    lost = []
+    gone = set(kept.gone)
+    forbidden = {(person, object_) for person, object_, _ in kept.forbidden}
+    for person, object_ in kept.pairs:
+        pair = roster.person_numbers.get(person, -1), roster.object_numbers.get(object_, -1)
+        is_gone = person in gone or object_ in gone
+        if pair not in now and (is_gone or pair in full or pair in forbidden):
+            lost.append(Lost(person, object_, "gone" if is_gone else "takes none" if pair in full else "forbidden"))
+    return lost
+
+
+class OfPerson(NamedTuple):
+    """The objects that a person has no more, and those that are new."""
+
+    person: str
+    goes: List[str]
+    comes: List[str]
+
+
+def by_person(roster: Roster, changes: Changes) -> List[OfPerson]:
+    """The changes of each person that has any, in the roster's order."""
+    found: Dict[int, Tuple[List[str], List[str]]] = {}
+    for pair in changes.goes:
+        found.setdefault(pair.person, ([], []))[0].append(roster.objects[pair.object])
+    for new in changes.comes:
+        found.setdefault(new.person, ([], []))[1].append(roster.objects[new.object])
+    return [OfPerson(roster.persons[person], *found[person]) for person in sorted(found)]

@@ -63,18 +63,14 @@ def bounds_around(roster: Roster, fixed: Sequence[PlanLine]) -> Tuple[List[Bound
     """How many each person and each object takes in addition to fixed pairs, in the past none. With single numbers the
     smaller side takes all."""
     had, used = Counter(pair.person for pair in fixed), Counter(pair.object for pair in fixed)
-    persons = [_less(roster.of_person(person), had[person]) for person in range(len(roster.persons))]
-    objects = [Bounds(0, 0) if object_ in roster.past else _less(roster.of_object(object_), used[object_])
+    persons = [roster.of_person(person).left(had[person]) for person in range(len(roster.persons))]
+    objects = [Bounds(0, 0) if object_ in roster.past else roster.of_object(object_).left(used[object_])
                for object_ in range(len(roster.objects))]
     if roster.has_bounds:
         return persons, objects
     served = persons if sum(own.most for own in persons) <= sum(own.most for own in objects) else objects
     served[:] = [Bounds(own.most, own.most) for own in served]
     return persons, objects
-
-
-def _less(bounds: Bounds, count: int) -> Bounds:
-    return Bounds(max(0, bounds.least - count), bounds.most - count)
 
 
 def _around(roster: Roster, fixed: Sequence[PlanLine]) -> str:

@@ -11,14 +11,14 @@ import re
 import sys
 from typing import TYPE_CHECKING, List, Optional, Sequence, Tuple
 
-from ..costs.problem import TooLarge
+from ..costs.limits import TooLarge
 from ..costs.reading import MOST_UNIT_DECIMALS
 from .answer import Answer, Fair, Request, answer_of
 from .files import (STANDARD_OUTPUT, Output, OutputFault, is_device, make_folder, print_content, refuse_existing,
     write_files)
 from .forms import read_roster
 from .groups import read_counts, read_groups, refuse_two_of_a_group, with_rules
-from .names import quoted, shown_path, without_marks
+from .names import quoted, said, shown_path, without_marks
 from .output.texts import (Hand, Report, as_csv, changes_as_csv, first_lines, forgotten_line, gone_line,
     in_encoding_of, printed, read_lines)
 from .roster import OldPlan, PlanLine, Roster, read_hand_plan, read_old_plan, read_plan
@@ -206,7 +206,7 @@ def _answered(roster: Roster, request: Request, is_fair: bool) -> Tuple[Answer, 
         solve = answer_by_counts
     if not is_fair:
         return solve(roster, request), None
-    from .fair import fair_answer
+    from .answer import fair_answer
     return fair_answer(roster, request, solve)
 
 
@@ -220,8 +220,7 @@ def _read(options: Options) -> Roster:
         tasks = read_counts(options.tasks, roster, False) if options.tasks else None
         capacities = read_counts(options.places, roster, True) if options.places else None
         if capacities is not None and capacities.wanted and options.rules is None:
-            raise RosterFault(capacities.path, "what is wanted has a price, which a plan by --rules weighs; a rules' "
-                              "file may have its title line alone")
+            raise RosterFault(capacities.path, said("wanted"))
         _refuse_without_groups(options, roster)
         roster = with_rules(roster, tasks, capacities, read_groups(options.groups, roster, options.before is not None)
                             if options.groups else None)

@@ -8,7 +8,7 @@ from typing import Iterable, List, NoReturn, Optional, Protocol, Sequence, Tuple
 
 from ..costs.limits import GREATEST_COST, Numbers
 from ..costs.reading import MOST_UNIT_DECIMALS
-from .names import quoted
+from .names import quoted, said
 
 MILLION = 10**MOST_UNIT_DECIMALS
 ZEROS = "0" * MOST_UNIT_DECIMALS
@@ -101,7 +101,7 @@ class CostColumn:
         """Takes a cell, or refuses it."""
         found = self._plain.fullmatch(cell) or self._plain.fullmatch(self._without_power(cell))
         if found is None:
-            self._sheet.refuse(f"{quoted(cell)} is no number{self._hint(cell)}", line, column)
+            self._sheet.refuse(said("no cost", quoted(cell), self._hint(cell)), line, column)
         sign, whole, part = found.groups("")
         if self._rounds is not None and len(part) > self._rounds:
             whole, part = self._round(whole, part, self._rounds)
@@ -132,7 +132,7 @@ class CostColumn:
     def _more_decimals(self, cell: str, decimals: int, line: int, column: int) -> None:
         if decimals > self._most:
             hint = f": --decimals {decimals} allows it" if decimals <= MOST_UNIT_DECIMALS else ""
-            self._sheet.refuse(f"{quoted(cell)} has more than {self._most} decimal places{hint}", line, column)
+            self._sheet.refuse(said("many places", quoted(cell), self._most, hint), line, column)
         self._decimals = decimals
 
     def scaled(self) -> Tuple[int, Numbers]:
@@ -148,16 +148,16 @@ class CostColumn:
 
     def _hint(self, cell: str) -> str:
         if self._comma and re.fullmatch(r"[+-]?[0-9]+\.[0-9]+", cell):
-            return " with a decimal comma"
+            return said("comma")
         if not self._comma and re.fullmatch("[+-]?[0-9]+,[0-9]+", cell):
             return "; with --decimal-comma it may be"
         if cell.lower() in ("x", "-", "n/a"):
-            return "; what forbids a pair is an empty cell of a matrix, or no line"
+            return said("forbids")
         return ""
 
     def _out_of_range(self, decimals: int, line: int, column: int) -> NoReturn:
-        shown = f" with {decimals} decimal places" if decimals else ""
-        self._sheet.refuse(f"a cost beyond {GREATEST_COST // 10**decimals}{shown}", line, column)
+        shown = said("with places", decimals) if decimals else ""
+        self._sheet.refuse(said("beyond", GREATEST_COST // 10**decimals, shown), line, column)
 
 
 def _in_unit(numbers: Numbers, more: int) -> Numbers:

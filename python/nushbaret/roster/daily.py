@@ -5,7 +5,7 @@ from typing import Dict, List, NamedTuple, Optional, Sequence, Tuple
 
 from .costs import CostColumn
 from .dates import dates_of, spellings
-from .names import quoted
+from .names import quoted, said
 from .roster import TITLES, Groups, Names, Read, looks_like_number
 from .sheets import Sheet
 
@@ -78,7 +78,7 @@ def read_daily_lines(sheet: Sheet, costs: CostColumn) -> Daily:
         object_ = objects.number(cells[day], cells[3 - day], line, (day + 1, 4 - day))
         first = before.setdefault((person, object_), line)
         if first != line:
-            sheet.refuse(f"the pair {cells[0]}, {objects.names.list[object_]} a second time, after line {first}", line)
+            sheet.refuse(said("pair twice", cells[0], objects.names.list[object_], first), line)
         costs.take(cells[3], line, 4)
         of_persons.append(person)
         of_objects.append(object_)
@@ -137,12 +137,12 @@ def read_daily_matrix(sheet: Sheet, costs: CostColumn) -> Daily:
     for column, (day, shift) in enumerate(zip(heads.days, heads.shifts), 2):
         number = objects.number(day, shift, heads.lines[1], (column, column))
         if number in columns:
-            sheet.refuse(f"{quoted(shift)} a second time on {quoted(day)}", heads.lines[1], column)
+            sheet.refuse(said("shift twice", quoted(shift), quoted(day)), heads.lines[1], column)
         columns.append(number)
     of_persons, of_objects = array("I"), array("I")
     for line, cells in list(sheet.records())[2:]:
         if any(cells[len(columns) + 1:]):
-            sheet.refuse(f"{len(cells)} cells, where the title rows have {len(columns) + 1}", line)
+            sheet.refuse(said("cells of two titles", len(cells), len(columns) + 1), line)
         person = persons.once(cells[0], line, 1)
         for column, (object_, cell) in enumerate(zip(columns, cells[1:]), 2):
             if cell:
@@ -150,6 +150,6 @@ def read_daily_matrix(sheet: Sheet, costs: CostColumn) -> Daily:
                 of_persons.append(person)
                 of_objects.append(object_)
     if not persons.list:
-        sheet.refuse("no line after the titles", heads.lines[1])
+        sheet.refuse(said("no line after two"), heads.lines[1])
     corner = sheet.name(heads.corner, heads.lines[1], 1) if heads.corner else TITLES[0]
     return Daily(((corner, _SHIFT, TITLES[2]), persons, objects.names, of_persons, of_objects), objects.groups)

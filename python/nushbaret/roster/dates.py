@@ -1,4 +1,5 @@
-"""Names that are dates with a year, such as 2027-03-01, 01.03.2027 or, where another has the year, Mo 01.03."""
+"""Names that are dates with a year, such as 2027-03-01, 01.03.2027 or, where another has the year, Mo 01.03; and times
+of day in a file of groups: columns titled `from` and `to`."""
 import re
 import unicodedata
 from bisect import bisect_left
@@ -6,20 +7,16 @@ from datetime import date, timedelta
 from functools import lru_cache
 from typing import Dict, FrozenSet, List, NamedTuple, Optional, Sequence, Tuple
 
-DAY_NAMES = ("Mon", "Tue", "Wed", "Thu", "Fri", "Sat", "Sun")
+from .names import SHARED, quoted, said
+from .sheets import Sheet
+
+DAY_NAMES = SHARED.day_names.split()
 SATURDAY = 5
 HALF_A_YEAR = timedelta(days=183)
 # Files of calendars have years of four digits, and the week of a later day would end after the last day of Python's.
 FIRST, LAST = date(1000, 1, 1), date(9999, 12, 26)
 # The days of the week from Monday, without accents, in English, German, French, Spanish, Italian and Dutch.
-LANGUAGES = tuple(tuple(day.split("/") for day in week.split()) for week in (
-    "monday tuesday wednesday thursday friday saturday sunday",
-    "montag dienstag mittwoch donnerstag freitag samstag/sonnabend sonntag",
-    "lundi mardi mercredi jeudi vendredi samedi dimanche",
-    "lunes martes miercoles jueves viernes sabado domingo",
-    "lunedi martedi mercoledi giovedi venerdi sabato domenica",
-    "maandag dinsdag woensdag donderdag vrijdag zaterdag zondag",
-))
+LANGUAGES = tuple(tuple(day.split("/") for day in week.split()) for week in SHARED.weekdays)
 # Tuesday in three of these languages, and March in five.
 MARCH = "mar"
 WORD = r"[^\W\d_]{2,}"
@@ -28,6 +25,9 @@ DATE = re.compile(
     r"(?:(?P<year>[0-9]{4})-(?P<month>[0-9]{1,2})-(?P<day>[0-9]{1,2})"
     r"|(?P<own_day>[0-9]{1,2})\.\s?(?P<own_month>[0-9]{1,2})(?:\.\s?(?P<own_year>[0-9]{4})?)?)"
     rf"(?:,?\s*\(?(?P<after>{WORD})\.?\)?)?")
+FROM, TO = "from", "to"
+DAY = 24 * 60
+TIME = re.compile("([0-9]{1,2}):([0-9]{2})(?::00)?")
 
 
 class _Written(NamedTuple):
@@ -177,3 +177,58 @@ def spellings(name: str) -> Tuple[str, ...]:
     dashed = (f"{day.year}-{month}-{own}" for month in months for own in days)
     dotted = (f"{own}.{space}{month}.{space}{day.year}" for space in ("", " ") for own in days for month in months)
     return tuple(dict.fromkeys((*dashed, *dotted, name)))
+
+
+class Times(NamedTuple):
+    """When an object begins and ends, in minutes after the midnight at which its day begins."""
+
+    begin: int
+    end: int
+
+    def shown(self) -> str:
+        """The times as people write them; the next day's have a mark."""
+        return f"{_clock(self.begin)}\u2013{_clock(self.end)}" + (" (+1)" if self.end > DAY else "")
+
+
+def _clock(minutes: int) -> str:
+    """A time of day; the end of a day is 24:00."""
+    hour, minute = divmod(minutes if minutes <= DAY else minutes - DAY, 60)
+    return f"{hour:02}:{minute:02}"
+
+
+class Columns(NamedTuple):
+    """Which cells of a line, from 0, have the times."""
+
+    begin: int
+    end: int
+
+
+def columns_of(sheet: Sheet, title: Sequence[str], line: int) -> Optional[Columns]:
+    """The columns of times after the first two, if there are any. Refuses one without the other."""
+    places = [[place for place, cell in enumerate(title) if place > 1 and cell.casefold() == word]
+              for word in (FROM, TO)]
+    if not any(places):
+        return None
+    for own, word, other in zip(places, (FROM, TO), (TO, FROM)):
+        if len(own) != 1:
+            sheet.refuse(said("times", len(own), quoted(word), quoted(other)) if own
+                         else said("one time", quoted(other), quoted(word)), line)
+    return Columns(places[0][0], places[1][0])
+
+
+def times_of(sheet: Sheet, cells: List[str], columns: Columns, line: int) -> Optional[Times]:
+    """The times of a line, None where both cells are empty. What ends before it begins, or when it begins, ends on the
+    next day."""
+    if not cells[columns.begin] and not cells[columns.end]:
+        return None
+    begin, end = (_minutes(sheet, cells[place], line, place + 1, most)
+                  for place, most in ((columns.begin, DAY - 1), (columns.end, DAY)))
+    return Times(begin, end if end > begin else end + DAY)
+
+
+def _minutes(sheet: Sheet, cell: str, line: int, column: int, most: int) -> int:
+    """A time of day in minutes, at most so many."""
+    found = TIME.fullmatch(cell)
+    if found is None or int(found[2]) > 59 or int(found[1]) * 60 + int(found[2]) > most:
+        sheet.refuse(said("no time", quoted(cell)), line, column)
+    return int(found[1]) * 60 + int(found[2])

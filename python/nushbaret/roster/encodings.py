@@ -3,6 +3,8 @@ Windows."""
 import re
 from typing import NamedTuple, NoReturn, Optional
 
+from .names import SHARED, said
+
 SAVE = "save the sheet as 'CSV UTF-8'"
 WESTERN = "Windows-1252"
 # Four bytes go first: the shorter marks begin as they do.
@@ -12,10 +14,7 @@ BOMS = ((b"\xff\xfe\x00\x00", "utf-32"), (b"\x00\x00\xfe\xff", "utf-32"), (b"\xe
 SPREADSHEETS = (b"PK\x03\x04", b"\xd0\xcf\x11\xe0")
 # Without what other encodings use for common letters: Mac OS Roman has letters at the bytes of Š, Ž, š, ž and Ÿ,
 # Latin-9 the euro at that of the general sign of currency.
-LETTERS = "\u0152\u0153" + "".join(chr(code) for code in range(0xC0, 0x100) if code not in (0xD7, 0xF7))
-MARKS = ("\u20ac\u00a2\u00a3\u00a5\u2013\u2014\u2018\u2019\u201a\u201c\u201d\u201e\u2039\u203a\u00ab\u00bb"
-         "\u00b0\u00a7\u00a0")
-PLAUSIBLE = bytes(range(128)) + (LETTERS + MARKS).encode(WESTERN)
+PLAUSIBLE = bytes(range(128)) + "".join(SHARED.western.values()).encode(WESTERN)
 NOT_PLAUSIBLE = re.compile(b"[^" + re.escape(PLAUSIBLE) + b"]")
 # DOS has letters with accents where Windows has these quotes, which stand between letters in no text.
 QUOTE_IN_WORD = re.compile("[A-Za-z][\u201a\u201c\u201d\u201e][a-z]".encode(WESTERN))
@@ -72,9 +71,8 @@ def _refuse_nuls(data: bytes) -> NoReturn:
     sample = data[:SAMPLE]
     least, most = sorted((sample[::2].count(0), sample[1::2].count(0)))
     if most >= max(4, len(sample) / 16, 8 * least):
-        raise Undecodable(f"a text in UTF-16 without a mark (BOM) at its beginning: {SAVE}, or name its encoding by "
-                          "--encoding")
-    what = "NUL bytes, which no text has" if data.strip(b"\0") else "NUL bytes alone, and no text"
+        raise Undecodable(f"{said('UTF-16')}: {SAVE}, or name its encoding by --encoding")
+    what = said("NUL" if data.strip(b"\0") else "NUL alone")
     raise Undecodable(f"{what}: {SAVE}, or name its encoding by --encoding", data.index(b"\0"))
 
 

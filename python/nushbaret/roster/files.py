@@ -1,11 +1,13 @@
-"""The files that the command writes: each whole, or not at all."""
+"""The files that the command writes: each whole, or not at all; and Ctrl-C during work that is cleaned up after."""
+import contextlib
 import os
+import signal
 import stat
 import sys
 import tempfile
-from typing import BinaryIO, NamedTuple, Sequence, Tuple, Union
+import threading
+from typing import BinaryIO, Iterator, NamedTuple, Sequence, Tuple, Union
 
-from .interrupts import interrupts_raise
 from .names import shown_path
 
 KINDS = ("csv", "json", "html", "xlsx")
@@ -128,3 +130,17 @@ def print_content(content: Union[str, bytes]) -> None:
     except OSError as fault:
         sys.stdout = open(os.devnull, "w")
         raise OutputFault(f"standard output: {fault.strerror}") from fault
+
+
+@contextlib.contextmanager
+def interrupts_raise() -> Iterator[None]:
+    """Lets Ctrl-C raise, where it would end the process at once; so files and processes that were begun are removed."""
+    is_main = threading.current_thread() is threading.main_thread()
+    if not is_main or signal.getsignal(signal.SIGINT) is not signal.SIG_DFL:
+        yield
+        return
+    signal.signal(signal.SIGINT, signal.default_int_handler)
+    try:
+        yield
+    finally:
+        signal.signal(signal.SIGINT, signal.SIG_DFL)

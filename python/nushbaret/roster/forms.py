@@ -7,7 +7,7 @@ from typing import Dict, Optional, Sequence, Set
 from ..costs.limits import MOST_PERSONS
 from . import daily
 from .costs import CostColumn
-from .names import quoted
+from .names import quoted, said
 from .roster import LINES, MATRIX, TITLES, Names, Read, Roster, looks_like_number
 from .sheets import Reading, RosterFault, Sheet
 
@@ -104,10 +104,10 @@ def _read_sure_lines(sheet: Sheet, costs: CostColumn) -> Read:
 def _read_lines(sheet: Sheet, costs: CostColumn) -> Read:
     line, title = sheet.title()
     if len(title) != 3:
-        fourth = f" ({quoted(title[3])} is a fourth column)" if len(title) > 3 else ""
-        sheet.refuse(f"{len(title)} titles, where a person, an object and a cost are needed{fourth}", line)
+        fourth = said("fourth", quoted(title[3])) if len(title) > 3 else ""
+        sheet.refuse(said("titles", len(title), fourth), line)
     if looks_like_number(title[2]):
-        sheet.refuse(f"a title line must come first, and {quoted(title[2])} is a number", line, 3)
+        sheet.refuse(said("no title", quoted(title[2])), line, 3)
     first, second, third = (sheet.name(cell, line, column) if cell else TITLES[column - 1]
                             for column, cell in enumerate(title, 1))
     reading = Lines(sheet, costs)
@@ -118,7 +118,7 @@ def _read_lines(sheet: Sheet, costs: CostColumn) -> Read:
     finally:
         reading.refuse_twice()
     if not reading.of_persons:
-        sheet.refuse("no line after the title", line)
+        sheet.refuse(said("no line"), line)
     return (first, second, third), reading.persons, reading.objects, reading.of_persons, reading.of_objects
 
 
@@ -164,16 +164,15 @@ class Lines:
         for pair, (line, cells) in zip(self._pairs, self._sheet.body(3)):
             before = lines.setdefault(pair, line)
             if before != line:
-                self._sheet.refuse(f"the pair {cells[0]}, {cells[1]} a second time, after line {before}", line)
+                self._sheet.refuse(said("pair twice", cells[0], cells[1], before), line)
 
 
 def _read_matrix(sheet: Sheet, costs: CostColumn) -> Read:
     first, title = sheet.title()
     if looks_like_number(title[0]):
-        sheet.refuse(f"the first line and the first column must have names, and {quoted(title[0])} is a number", first,
-                     1)
+        sheet.refuse(said("number for a title", quoted(title[0])), first, 1)
     if len(title) < 2:
-        sheet.refuse("no object after the first column", first)
+        sheet.refuse(said("no object"), first)
     persons, objects = Names(sheet, "persons"), Names(sheet, "objects")
     of_persons, of_objects = array("I"), array("I")
     for column, name in enumerate(title[1:], 2):
@@ -190,6 +189,6 @@ def _read_matrix(sheet: Sheet, costs: CostColumn) -> Read:
         of_persons.extend(array("I", (person,)) * len(own))
         of_objects.extend(own)
     if not persons.list:
-        sheet.refuse("no line after the title", first)
+        sheet.refuse(said("no line"), first)
     corner = sheet.name(title[0], first, 1) if title[0] else TITLES[0]
     return (corner, *TITLES[1:]), persons, objects, of_persons, of_objects

@@ -5,12 +5,10 @@ from typing import Dict, Iterator, List, NamedTuple, Optional, Protocol, Sequenc
 
 from ..costs.limits import MOST_PERSONS
 from ..counts.counted import Bounds
-from .cells import is_plain
-from .dates import spellings
-from .names import quoted
+from .dates import Times, columns_of, spellings, times_of
+from .names import is_plain, quoted, said
 from .roster import TITLES, Earlier, Groups, PlanLine, Roster, Takes, Wanted, known, looks_like_number
 from .sheets import RosterFault, Sheet, item_of
-from .times_of_day import Times, columns_of, times_of
 
 
 class Counts(NamedTuple):
@@ -39,9 +37,9 @@ def read_counts(path: str, roster: Roster, of_objects: bool) -> Counts:
     sheet = Sheet(path, reading=roster.reading)
     line, title = sheet.title()
     if len(title) < 2:
-        sheet.refuse("each line must have a name and how many it takes", line)
+        sheet.refuse(said("name and count"), line)
     if looks_like_number(title[1]):
-        sheet.refuse(f"a title line must come first, and {quoted(title[1])} is a number", line, 2)
+        sheet.refuse(said("no title", quoted(title[1])), line, 2)
     if of_objects and any(cell.casefold() in (WANTED, PRICE) for cell in title[1:]):
         return _Wanting(sheet, roster, title, line).counts()._replace(title=title[0])
     bounds: Dict[int, Bounds] = {}
@@ -58,7 +56,7 @@ def read_counts(path: str, roster: Roster, of_objects: bool) -> Counts:
             continue
         number = known(sheet, roster, cells[0], line, 2 if of_objects else 1, 1)
         if number in bounds:
-            sheet.refuse(f"the name {quoted(cells[0])} a second time", line, 1)
+            sheet.refuse(said("name twice", quoted(cells[0])), line, 1)
         bounds[number] = _bounds(sheet, cells[1:], limit, line)
         are_ranges = are_ranges or len(cells) == 3
         for column, name in zip(title[first:], others):
@@ -119,7 +117,7 @@ class _Wanting:
         for line, cells in records:
             number = known(self._sheet, self._roster, cells[0], line, 2, 1)
             if number in bounds:
-                self._sheet.refuse(f"the name {quoted(cells[0])} a second time", line, 1)
+                self._sheet.refuse(said("name twice", quoted(cells[0])), line, 1)
             bounds[number] = self._bounds(cells, line)
             own = self._wanted(cells, bounds[number], line)
             wanted.update({number: own} if own else {})
@@ -137,8 +135,7 @@ class _Wanting:
         least, most = (self._number(cells, name, line) for name in (LEAST, MOST))
         limit = max(len(self._roster.persons), least or 0)
         if least is not None and most is not None and least > most:
-            self._sheet.refuse(f"at least {least} and at most {most}: the second number can't be less", line,
-                               self._columns[MOST] + 1)
+            self._sheet.refuse(said("least and most", least, most), line, self._columns[MOST] + 1)
         return Bounds(least or 0, limit if most is None else most)
 
     def _wanted(self, cells: Sequence[str], bounds: Bounds, line: int) -> Optional[Wanted]:
@@ -176,11 +173,11 @@ def _lines(sheet: Sheet, width: int, first: int) -> Iterator[Tuple[int, List[str
     for line, cells in records:
         if first < width:
             if any(cells[width:]):
-                sheet.refuse(f"{len(cells)} cells, where the title has {width}", line)
+                sheet.refuse(said("cells of a title", len(cells), width), line)
             yield line, (cells + [""] * width)[:width]
             continue
         if any(cells[max(width, 3):]):
-            sheet.refuse(f"{len(cells)} cells, where a name and one or two numbers are needed", line)
+            sheet.refuse(said("cells of counts", len(cells)), line)
         has_two = len(cells) > 2 and (width > 2 or cells[2] != "")
         yield line, cells[:3] if has_two else (cells + [""])[:2]
 
@@ -188,19 +185,19 @@ def _lines(sheet: Sheet, width: int, first: int) -> Iterator[Tuple[int, List[str
 def _bounds(sheet: Sheet, cells: Sequence[str], limit: int, line: int) -> Bounds:
     """At least and at most so many: one number is both, and an empty one of two is 0 or the limit."""
     if not any(cells):
-        sheet.refuse("no number: how many are needed", line, 2)
+        sheet.refuse(said("no number"), line, 2)
     least = _count(sheet, cells[0], line, 2) if cells[0] else 0
     if len(cells) == 1:
         return Bounds(least, least)
     most = _count(sheet, cells[1], line, 3) if cells[1] else max(limit, least)
     if least > most:
-        sheet.refuse(f"at least {least} and at most {most}: the second number can't be less", line, 3)
+        sheet.refuse(said("least and most", least, most), line, 3)
     return Bounds(least, most)
 
 
 def _count(sheet: Sheet, cell: str, line: int, column: int) -> int:
     if re.fullmatch("[0-9]{1,9}", cell) is None or int(cell) > MOST_PERSONS:
-        sheet.refuse(f"{quoted(cell)} is no whole number from 0 to {MOST_PERSONS}", line, column)
+        sheet.refuse(said("no count", quoted(cell), MOST_PERSONS), line, column)
     return int(cell)
 
 
@@ -217,14 +214,14 @@ def read_groups(path: str, roster: Roster, has_earlier: bool = False) -> Groups:
     sheet = Sheet(path, reading=roster.reading)
     line, title = sheet.title()
     if len(title) < 2:
-        sheet.refuse("each line must have an object and its group", line)
+        sheet.refuse(said("object and group"), line)
     if title[0] in roster.object_numbers:
-        sheet.refuse(f"a title line must come first, and {quoted(title[0])} is an object", line, 1)
+        sheet.refuse(said("object for a title", quoted(title[0])), line, 1)
     reading = _Groups(sheet, roster, title, line, has_earlier)
     for line, cells in sheet.body(len(title)):
         reading.take(line, cells)
     if not reading.lines:
-        sheet.refuse("no line after the title", line)
+        sheet.refuse(said("no line"), line)
     return reading.found._replace(earlier=tuple(reading.earlier), lines=tuple(reading.group_lines))
 
 
@@ -252,8 +249,8 @@ class _Groups:
         object_ = known(sheet, self._roster, cells[0], line, 2, 1)
         group, kind, times = self._rest(line, cells)
         if object_ in self.lines:
-            where = f"in {found.names[found.of_objects[object_]]}, since line {self.lines[object_]}"
-            sheet.refuse(f"{quoted(cells[0])} a second time: it is {where}", line, 1)
+            sheet.refuse(said("object twice", quoted(cells[0]), found.names[found.of_objects[object_]],
+                              self.lines[object_]), line, 1)
         self.lines[object_] = line
         number = self._numbers.setdefault(spellings(group)[0], len(found.names))
         found.of_objects[object_] = number
@@ -281,7 +278,7 @@ def _column_of_kinds(sheet: Sheet, title: Sequence[str], line: int) -> Optional[
     """Which cells of a line, from 0, have kinds."""
     places = [place for place, cell in enumerate(title) if place > 1 and cell.casefold() == KIND]
     if len(places) > 1:
-        sheet.refuse(f"{len(places)} columns are titled {quoted(KIND)}, where there may be one", line, places[1] + 1)
+        sheet.refuse(said("kinds", len(places), quoted(KIND)), line, places[1] + 1)
     return places[0] if places else None
 
 

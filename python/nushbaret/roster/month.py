@@ -3,12 +3,11 @@ the first day."""
 from datetime import date
 from typing import Dict, FrozenSet, List, NamedTuple, Optional, Sequence, Set, Tuple
 
-from .dates import SATURDAY, are_weekdays, dates_of, has_year, spellings, weekends_among
+from .dates import SATURDAY, Times, are_weekdays, dates_of, has_year, spellings, weekends_among
 from .day_tables import without_group
 from .names import quoted
 from .roster import Groups, Roster
 from .sheets import RosterFault, item_of
-from .times_of_day import Times
 
 WEEK = 7
 # The kind of a shift that has none.

@@ -7,7 +7,7 @@ from ..counts.counted import Bounds
 from .answer import counted, listed
 from .costs import CostColumn
 from .dates import dates_of
-from .names import quoted, shown_path
+from .names import quoted, said, shown_path
 from .plan_json import NamedPair
 from .roster import Groups, OldPlan, PlanLine, Roster, Takes, like, old_plan_of
 from .sheets import RosterFault, is_json
@@ -39,8 +39,8 @@ def groups_before(groups: Groups, name: str) -> List[int]:
         return [number for number, date in enumerate(dates[:-1]) if date < dates[-1]]
     if name not in groups.names:
         near = like(name, groups.names)
-        hint = f": did you mean {' or '.join(map(quoted, near))}?" if near else ""
-        raise RosterFault("--past", f"there is no {groups.title} {quoted(name)}{hint}")
+        hint = said("near", " or ".join(map(quoted, near))) if near else ""
+        raise RosterFault("--past", said("no past", groups.title, quoted(name)) + hint)
     return list(range(groups.names.index(name)))
 
 
@@ -163,6 +163,6 @@ def with_fixed(roster: Roster, past: Past, fixed: Sequence[PlanLine], path: str)
             raise RosterFault(path, f"{names} is in the past, where the kept plan doesn't have it", pair.line)
         had[pair.person] += 1
         if had[pair.person] > roster.tasks_of(pair.person):
-            raise RosterFault(path, f"with {names} {roster.persons[pair.person]} has {had[pair.person]}, also counting "
-                              f"the past, where {roster.tasks_of(pair.person)} is the most", pair.line)
+            raise RosterFault(path, said("most with the past", names, roster.persons[pair.person], had[pair.person],
+                                         roster.tasks_of(pair.person)), pair.line)
     return [*past.pairs, *new]

@@ -4,8 +4,7 @@ import math
 from collections import Counter
 from typing import Any, Dict, List, NamedTuple, NoReturn, Tuple
 
-from .cells import NoName, as_name
-from .names import quoted
+from .names import NoName, as_name, quoted
 from .sheets import MOST_BYTES, RosterFault, content_of
 
 # Of plans in JSON; those before are read too.

@@ -1,6 +1,7 @@
 """The rows of a workbook's sheet, as a CSV file would have them, by openpyxl. What openpyxl doesn't say in its fast
 mode, which cells are merged and which formulas have no value, is read from the sheet itself."""
 import datetime
+import io
 import posixpath
 import warnings
 import zipfile
@@ -9,7 +10,7 @@ from xml.etree import ElementTree
 from xml.parsers import expat
 
 from .encodings import SAVE
-from .names import quoted
+from .names import quoted, said
 from .sheet_scan import MOST_CELLS, Coordinates, Scan, WorkbookFault, well_formed
 
 MOST_SHEETS_SHOWN = 8
@@ -31,9 +32,9 @@ class Taken(NamedTuple):
     merged: Set[int]
 
 
-def read_workbook(path: str, comma: bool, name: Optional[str], preferred: Optional[str], skipped: int) -> Taken:
+def read_workbook(content: bytes, comma: bool, name: Optional[str], preferred: Optional[str], skipped: int) -> Taken:
     """What is in a sheet of a workbook, in the rows after the first `skipped`; with `comma` numbers have a decimal
-    comma.
+    comma. The file is read by now: what goes wrong is its content's fault.
 
     Where none is named, it is the preferred sheet if there is one of that name, and else the first.
     """
@@ -41,28 +42,30 @@ def read_workbook(path: str, comma: bool, name: Optional[str], preferred: Option
         import openpyxl
     except ImportError:
         raise WorkbookFault(f"an Excel workbook is read where openpyxl is installed; elsewhere {SAVE}") from None
+    held = io.BytesIO(content)
     try:
         # openpyxl warns of what it leaves out, such as colours by rules, and none of it is read.
-        with warnings.catch_warnings(), zipfile.ZipFile(path) as archive:
+        with warnings.catch_warnings(), zipfile.ZipFile(held) as archive:
             warnings.simplefilter("ignore")
             _refuse_great(archive)
-            return _taken(openpyxl.load_workbook(path, read_only=True, data_only=True), archive, comma,
+            return _taken(openpyxl.load_workbook(held, read_only=True, data_only=True), archive, comma,
                           name or preferred, name is not None, skipped)
-    except (OSError, MemoryError, WorkbookFault):
+    except (MemoryError, WorkbookFault):
         raise
     except Exception as fault:
         # openpyxl lets pass whatever the parsers beneath it raise.
-        raise WorkbookFault(f"no workbook that openpyxl reads: {_what_is_wrong(path, fault)}; {SAVE}") from fault
+        raise WorkbookFault(f"no workbook that openpyxl reads: {_what_is_wrong(held, fault)}; {SAVE}") from fault
 
 
-def sheets_of(path: str) -> List[str]:
+def sheets_of(content: bytes) -> List[str]:
     """The names of a workbook's sheets of cells; none where it can't be read."""
     try:
         import openpyxl
-        with warnings.catch_warnings(), zipfile.ZipFile(path) as archive:
+        held = io.BytesIO(content)
+        with warnings.catch_warnings(), zipfile.ZipFile(held) as archive:
             warnings.simplefilter("ignore")
             _refuse_great(archive)
-            book = openpyxl.load_workbook(path, read_only=True)
+            book = openpyxl.load_workbook(held, read_only=True)
             names = [sheet.title for sheet in book.worksheets]
             book.close()
             return names
@@ -80,11 +83,11 @@ def _refuse_great(archive: zipfile.ZipFile) -> None:
                                 "unpacked of a workbook of this size")
 
 
-def _what_is_wrong(path: str, fault: Optional[BaseException]) -> str:
+def _what_is_wrong(held: io.BytesIO, fault: Optional[BaseException]) -> str:
     """Which part of a workbook is wrong."""
     part = ""
     try:
-        with zipfile.ZipFile(path) as archive:
+        with zipfile.ZipFile(held) as archive:
             for part in archive.namelist():
                 with archive.open(part) as content:
                     if part.endswith((".xml", ".rels")):
@@ -119,8 +122,7 @@ def _taken(book: Any, archive: zipfile.ZipFile, comma: bool, wanted: Optional[st
     book.close()
     for row, column in scan.unvalued:
         if row >= skipped:
-            raise WorkbookFault("a formula without a value: open the workbook in your spreadsheet, and save it there",
-                                row + 1, column + 1)
+            raise WorkbookFault(said("formula"), row + 1, column + 1)
     _fill_merged(rows, scan.merged)
     width = max(map(len, rows), default=0)
     whole = {row + 1 for (top, left), (bottom, right) in scan.merged if left == 0 and right + 1 >= width > 1
@@ -140,7 +142,7 @@ def _rows(sheet: Any, comma: bool) -> List[List[str]]:
             while row and not row[-1]:
                 row.pop()
             rows.append(row)
-    except (OSError, MemoryError):
+    except MemoryError:
         raise
     except Exception as fault:
         raise WorkbookFault(f"a cell below line {len(rows)} isn't of the type that it says, or is damaged; "

@@ -11,12 +11,10 @@ from typing import Dict, FrozenSet, List, Mapping, NamedTuple, Optional, Sequenc
 
 from ..costs.limits import MOST_PERSONS, Numbers
 from ..counts.counted import Bounds
-from .cells import is_plain
-from .dates import spellings
-from .names import quoted
+from .dates import Times, spellings
+from .names import is_plain, quoted, said
 from .plan_json import NamedPair, plan_of_json
 from .sheets import Reading, RosterFault, Sheet, is_json, item_of
-from .times_of_day import Times
 
 LINES, MATRIX = "lines", "matrix"
 TITLES = ("person", "object", "cost")
@@ -369,9 +367,9 @@ def _plan_of_sheet(path: str, roster: Roster) -> List[NamedPair]:
     sheet = Sheet(path, roster.comma, reading=roster.reading, preferred=PLAN_SHEET)
     line, title = sheet.title()
     if len(title) < 2:
-        sheet.refuse("each line must have a person and an object", line)
+        sheet.refuse(said("person and object"), line)
     if title[0] in roster.person_numbers and title[1] in roster.object_numbers:
-        sheet.refuse(f"a title line must come first, and {title[0]}, {title[1]} is a pair", line)
+        sheet.refuse(said("pair for a title", title[0], title[1]), line)
     change = title.index(CHANGE, len(TITLES)) if CHANGE in title[len(TITLES):] else None
     has_costs = len(title) > 2 and (roster.groups is None or title[2] != roster.groups.title)
     return [NamedPair(sheet.name(cells[0], line, 1), sheet.name(cells[1], line, 2), line, cells[2] if has_costs else "")
@@ -388,8 +386,8 @@ def _known(path: str, roster: Roster, name: str, line: int, side: int, column: i
     numbers = roster.person_numbers if side == 1 else roster.object_numbers
     if name not in numbers:
         near = like(name, list(numbers))
-        hint = f": did you mean {' or '.join(map(quoted, near))}?" if near else ""
-        raise RosterFault(path, f"the roster has no {'person' if side == 1 else 'object'} {quoted(name)}{hint}{others}",
+        hint = said("near", " or ".join(map(quoted, near))) if near else ""
+        raise RosterFault(path, said("unknown", "person" if side == 1 else "object", quoted(name)) + hint + others,
                           line, column)
     return numbers[name]
 
@@ -403,7 +401,7 @@ def _refuse_twice(path: str, roster: Roster, numbered: List[Tuple[int, int, int]
             number = found[column - 1]
             before = lines.setdefault(number, [])
             if len(before) == most(number):
-                often = "a second time" if before[:1] and most(number) == 1 else f"more than {most(number)} times"
+                often = said("a second time") if before[:1] and most(number) == 1 else said("more times", most(number))
                 after = f", after {item_of(path)} {before[0]}" if before else ""
                 raise RosterFault(path, f"{quoted(names[number])} {often}{after}", found[2], column)
             before.append(found[2])

@@ -10,9 +10,8 @@ from typing import (IO, Callable, Generator, Iterable, Iterator, List, Match, Na
                     Set, Tuple, cast)
 
 from ..costs.limits import MOST_PERSONS
-from .cells import GUARDS, NoName, as_name, unguarded
 from .encodings import Undecodable, decoded
-from .names import quoted, shown_path
+from .names import GUARDS, NoName, as_name, quoted, said, shown_path, unguarded
 
 MOST_BYTES = 2**30
 SEPARATORS = ";\t,"
@@ -23,7 +22,7 @@ BLOCK = 1024
 PIECE = 2**20
 # A person, and its costs for as many objects as there may be.
 MOST_CELLS = MOST_PERSONS + 1
-MANY_CELLS = f"more than {MOST_CELLS} cells in one record"
+MANY_CELLS = said("long record", MOST_CELLS)
 # What of a line is in quotes, where it begins outside of them, and where inside.
 QUOTED = (re.compile('"[^"]*"?'), re.compile('^[^"]*"?|"[^"]*"?'))
 FIRST_LINE = re.compile(r"[\r\n]*([^\r\n]*)")
@@ -127,15 +126,16 @@ class Sheet:
         elif name is not None:
             self.refuse("only a workbook, .xlsx, has sheets: not with --sheet")
         else:
-            self._take_text(content_of(path), reading)
+            self._take_text(self._judged(content_of(path)), reading)
 
     def _take_workbook(self, path: str, comma: bool, name: Optional[str], preferred: Optional[str],
                        reading: Reading) -> None:
         from .read_workbook import listed_sheets, read_workbook
         from .sheet_scan import WorkbookFault
         self.has_bom, self.has_hint, self.separator, self.encoding = False, False, ";" if comma else ",", "utf-8"
+        content = self._judged(content_of(path))
         try:
-            self.rows, read, names, self.merged = read_workbook(path, comma, name, preferred, self.skipped)
+            self.rows, read, names, self.merged = read_workbook(content, comma, name, preferred, self.skipped)
         except WorkbookFault as fault:
             self.refuse(str(fault), fault.line, fault.column)
         if len(names) > 1 and name is None and read != preferred:
@@ -143,9 +143,12 @@ class Sheet:
             self.others = f" (in the sheet {quoted(read)} of {listed_sheets(names)}: {path}#SHEET reads another)"
             reading.say(f"{path}: the sheet {quoted(read)} was read, of {len(names)}: {path}#SHEET reads another")
 
-    def _take_text(self, data: bytes, reading: Reading) -> None:
+    def _judged(self, data: bytes) -> bytes:
         if len(data) > MOST_BYTES:
             self.refuse(f"longer than {MOST_BYTES} bytes")
+        return data
+
+    def _take_text(self, data: bytes, reading: Reading) -> None:
         try:
             text, self.encoding, self.has_bom, is_guess = decoded(data, reading.encoding)
         except Undecodable as fault:
@@ -216,7 +219,7 @@ class Sheet:
                 self.refuse(f"{quoted(cells[0])} in one merged cell, where titles are needed; --skip-rows K skips rows "
                             "above them", line)
             return line, cells
-        self.refuse("an empty file")
+        self.refuse(said("no file"))
 
     def body(self, width: int) -> Iterator[Tuple[int, List[str]]]:
         """The records after the title, each of `width` cells."""
@@ -227,8 +230,8 @@ class Sheet:
     def _of_width(self, records: Iterable[Tuple[int, List[str]]], width: int) -> Iterator[Tuple[int, List[str]]]:
         for line, cells in records:
             if len(cells) < width or any(cells[width:]):
-                hint = " (a comma inside a cell needs quotes)" if len(cells) > width and self.separator == "," else ""
-                self.refuse(f"{len(cells)} cells, where the title line has {width}{hint}", line)
+                hint = said("comma in a cell") if len(cells) > width and self.separator == "," else ""
+                self.refuse(said("cells", len(cells), width, hint), line)
             yield line, cells[:width]
 
     def blocks(self, width: int) -> Iterator[Block]:
@@ -322,9 +325,9 @@ def separator_of(text: str, begin: int, end: int) -> str:
 def _in_words(fault: object) -> str:
     """What Python's reader of CSV says, in our words."""
     text = str(fault)
-    for part, words in (("field limit", f"a cell of more than {csv.field_size_limit()} characters"),
-                        ("end of data", "no CSV: the quotes around a cell aren't closed"),
-                        ("expected after", "no CSV: text after the quotes around a cell"), (MANY_CELLS, MANY_CELLS)):
+    for part, words in (("field limit", said("long cell", csv.field_size_limit())),
+                        ("end of data", said("open quotes")), ("expected after", said("after quotes")),
+                        (MANY_CELLS, MANY_CELLS)):
         if part in text:
             return words
     return "no CSV"

@@ -13,8 +13,8 @@ from operator import add
 from typing import Any, Collection, Dict, Iterator, List, NamedTuple, Optional, Sequence, Set, Tuple
 
 from ..costs.kinds import WholeNumbers
-from ..costs.limits import GREATEST_COST, Numbers
-from ..costs.problem import AssignmentProblem, TooLarge, of_whole_numbers
+from ..costs.limits import GREATEST_COST, Numbers, TooLarge
+from ..costs.problem import AssignmentProblem, of_whole_numbers
 from ..counts.exchanges import strong_parts
 from ..lap.solving import BestPlan, best_plan
 

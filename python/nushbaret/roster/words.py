@@ -1,18 +1,22 @@
-"""The words of the command: one table of options, from which the parser and the help come."""
+"""The words of the command: one table of options, from which the parser and the help come; and what they ask for
+without a roster: the guide, and the check of a certificate's file."""
 import argparse
 import contextlib
 import os
+import pathlib
 import re
 import sys
 from typing import Any, Callable, Dict, List, NamedTuple, NoReturn, Optional, Sequence, Tuple
 
 from ..costs.reading import MOST_UNIT_DECIMALS
 from ..lap.library import VERSION
+from ..rows.certificate_check import lists_show
+from ..rows.certificates import CertificateFault, Lists, read_lists
 from .encodings import WESTERN
 from .files import KINDS, Output, OutputFault, print_content
 from .names import shown_path
 from .roster import LINES, MATRIX
-from .sheets import file_and_sheet
+from .sheets import content_of, file_and_sheet
 
 NAME = "nushbaret"
 MOST_PLANS = 1000
@@ -22,6 +26,12 @@ STATUSES = ("Status 0: a plan; 1: there is none; 2: these words are refused; 3: 
             "time. Ctrl-C: 130.")
 ROSTER = ("a CSV file (- is standard input) or an .xlsx workbook, with a title line: a person, an object and a cost in "
           "each line, or a matrix with names in the first line and column, where an empty cell forbids a pair")
+# The guide to rosters and their rules: where it lies with the package, or else with the sources.
+PACKAGE = pathlib.Path(__file__).resolve().parent.parent
+INSTALLED = PACKAGE / "guide"
+CHECKOUT = PACKAGE.parent.parent
+# What the check of a certificate's file ends with.
+SHOWN, NOT_SHOWN, REFUSED = 0, 1, 3
 
 
 class WordsFault(Exception):
@@ -258,7 +268,6 @@ class _Guide(argparse.Action):
 
     def __call__(self, parser: argparse.ArgumentParser, namespace: argparse.Namespace, values: Any,
                  option_string: Optional[str] = None) -> None:
-        from .guide import guide
         try:
             print_content(guide())
         except (OSError, OutputFault) as fault:
@@ -274,13 +283,52 @@ class _Check(argparse.Action):
 
     def __call__(self, parser: argparse.ArgumentParser, namespace: argparse.Namespace, values: Any,
                  option_string: Optional[str] = None) -> None:
-        from .check_file import checked
         try:
             status, line = checked(str(values))
             print_content(line + "\n")
         except (OSError, OutputFault) as fault:
             parser.exit(4, f"{NAME}: {fault}\n")
         parser.exit(status)
+
+
+def guide() -> str:
+    """The guide, and where it is as a page.
+
+    Raises `OSError` where it isn't installed with the package.
+    """
+    if INSTALLED.exists():
+        return _guide_of([INSTALLED / "rosters.txt"], INSTALLED / "rosters.html", INSTALLED / "examples")
+    pages = [CHECKOUT / "docs" / name for name in ("ROSTERS.md", "RULES.md")]
+    return _guide_of(pages, pages[0], CHECKOUT / "examples")
+
+
+def _guide_of(texts: List[pathlib.Path], page: pathlib.Path, examples: pathlib.Path) -> str:
+    lines = [*(text.read_text(encoding="utf-8") for text in texts), f"This guide as a page: {page}",
+             f"The examples in it: {examples}", ""]
+    return "\n".join(lines)
+
+
+def checked(path: str) -> Tuple[int, str]:
+    """What a certificate shows: a status, and a line that says it. OSError where the file can't be read."""
+    try:
+        lists = read_lists(path)
+        is_shown = lists_show(lists)
+    except CertificateFault as fault:
+        return REFUSED, f"{shown_path(path)}: no certificate: {fault}"
+    return (SHOWN, f"{shown_path(path)}: shown: {_claim(lists)}") if is_shown else (NOT_SHOWN,
+                                                                              f"{shown_path(path)}: not shown")
+
+
+def _claim(lists: Lists) -> str:
+    """What is shown. With a plan the last row bounds the cost from above alone. Costs are whole, in units of the
+    roster's last decimal."""
+    count, last = len(lists.least), lists.last
+    if not lists.plan or last is None or last.most is None:
+        return f"no plan meets the {count} rows"
+    cost = sum(factor for variable, factor in last.terms if lists.plan[variable])
+    better = cost - (last.most + 1)
+    rest = f"is more than {better} better" if better else "costs less"
+    return f"a plan of cost {cost} meets the {count - 1} rows, and no plan that meets them {rest}"
 
 
 class _Once(argparse.Action):
@@ -347,7 +395,11 @@ def with_sheets(options: Options) -> Options:
     if os.path.splitext(options.roster)[1].lower() != ".xlsx" or not os.path.isfile(options.roster):
         return options
     from .read_workbook import sheets_of
-    names = sheets_of(options.roster)
+    try:
+        names = sheets_of(content_of(options.roster))
+    except OSError:
+        # Reading the roster says what is wrong.
+        return options
     titled = {name.strip().casefold(): name for name in reversed(names)}
     own = {word: f"{options.roster}#{titled[word]}" for word in _SHEETS if word in titled}
     rest = [name for name in names if name.strip().casefold() not in _SHEETS]

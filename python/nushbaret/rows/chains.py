@@ -1,10 +1,9 @@
 """Proofs person by person: a chain of splits, each with a person's tree, and after it one leaf that adds them up, or a
 tree over all variables. Needs NumPy and SciPy."""
 import importlib
-from typing import Any, Dict, List, NamedTuple, Optional, Tuple
+from typing import Any, Dict, List, NamedTuple, Optional, Sequence, Tuple
 
-from .model import Leaf, Limits, Proof, Split, Terms
-from .model_parts import Part, renamed
+from .model import Leaf, Limits, Part, Proof, Split, Terms, renamed
 from .persons import limits_of
 from .prices import SCALE, Bound, Pricing
 from .trees import Open, Trees
@@ -49,21 +48,25 @@ class Chain:
 
     def add_persons(self, spare: Optional[int]) -> None:
         """A link for each person, which says the least that her months cost at the prices; `spare` may be given up in
-        all, or a little by each."""
+        all, by each as much as her relaxation is below that, or a little by each."""
         wanted = [number for number, block in enumerate(self.pricing.blocks)
                   if np.minimum(self.costs[block.variables], 0).sum() < self.bound.least[number]]
-        for done, number in enumerate(wanted):
-            give = _GIVE if spare is None else spare // (len(wanted) - done)
-            spare = None if spare is None else spare - give
-            self._add_person(number, self.bound.least[number] - give)
+        trees = [self._trees(number) for number in wanted]
+        gaps = [0.0] * len(wanted) if spare is None else [
+            max(0.0, self.bound.least[number] - own.relaxed(self.costs[own.part.variables]).value)
+            for number, own in zip(wanted, trees)]
+        for number, own, gap in zip(wanted, trees, gaps):
+            give = _GIVE if spare is None else int(spare * min(1.0, gap / max(1.0, sum(gaps))))
+            self._add_person(number, own, self.bound.least[number] - give)
 
-    def _add_person(self, number: int, least: int) -> None:
+    def _trees(self, number: int) -> Trees:
         block = self.pricing.blocks[number]
-        part, own = Part(block.rows, block.numbers, block.variables), self.costs[block.variables]
-        tree = Trees(part, self.deadline).tree(own, least - 1)
-        terms = self._terms(number)
+        return Trees(Part(block.rows, block.numbers, block.variables), self.deadline)
+
+    def _add_person(self, number: int, trees: Trees, least: int) -> None:
+        tree, terms = trees.tree(self.costs[trees.part.variables], least - 1), self._terms(number)
         self.row_of[number], self.least[number] = self.next_row(), least
-        self.links.append(_Link(terms, least - 1, renamed(tree, part, self.next_row(), self.next_row() + 1),
+        self.links.append(_Link(terms, least - 1, renamed(tree, trees.part, self.next_row(), self.next_row() + 1),
                                 Limits(least, terms, None)))
 
     def _terms(self, number: int) -> Terms:
@@ -93,20 +96,20 @@ class Chain:
         links."""
         total = self.bound.value - sum(self.bound.least) + sum(self.least.get(number, least)
                                                                for number, least in enumerate(self.bound.least))
-        places = []
+        places, each = [], self.pricing.stacked.with_and_without(self.costs)
         for number in list(self.row_of):
             wanted = SCALE * self.target + 1 - total + self.least[number]
-            link = self._fixing(number, wanted)
+            link = self._fixing(number, wanted, each[:, self.pricing.blocks[number].variables].tolist())
             if link is not None:
                 places.append(len(self.links))
                 self.links.append(link)
         return places
 
-    def _fixing(self, number: int, wanted: int) -> Optional[_Link]:
+    def _fixing(self, number: int, wanted: int, each: Sequence[Sequence[int]]) -> Optional[_Link]:
         """The link that fixes variables of a person without which, or with which, her months cost `wanted` or more at
-        the prices."""
+        the prices. `each` has the least costs of her months without each variable, and with it."""
         block, own = self.pricing.blocks[number], self.costs[self.pricing.blocks[number].variables]
-        without, taken = self.pricing.with_and_without(number, own)
+        without, taken = each
         terms = tuple((place, 1 if taken[place] >= wanted else -1) for place in range(len(own))
                       if max(taken[place], without[place]) >= wanted)
         most = -sum(factor < 0 for _, factor in terms)

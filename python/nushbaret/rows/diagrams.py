@@ -3,24 +3,26 @@
 Needs NumPy. What is found here is a hint only; certificates show what holds.
 """
 import importlib
-from typing import Any, Dict, List, NamedTuple, Optional, Sequence, Tuple
+from collections import defaultdict
+from typing import Any, Dict, List, NamedTuple, Optional, Sequence, Set, Tuple
 
 from .model import Limits
 
 np: Any = importlib.import_module("numpy")
 # A diagram with a layer of more nodes isn't made.
 MOST_NODES = 40_000
-# More than any sum of costs of a month.
-TOO_MUCH = 2**60
+# So many variables are in one layer at most.
+_MOST_CHOICES = 8
+# Below it sums of 32 bits are added up.
+_SMALL_SUM = 2**29
 
 
 class Diagram(NamedTuple):
-    """Layers of a decision diagram, one a variable: where 0 and 1 lead from each node. The number after a layer's last
-    node is a dead end."""
+    """Layers of a decision diagram, each of a few variables of which one is taken at most: where none of them and each
+    of them leads from each node, a line for each choice. The number after a layer's last node is a dead end."""
 
-    order: List[int]
-    zero: List[Any]
-    one: List[Any]
+    layers: List[List[int]]
+    to: List[Any]
     widths: List[int]
 
 
@@ -58,27 +60,51 @@ def _step_by_step(variables: int, rows: Sequence[Limits]) -> List[int]:
         for variable, _ in row.terms:
             rows_of[variable].append(number)
     left = [len(row.terms) for row in rows]
+    # How many rows each variable would begin, less those that it would end.
+    grows = [sum(1 - (left[row] == 1) for row in own) for own in rows_of]
     waiting, order = list(range(variables)), []
     while waiting:
-        best = min(waiting, key=lambda variable: sum((left[row] == len(rows[row].terms)) - (left[row] == 1)
-                                                     for row in rows_of[variable]))
+        best = min(waiting, key=grows.__getitem__)
         waiting.remove(best)
         order.append(best)
         for number in rows_of[best]:
+            begins = left[number] == len(rows[number].terms)
             left[number] -= 1
+            change = begins + (left[number] == 1)
+            for variable, _ in rows[number].terms if change else ():
+                grows[variable] -= change
     return order
+
+
+def _grouped(order: Sequence[int], rows: Sequence[Limits]) -> List[List[int]]:
+    """The variables in their order, those side by side together of which a row lets one be taken."""
+    rows_of: List[Set[int]] = [set() for _ in order]
+    for number, row in enumerate(rows):
+        if row.most == 1 and all(factor == 1 for _, factor in row.terms):
+            for variable, _ in row.terms:
+                rows_of[variable].add(number)
+    layers: List[List[int]] = []
+    common: Set[int] = set()
+    for variable in order:
+        common = common & rows_of[variable]
+        if common and len(layers[-1]) < _MOST_CHOICES:
+            layers[-1].append(variable)
+        else:
+            layers.append([variable])
+            common = rows_of[variable]
+    return layers
 
 
 class _Packing:
     """Disjoint rows of ones of which at most so many may be taken: bounds on what the rest of another row can come
     to."""
 
-    def __init__(self, order: Sequence[int], rows: Sequence[Limits]):
-        self.order = order
+    def __init__(self, layers: Sequence[Sequence[int]], rows: Sequence[Limits]):
+        self.layers, count = layers, sum(map(len, layers))
         packed = [row for row in rows if row.most is not None and row.terms
                   and all(factor == 1 for _, factor in row.terms)]
         self.item_of, self.items = _disjoint([[variable for variable, _ in row.terms] for row in packed
-                                              if row.most == 1], len(order))
+                                              if row.most == 1], count)
         wide = [row for row in packed if row.most is not None and row.most > 1]
         unions = [(sorted({self.item_of[variable] for variable, _ in row.terms}), row.most or 0) for row in wide]
         self.group_of, groups = _disjoint([union for union, _ in unions], self.items)
@@ -88,13 +114,17 @@ class _Packing:
             members[group].append(item)
         self.groups = [(own, most_of.get(tuple(own), len(own))) for own in members]
 
-    def most_left(self, weights: Dict[int, int]) -> List[int]:
-        """The greatest sum of weights from each layer on, by these rows; after the last layer 0."""
-        of_items, of_groups = [0] * self.items, [0] * len(self.groups)
+    def most_left(self, weights: Dict[int, int], first: int, last: int) -> List[int]:
+        """The greatest sum of weights from each layer on, by these rows, from the layer after `first` to that after
+        `last`, where nothing is left."""
+        of_items: Dict[int, int] = defaultdict(int)
+        of_groups: Dict[int, int] = defaultdict(int)
         total, found = 0, [0]
-        for variable in reversed(self.order):
-            item = self.item_of[variable]
-            if weights.get(variable, 0) > of_items[item]:
+        for layer in reversed(self.layers[first + 1:last + 1]):
+            for variable in layer:
+                item = self.item_of[variable]
+                if weights.get(variable, 0) <= of_items[item]:
+                    continue
                 of_items[item] = weights[variable]
                 group = self.group_of[item]
                 own, most = self.groups[group]
@@ -123,125 +153,88 @@ def _disjoint(sets: Sequence[Sequence[int]], count: int) -> Tuple[List[int], int
 class _Layers:
     """States of a layer: for each row that has begun and not ended a line of the sums so far, one for each node."""
 
-    def __init__(self, order: Sequence[int], rows: Sequence[Limits]):
+    def __init__(self, layers: Sequence[Sequence[int]], rows: Sequence[Limits]):
         self.rows = rows
-        self.at: List[Dict[int, int]] = [{} for _ in order]
-        place = {variable: at for at, variable in enumerate(order)}
+        # What each choice of a layer adds to its rows.
+        self.adds: List[Dict[int, List[int]]] = [{} for _ in layers]
+        place = {variable: (at, choice) for at, layer in enumerate(layers) for choice, variable in enumerate(layer, 1)}
         for number, row in enumerate(rows):
             for variable, factor in row.terms:
-                self.at[place[variable]][number] = factor
-        self.ends = [max((place[variable] for variable, _ in row.terms), default=-1) for row in rows]
-        packing = _Packing(order, rows)
-        self.mosts = [packing.most_left(dict(row.terms)) for row in rows]
-        self.leasts = [packing.most_left({variable: -factor for variable, factor in row.terms}) for row in rows]
-        self.states: Dict[int, Any] = {}
+                at, choice = place[variable]
+                self.adds[at].setdefault(number, [0] * (1 + len(layers[at])))[choice] += factor
+        spans = [[place[variable][0] for variable, _ in row.terms] or [-1] for row in rows]
+        self.begins, self.ends = [min(span) for span in spans], [max(span) for span in spans]
+        packing = _Packing(layers, rows)
+        self.mosts = [packing.most_left(dict(row.terms), *span) for row, *span in zip(rows, self.begins, self.ends)]
+        self.leasts = [packing.most_left({variable: -factor for variable, factor in row.terms}, *span)
+                       for row, *span in zip(rows, self.begins, self.ends)]
+        self.choices = [1 + len(layer) for layer in layers]
+        largest = max((sum(abs(factor) for _, factor in row.terms) for row in rows), default=0)
+        self.kind = np.int32 if largest < _SMALL_SUM else np.int64
+        self.sums: Dict[int, Any] = {}
         self.count = 1
         self.mixers: Any = np.random.default_rng(1).integers(1, 2**62, (2, len(rows)), dtype=np.int64) * 2 + 1
 
-    def step(self, at: int) -> Tuple[Any, Any]:
-        """Takes the variable of this layer; where 0 and 1 lead from each node."""
-        factors, count = self.at[at], self.count
-        states, alive = {}, np.ones(2 * count, dtype=bool)
-        for row in [*self.states, *(row for row in factors if row not in self.states)]:
-            own = self.states.get(row)
-            own = np.zeros(count, dtype=np.int64) if own is None else own
-            states[row] = np.concatenate([own, own + factors.get(row, 0)])
-            self._refuse_dead(row, at, states[row], alive)
+    def step(self, at: int) -> Any:
+        """Takes the variables of this layer; where each choice leads from each node."""
+        adds, count, choices = self.adds[at], self.count, self.choices[at]
+        sums, alive = {}, np.ones((choices, count), dtype=bool)
+        for row in [*self.sums, *(row for row in adds if self.begins[row] == at)]:
+            own = self.sums[row] if row in self.sums else np.zeros(count, dtype=self.kind)
+            sums[row] = own + np.array(adds.get(row, [0] * choices), dtype=self.kind)[:, None]
+            self._refuse_dead(row, at, sums[row], alive)
         places = np.flatnonzero(alive)
-        keys = self._keys(states, places, at)
-        _, first, inverse = np.unique(keys, return_index=True, return_inverse=True)
-        chosen = places[first]
-        self.states = {row: own[chosen] for row, own in states.items() if self.ends[row] > at}
-        self.count = len(first)
-        to = np.full(2 * count, len(first), dtype=np.int32)
-        to[places] = inverse
-        return to[:count], to[count:]
+        sums = {row: own.ravel()[places] for row, own in sums.items() if self.ends[row] > at}
+        _, first, inverse = np.unique(self._keys(sums, len(places), at), return_index=True, return_inverse=True)
+        self.sums, self.count = {row: own[first] for row, own in sums.items()}, len(first)
+        to = np.full((choices, count), len(first), dtype=np.int32)
+        to.ravel()[places] = inverse
+        return to
 
     def _refuse_dead(self, row: int, at: int, sums: Any, alive: Any) -> None:
-        """Takes out of `alive` the nodes from which a row can't be met any more."""
-        least, most = self.rows[row].least, self.rows[row].most
-        if least is not None:
-            alive &= sums >= least - self.mosts[row][at + 1]
-        if most is not None:
-            alive &= sums <= most + self.leasts[row][at + 1]
+        """Takes out of `alive` the choices after which a row can't be met any more."""
+        limits, place = self.rows[row], at - self.begins[row]
+        if limits.least is not None:
+            alive &= sums >= limits.least - self.mosts[row][place]
+        if limits.most is not None:
+            alive &= sums <= limits.most + self.leasts[row][place]
 
-    def _keys(self, states: Dict[int, Any], places: Any, at: int) -> Any:
+    def _keys(self, sums: Dict[int, Any], count: int, at: int) -> Any:
         """A number for each state, the same for states from which the same is left to do."""
-        keys = np.zeros(len(places), dtype=np.int64)
-        for row, sums in states.items():
-            least, most, own = self.rows[row].least, self.rows[row].most, sums[places]
-            if least is not None:
-                keys += np.maximum(least - own, -self.leasts[row][at + 1]) * self.mixers[0, row]
-            if most is not None:
-                keys += np.minimum(most - own, self.mosts[row][at + 1]) * self.mixers[1, row]
+        keys = np.zeros(count, dtype=np.int64)
+        for row, own in sums.items():
+            limits, place = self.rows[row], at - self.begins[row]
+            if limits.least is not None:
+                left = np.maximum(limits.least - own, -self.leasts[row][place])
+                keys += np.multiply(left, self.mixers[0, row], dtype=np.int64)
+            if limits.most is not None:
+                left = np.minimum(limits.most - own, self.mosts[row][place])
+                keys += np.multiply(left, self.mixers[1, row], dtype=np.int64)
         return keys
 
 
 def diagram_of(variables: int, rows: Sequence[Limits], most_nodes: int = MOST_NODES) -> Optional[Diagram]:
     """The diagram of all plans that meet rows; None where it is too wide."""
-    order = order_of(variables, rows)
-    layers = _Layers(order, rows)
-    zero, one = [], []
-    for at in range(variables):
-        to_zero, to_one = layers.step(at)
-        zero.append(to_zero)
-        one.append(to_one)
-        if layers.count > most_nodes:
+    layers = _grouped(order_of(variables, rows), rows)
+    states, to = _Layers(layers, rows), []
+    for at in range(len(layers)):
+        to.append(states.step(at))
+        if states.count > most_nodes:
             return None
-    return _reduced(order, zero, one, layers.count)
+    return _reduced(layers, to, states.count)
 
 
-def _reduced(order: List[int], zero: List[Any], one: List[Any], ends: int) -> Diagram:
+def _reduced(layers: List[List[int]], to: List[Any], ends: int) -> Diagram:
     """The diagram with nodes of a layer made one that lead to the same, and without dead ends."""
-    to = np.arange(ends + 1, dtype=np.int64)
-    widths = [ends]
-    for at in range(len(order) - 1, -1, -1):
-        count = widths[-1]
-        low, high = to[zero[at]], to[one[at]]
-        keys, first, inverse = np.unique(low * (count + 1) + high, return_index=True, return_inverse=True)
-        alive = int(len(keys)) - int(len(keys) > 0 and keys[-1] == (count + 1) * (count + 1) - 1)
-        zero[at], one[at] = low[first[:alive]].astype(np.int32), high[first[:alive]].astype(np.int32)
-        to = np.append(inverse, alive)
-        to[to > alive] = alive
-        widths.append(alive)
-    return Diagram(order, zero, one, widths[::-1])
-
-
-def _values(diagram: Diagram, costs: Any) -> List[Any]:
-    """The least cost from each node of each layer on; `TOO_MUCH` at the dead end."""
-    values: List[Any] = [np.zeros(diagram.widths[-1] + 1, dtype=np.int64)]
-    values[0][-1] = TOO_MUCH
-    for at in range(len(diagram.order) - 1, -1, -1):
-        after = values[-1]
-        here = np.minimum(after[diagram.zero[at]], after[diagram.one[at]] + costs[diagram.order[at]])
-        values.append(np.append(here, TOO_MUCH))
-    return values[::-1]
-
-
-def cheapest(diagram: Diagram, costs: Any) -> Optional[Tuple[int, Any]]:
-    """The least cost of a month at whole costs, and a month that costs so little; None where there is no month."""
-    values = _values(diagram, costs)
-    if diagram.widths[0] == 0:
-        return None
-    month, node = np.zeros(len(diagram.order), dtype=np.int8), 0
-    for at, variable in enumerate(diagram.order):
-        low, high = diagram.zero[at][node], diagram.one[at][node]
-        takes = values[at + 1][high] + costs[variable] < values[at + 1][low]
-        month[variable] = takes
-        node = int(high if takes else low)
-    return int(values[0][0]), month
-
-
-def cheapest_with(diagram: Diagram, costs: Any) -> Any:
-    """For each variable the least costs of months without it and with it: an array of shape (2, variables)."""
-    values = _values(diagram, costs)
-    found = np.full((2, len(diagram.order)), TOO_MUCH, dtype=np.int64)
-    before = np.zeros(diagram.widths[0], dtype=np.int64)
-    for at, variable in enumerate(diagram.order):
-        after, reached = values[at + 1], np.full(diagram.widths[at + 1] + 1, TOO_MUCH, dtype=np.int64)
-        for value, to in enumerate((diagram.zero[at], diagram.one[at])):
-            cost = before + value * costs[variable]
-            found[value, variable] = (cost + after[to]).min(initial=TOO_MUCH)
-            np.minimum.at(reached, to, cost)
-        before = reached[:-1]
-    return found
+    after, widths = np.arange(ends + 1, dtype=np.int32), [ends]
+    mixers = np.random.default_rng(2).integers(1, 2**62, 1 + _MOST_CHOICES, dtype=np.int64) * 2 + 1
+    for at in range(len(layers) - 1, -1, -1):
+        own = after[to[at]]
+        alive = np.flatnonzero((own != widths[-1]).any(axis=0))
+        keys = sum(np.multiply(line[alive], mixer, dtype=np.int64) for line, mixer in zip(own, mixers))
+        _, first, inverse = np.unique(keys, return_index=True, return_inverse=True)
+        after = np.full(to[at].shape[1] + 1, len(first), dtype=np.int32)
+        after[alive] = inverse
+        to[at] = own[:, alive[first]]
+        widths.append(len(first))
+    return Diagram(layers, to, widths[::-1])

@@ -4,17 +4,17 @@ import time
 from typing import Any, List, NamedTuple, Optional, Sequence
 
 from .certificate_check import meets
-from .channel import Channel
 from .model import Limits, Model
 from .neighbourhoods import Neighbourhoods, whole_plan
 from .persons import cost_of, cost_row, limits_of, matrix_of, side_of
+from .process import Channel
 
 np: Any = importlib.import_module("numpy")
 optimize: Any = importlib.import_module("scipy.optimize")
 
 # What HiGHS is given first over the whole model, as a part of the time; for how long searches around plans go on after
 # it that find nothing better, and what HiGHS gets then.
-_FIRST_PART, _AROUND_PART, _NEXT_PART = 0.4, 0.15, 0.3
+_FIRST_PART, _AROUND_PART, _NEXT_PART = 0.6, 0.15, 0.3
 # Seconds that HiGHS gets first at least, if there are so many.
 _FIRST_LEAST = 5.0
 # Seconds in which a plan known before gets the values that it doesn't have.

@@ -7,22 +7,26 @@ import copy
 import importlib
 import math
 import time
-from typing import Any, Callable, Dict, Iterator, List, NamedTuple, Optional, Sequence, Tuple
+from typing import Any, Callable, Dict, Iterator, List, NamedTuple, Optional, Sequence, Set
 
-from .diagrams import TOO_MUCH, Diagram, cheapest, cheapest_with, diagram_of
+from .diagrams import Diagram, diagram_of
 from .model import Limits, Model
 from .persons import PersonBlock, blocks_of, limits_of, matrix_of, side_of
+from .stacked import TOO_MUCH, Stacked
 
 np: Any = importlib.import_module("numpy")
+sparse: Any = importlib.import_module("scipy.sparse")
 optimize: Any = importlib.import_module("scipy.optimize")
 
 # Prices are whole multiples of 1 / SCALE.
 SCALE = 960
 # The part of the time in which decision diagrams are made with all rows.
 _EXACT_PART = 0.2
-# So many steps against what is missed come first, towards a bound that is so much better; after some without a gain
-# they are half as long.
-_STEPS, _AIM, _VAIN, _SHORTEST = 60, 0.01, 4, 0.1
+# So many steps against what is missed come first, towards a bound that is so much better. Each goes on with a part of
+# the step before; after so many without a gain they are shorter by a factor, down to the shortest.
+_STEPS, _AIM, _GOES_ON, _VAIN, _SHORTER, _SHORTEST = 200, 0.01, 0.7, 5, 0.7, 0.01
+# Of each person a mixture has the months that were the cheapest last, so many.
+_KEPT = 40
 # The part of a master's prices in the first prices that are tried, and how that grows.
 _SMOOTHED, _LESS_SMOOTHED = 0.3, 1.05
 
@@ -65,17 +69,23 @@ class Pricing:
         self.matrix = matrix_of(rows, model.variables).astype(np.int64)
         self.least, self.most = side_of(rows)
         self.diagrams = _diagrams(self.blocks, deadline)
+        self.stacked = Stacked(self.diagrams, [block.variables for block in self.blocks])
         self.columns = [self.matrix[:, block.variables].tocsc() for block in self.blocks]
         self.months: List[Dict[bytes, PricedMonth]] = [{} for _ in self.blocks]
+        # Of each block the months of the last mixture, and whether others were kept since.
+        self.mixed: List[Set[bytes]] = [set() for _ in self.blocks]
+        self.has_more = False
 
     def add(self, number: int, taken: Any) -> PricedMonth:
         """Keeps a month of a block."""
-        key = taken.tobytes()
-        if key not in self.months[number]:
-            variables = self.blocks[number].variables
-            self.months[number][key] = PricedMonth(taken, int(self.costs[variables] @ taken),
-                                                   self.columns[number] @ taken)
-        return self.months[number][key]
+        key, months = taken.tobytes(), self.months[number]
+        variables = self.blocks[number].variables
+        month = months.pop(key, None) or PricedMonth(taken, int(self.costs[variables] @ taken),
+                                                     self.columns[number] @ taken)
+        # The month that was the cheapest last stands last.
+        months[key] = month
+        self.has_more = self.has_more or key not in self.mixed[number]
+        return month
 
     def add_plan(self, plan: Any) -> None:
         """Keeps a plan's months."""
@@ -95,14 +105,12 @@ class Pricing:
 
     def bound(self, prices: Any) -> Optional[Bound]:
         """The bound at whole prices, keeping each block's cheapest month; None where a block has no month."""
-        costs, least, uses = self.priced(prices), [], np.zeros(len(self.shared))
-        for number, (block, diagram) in enumerate(zip(self.blocks, self.diagrams)):
-            found = cheapest(diagram, costs[block.variables])
-            if found is None:
-                return None
-            least.append(found[0])
-            uses = uses + self.add(number, found[1]).uses
-        return Bound(self.side(prices) + sum(least), prices, least, uses)
+        found = self.stacked.cheapest(self.priced(prices))
+        if found is None:
+            return None
+        least, plan = found
+        self.add_plan(plan)
+        return Bound(self.side(prices) + sum(least), prices, least, self.matrix @ plan)
 
     def rounded(self, prices: Any) -> Any:
         """Float prices as whole multiples of 1 / SCALE, with the signs that the rows allow."""
@@ -126,38 +134,39 @@ class Pricing:
             master = self.master()
             if master is None or math.ceil(master.value - 1e-6) <= -(-best.value // SCALE):
                 return
-            count = self.count()
             trial = (1 - step) * near + step * master.prices
             found = self.bound(self.rounded(trial))
             if found is not None and found.value > best.value:
                 best, near = found, trial
                 yield best
-            elif self.count() == count and step == 1.0:
+            elif not self.has_more and step == 1.0:
                 return
-            step = 1.0 if self.count() == count else min(1.0, step * _LESS_SMOOTHED)
+            step = min(1.0, step * _LESS_SMOOTHED) if self.has_more else 1.0
 
     def _by_steps(self, best: Bound, prices: Any, target: Callable[[], Optional[int]],
                   deadline: float) -> Iterator[Bound]:
-        """Better bounds by steps against what the cheapest months miss of the shared rows (Polyak 1969)."""
-        factor, vain, at = 1.0, 0, best
+        """Better bounds by steps against what the cheapest months miss of the shared rows (Polyak 1969), each deflected
+        by those before (Camerini, Fratta and Maffioli 1975)."""
+        factor, vain, at, local, step = 1.0, 0, best, best.value, np.zeros(len(prices))
         for _ in range(_STEPS):
             wanted = target()
             aim = best.value * (1 + _AIM) + SCALE if wanted is None else SCALE * wanted + SCALE
-            missed = self.missed(at)
-            length = float((missed * missed).sum())
+            step = self.missed(at) + _GOES_ON * step
+            length = float((step * step).sum())
             if _reaches(best, wanted) or length == 0 or factor < _SHORTEST or time.monotonic() > deadline:
                 return
-            prices = prices + factor * (aim - at.value) / SCALE / length * missed
+            prices = prices + factor * max(1, aim - at.value) / SCALE / length * step
             prices = np.where(np.isinf(self.least) & (prices > 0) | np.isinf(self.most) & (prices < 0), 0.0, prices)
             found = self.bound(self.rounded(prices))
             if found is None:
                 return
-            at, vain = found, vain + 1
+            at, vain = found, 0 if found.value > local else vain + 1
+            local = max(local, found.value)
             if found.value > best.value:
-                best, vain = found, 0
+                best = found
                 yield best
-            elif vain >= _VAIN:
-                factor, vain, prices, at = factor / 2, 0, best.prices / SCALE, best
+            if vain >= _VAIN:
+                factor, vain, local = factor * _SHORTER, 0, found.value
 
     def missed(self, bound: Bound) -> Any:
         """By how much the months that a bound's prices make cheapest miss the shared rows, towards the sides that the
@@ -171,7 +180,7 @@ class Pricing:
         free = copy.copy(self)
         free.model = self.model._replace(costs=(0,) * self.model.variables)
         free.costs = np.zeros(self.model.variables, dtype=np.int64)
-        free.months = [{} for _ in self.blocks]
+        free.months, free.mixed = [{} for _ in self.blocks], [set() for _ in self.blocks]
         for number, months in enumerate(self.months):
             for month in months.values():
                 free.add(number, month.taken)
@@ -186,53 +195,49 @@ class Pricing:
         master = self.master()
         return master is not None and master.missed > 1e-6
 
-    def count(self) -> int:
-        """How many months are kept."""
-        return sum(map(len, self.months))
-
     def master(self) -> Optional["Master"]:
-        """The best mixture of the kept months, where a shared row may be missed at a high cost; None where it isn't
-        found."""
-        months = [month for own in self.months for month in own.values()]
-        counts = [len(own) for own in self.months]
-        uses = np.array([month.uses for month in months]).T.reshape(len(self.shared), len(months))
-        costs = np.array([month.cost for month in months], dtype=float)
-        return _master(uses, costs, counts, self.least, self.most)
+        """The best mixture of the months that were the cheapest last, where a shared row may be missed at a high cost;
+        None where it isn't found."""
+        last = [list(own.items())[-_KEPT:] for own in self.months]
+        self.mixed, self.has_more = [{key for key, _ in own} for own in last], False
+        months = [month for own in last for _, month in own]
+        uses = sparse.csc_matrix(np.array([month.uses for month in months]).reshape(len(months), -1).T)
+        found = _master(uses, np.array([month.cost for month in months], dtype=float), [len(own) for own in last],
+                        self.least, self.most)
+        # Those that the mixture has are among the next one's.
+        keys = [(number, key) for number, own in enumerate(last) for key, _ in own]
+        for place in np.flatnonzero(found.parts > 0).tolist() if found is not None else ():
+            number, key = keys[place]
+            self.months[number][key] = self.months[number].pop(key)
+        return found
 
-    def with_and_without(self, number: int, costs: Any) -> Tuple[List[int], List[int]]:
-        """The least costs of a block's months without each of its variables, and with it."""
-        without, taken = cheapest_with(self.diagrams[number], costs).tolist()
-        return without, taken
-
-    def reaches(self, prices: Any) -> Any:
-        """For each variable the bounds at whole prices where it is 0 and where it is 1: an array of shape (2,
+    def reaches(self, bound: Bound) -> Any:
+        """For each variable the bounds at the bound's prices where it is 0 and where it is 1: an array of shape (2,
         variables), times `SCALE`."""
-        costs, side = self.priced(prices), self.side(prices)
-        found = np.zeros((2, self.model.variables), dtype=np.int64)
-        for block, diagram in zip(self.blocks, self.diagrams):
-            own = cheapest_with(diagram, costs[block.variables])
-            least = own[:, 0].min()
-            side += int(least)
-            found[:, block.variables] = np.minimum(own - least, TOO_MUCH)
-        return found + side
+        found = self.stacked.with_and_without(self.priced(bound.prices))
+        for block, least in zip(self.blocks, bound.least):
+            found[:, block.variables] -= least
+        return np.minimum(found, TOO_MUCH) + bound.value
 
 
 class Master(NamedTuple):
-    """The value of the master problem, its dual prices of the shared rows, and by how much it misses these."""
+    """The value of the master problem, its dual prices of the shared rows, by how much it misses these, and how much of
+    each month it has."""
 
     value: float
     prices: Any
     missed: float
+    parts: Any
 
 
 def _master(uses: Any, costs: Any, counts: List[int], least: Any, most: Any) -> Optional[Master]:
     rows, columns = uses.shape
     high = 50.0 * max(1.0, float(np.abs(costs).max(initial=1.0)) / 10)
     low, up = np.flatnonzero(np.isfinite(least)), np.flatnonzero(np.isfinite(most))
-    missing = np.vstack([-np.eye(rows)[low], -np.eye(rows)[up]])
-    above = np.hstack([np.vstack([-uses[low], uses[up]]), missing])
-    one_each = np.zeros((len(counts), columns + rows))
-    one_each[np.repeat(np.arange(len(counts)), counts), np.arange(columns)] = 1
+    every, number = sparse.identity(rows, format="csr"), np.repeat(np.arange(len(counts)), counts)
+    by_row = sparse.hstack([uses, every]).tocsr()
+    above = sparse.vstack([-by_row[low], sparse.hstack([uses, -every]).tocsr()[up]]).tocsc()
+    one_each = sparse.csc_matrix((np.ones(columns), (number, np.arange(columns))), (len(counts), columns + rows))
     found = optimize.linprog(np.append(costs, np.full(rows, high)), A_ub=above, b_ub=np.append(-least[low], most[up]),
                              A_eq=one_each, b_eq=np.ones(len(counts)), bounds=(0, None), method="highs")
     if found.status != 0:
@@ -240,7 +245,7 @@ def _master(uses: Any, costs: Any, counts: List[int], least: Any, most: Any) -> 
     prices = np.zeros(rows)
     prices[low] -= found.ineqlin.marginals[:len(low)]
     prices[up] += found.ineqlin.marginals[len(low):]
-    return Master(float(found.fun), prices, float(found.x[columns:].sum()))
+    return Master(float(found.fun), prices, float(found.x[columns:].sum()), found.x[:columns])
 
 
 def _diagrams(blocks: Sequence[PersonBlock], deadline: float) -> List[Diagram]:

@@ -1,4 +1,5 @@
-"""The processes that look for plans and for bounds: how they are started, and how they end."""
+"""The processes that look for plans and for bounds: how they are started, how they end, and how they talk with who
+started them, by lines of JSON in and out."""
 import contextlib
 import json
 import os
@@ -7,13 +8,18 @@ import queue
 import subprocess
 import sys
 import threading
-from typing import Any, Dict, List, Optional
+import time
+from typing import Any, Dict, List, Optional, TextIO
+
+from .model import Model, Row
 
 # On Windows the flag with which no Ctrl-C reaches a new process; elsewhere there is none.
 _OWN_GROUP: int = getattr(subprocess, "CREATE_NEW_PROCESS_GROUP", 0)
 # Seconds that a process has to end after its last word.
 _LONGEST_END = 5.0
-START = pathlib.Path(__file__).resolve().parent / "start.py"
+START = pathlib.Path(__file__).resolve().parent / "worker.py"
+# Seconds.
+_SHORT_WAIT = 0.01
 
 
 class Worker:
@@ -107,3 +113,48 @@ def command() -> List[str]:
     here = os.path.realpath(os.getcwd())
     paths = [path for path in sys.path if os.path.isabs(path) and os.path.realpath(path) != here]
     return [sys.executable, "-I", *["-B"] * sys.dont_write_bytecode, str(START), *dict.fromkeys(paths)]
+
+
+class Channel:
+    """Talks with the process that started this one, and ends this one when that one is gone."""
+
+    def __init__(self, lines: TextIO, out: TextIO):
+        self.lines, self.out = lines, out
+        self.plan: Optional[Any] = None
+        self.cost: Optional[int] = None
+        self.is_hopeless = False
+
+    def listen(self) -> None:
+        """Reads better plans of others from now on, while the work goes on."""
+        threading.Thread(target=self._read, daemon=True).start()
+
+    def _read(self) -> None:
+        for line in self.lines:
+            told = json.loads(line)
+            if "plan" in told:
+                self.plan, self.cost = told["plan"], told["cost"]
+            self.is_hopeless = self.is_hopeless or "hopeless" in told
+        os._exit(0)
+
+    def wait_for_plan(self, seconds: float) -> None:
+        """Waits until a plan is known, or it is said that there is none, or so many seconds have passed."""
+        until = time.monotonic() + seconds
+        while self.cost is None and not self.is_hopeless and time.monotonic() < until:
+            time.sleep(_SHORT_WAIT)
+
+    def say(self, **told: Any) -> None:
+        self.out.write(json.dumps(told) + "\n")
+        self.out.flush()
+
+    def say_plan(self, plan: Any, cost: int) -> None:
+        """Reports a plan, where none as good is known."""
+        if self.cost is None or cost < self.cost:
+            self.plan, self.cost = [int(value) for value in plan], cost
+            self.say(plan=self.plan)
+
+
+def unpacked(told: Dict[str, Any]) -> Model:
+    """A model from JSON."""
+    rows = tuple(Row(least, tuple((variable, factor) for variable, factor in terms), most, text, person)
+                 for least, terms, most, text, person in told["rows"])
+    return Model(told["variables"], tuple(told["costs"]), rows, tuple(told["persons"]), tuple(told["days"]))

@@ -6,12 +6,11 @@ from typing import Any, Iterator, List, Optional, Sequence
 
 from .certificate_check import meets
 from .chains import Closing, chain
-from .channel import Channel
 from .highs import tried
-from .model import Model, Proof, flat
-from .model_parts import Part, renamed
+from .model import Model, Part, Proof, flat, renamed
 from .persons import PersonBlock, blocks_of, cost_of, cost_row, limits_of
 from .prices import SCALE, Bound, Pricing, TooWide
+from .process import Channel
 from .reasons import conflicts
 from .shortages import shortages
 from .trees import Open, Solved, Trees
@@ -28,6 +27,8 @@ _FIRST_PART = 0.6
 _SUMS_PART = 0.3
 # By so many in a hundred a plan may be above the bound, where one is looked for near it and none is known.
 _NEAR = (1, 4, 16)
+# The parts of the time in which plans are looked for that cost no more than the bound, and near it.
+_AT_BOUND_PART, _NEAR_PART = 0.1, 0.3
 
 
 class Prover:
@@ -182,28 +183,33 @@ class Prover:
     def by_persons(self, pricing: Pricing, best: Bound) -> None:
         """The bound that the prices show, plans near it, and trees after the persons' links for what is left between
         them."""
-        for percent in _NEAR:
-            if self.channel.cost is None:
-                self.look_near(pricing, best, best.value // SCALE + abs(best.value) * percent // (100 * SCALE) + 2)
-        most = -(-best.value // SCALE) - 1
-        if self.channel.cost is not None:
-            most = min(most, self.channel.cost - 1)
+        least, reaches = -(-best.value // SCALE), pricing.reaches(best)
+        most = least - 1 if self.channel.cost is None else min(least, self.channel.cost) - 1
         if self.bound is None or most >= self.bound:
             try:
                 self.tell(chain(pricing, best, most, self.deadline), most)
             except Open:
                 pass
+        if not self.is_known(least):
+            self.look_near(reaches, least, _AT_BOUND_PART)
+        for percent in _NEAR:
+            if self.channel.cost is None:
+                self.look_near(reaches, least + abs(least) * percent // 100 + 2, _NEAR_PART)
         if self.channel.cost is not None and not self.is_closed():
-            self.look_near(pricing, best, self.channel.cost - 1)
+            self.look_near(reaches, self.channel.cost - 1, _NEAR_PART)
         self.close(pricing, best)
 
-    def look_near(self, pricing: Pricing, best: Bound, most: int) -> None:
-        """Looks for a plan that costs `most` at most, among the variables that the prices leave it."""
-        reaches = pricing.reaches(best.prices)
+    def is_known(self, cost: int) -> bool:
+        """Whether a plan that costs so little is known."""
+        return self.channel.cost is not None and self.channel.cost <= cost
+
+    def look_near(self, reaches: Any, most: int, part: float) -> None:
+        """Looks in a part of the time for a plan that costs `most` at most, among the variables that the prices leave
+        it, by the bounds that they reach."""
         least = (reaches[0] > SCALE * most).astype(float)
         greatest = 1.0 - (reaches[1] > SCALE * most)
         if (least <= greatest).all():
-            self.say_found(tried(self.model.costs, [*self.rows, cost_row(self.model, most)], self.left() / 3, least,
+            self.say_found(tried(self.model.costs, [*self.rows, cost_row(self.model, most)], self.left() * part, least,
                                  greatest).plan)
 
     def close(self, pricing: Pricing, best: Bound) -> None:

@@ -6,8 +6,7 @@ from typing import Any, Dict, Iterator, List, NamedTuple, Optional, Sequence, Se
 
 from .certificate_check import MOST_DEPTH, meets
 from .highs import tried
-from .model import Leaf, Limits, Model, Proof, Split, flat
-from .model_parts import Part
+from .model import Leaf, Limits, Model, Part, Proof, Split, flat
 from .persons import limits_of
 from .trees import Open, Trees
 

@@ -3,8 +3,7 @@ import importlib
 import time
 from typing import Any, Iterator, NamedTuple, Sequence, Set, Tuple
 
-from .model import Leaf, Limits, Model
-from .model_parts import Part
+from .model import Leaf, Limits, Model, Part
 from .persons import limits_of, matrix_of, side_of
 from .trees import Open, Trees
 

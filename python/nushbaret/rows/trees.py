@@ -4,8 +4,7 @@ import math
 import time
 from typing import Any, Dict, List, NamedTuple, Optional, Sequence, Tuple
 
-from .model import Leaf, Limits, Proof, Split, Terms
-from .model_parts import Part
+from .model import Leaf, Limits, Part, Proof, Split, Terms
 from .persons import matrix_of
 
 np: Any = importlib.import_module("numpy")
@@ -72,9 +71,9 @@ class Trees:
         self.matrix = matrix_of(part.rows, self.count)
         self.fixing = set(fixing)
         self.used = self._needed()
-        self.both = sparse.vstack([self.matrix[self.used], -self.matrix[self.used]]).tocsc()
+        self.both = sparse.vstack([self.matrix[self.used], -self.matrix[self.used]]).tocsr()
         self.whole = self.matrix.astype(np.int64)
-        self.far = np.asarray(abs(self.matrix).sum(axis=1)).ravel() + 1 if part.rows else np.zeros(0)
+        self.far = np.asarray(abs(self.matrix).sum(axis=1)).ravel() if part.rows else np.zeros(0)
         self.sums = [row for row in self.used if len(part.rows[row].terms) > 1
                      and all(abs(factor) == 1 for _, factor in part.rows[row].terms)]
         self.leaves = 0
@@ -196,43 +195,48 @@ class Trees:
         return (node._replace(high=_with(node.high, row, below), depth=node.depth + 1),
                 node._replace(low=_with(node.low, row, above), depth=node.depth + 1))
 
-    def _sides(self, node: _SearchNode) -> Any:
-        """The greatest values of the rows, and of the rows with the signs changed."""
-        sides = [(node.low[row], node.high[row], self.far[row]) for row in self.used]
-        return np.array([far if side is None else side.bound for _, side, far in sides]
-                        + [far if side is None else -side.bound for side, _, far in sides], dtype=float)
+    def _sides(self, node: _SearchNode) -> Tuple[Any, Any]:
+        """Which of the rows, and of the rows with the signs changed, have a greatest value, and these values."""
+        sides = np.array([np.inf if side is None else side.bound for side in (node.high[row] for row in self.used)]
+                         + [np.inf if side is None else -side.bound for side in (node.low[row] for row in self.used)])
+        places = np.flatnonzero(sides < np.inf)
+        return places, sides[places]
 
     def _solve(self, node: _SearchNode) -> Solved:
-        bounds = [(least.bound, most.bound) for least, most in zip(node.least, node.most)]
-        if any(least > most for least, most in bounds):
+        least, most = (np.array([side.bound for side in sides], dtype=float) for sides in (node.least, node.most))
+        if (least > most).any():
             return Solved(np.inf, None, np.zeros(len(self.part.rows)))
         costs = np.zeros(self.count) if self.most is None else self.costs
         if not self.used:
-            point = np.array([most if cost < 0 else least for cost, (least, most) in zip(costs, bounds)], dtype=float)
+            point = np.where(costs < 0, most, least)
             return Solved(float(costs @ point), point, np.zeros(len(self.part.rows)))
-        found = optimize.linprog(costs, A_ub=self.both, b_ub=self._sides(node), bounds=bounds, method="highs")
+        (places, sides), bounds = self._sides(node), np.column_stack([least, most])
+        found = optimize.linprog(costs, A_ub=self.both[places], b_ub=sides, bounds=bounds, method="highs")
         if found.status == 2:
-            return self._without_point(node, bounds)
+            return self._without_point(places, sides, bounds)
         if found.status != 0:
             raise Open
-        return Solved(float(found.fun), found.x, self._multipliers(found))
+        return Solved(float(found.fun), found.x, self._multipliers(found, places))
 
-    def _multipliers(self, found: Any) -> Any:
-        marginals, rows = found.ineqlin.marginals, len(self.used)
+    def _multipliers(self, found: Any, places: Any) -> Any:
+        """The rows' multipliers from those of their sides."""
+        rows, marginals = len(self.used), np.zeros(2 * len(self.used))
+        marginals[places] = found.ineqlin.marginals
         multipliers = np.zeros(len(self.part.rows))
-        multipliers[self.used] = marginals[:rows] - marginals[rows:2 * rows]
+        multipliers[self.used] = marginals[:rows] - marginals[rows:]
         return multipliers
 
-    def _without_point(self, node: _SearchNode, bounds: Sequence[Tuple[int, int]]) -> Solved:
+    def _without_point(self, places: Any, sides: Any, bounds: Any) -> Solved:
         """Multipliers that show that the relaxation has no point: those of the least violation."""
         rows = len(self.used)
-        slack = sparse.vstack([sparse.identity(rows)] * 2)
-        wide = sparse.hstack([self.both, -slack]).tocsc()
-        found = optimize.linprog(np.append(np.zeros(self.count), np.ones(rows)), A_ub=wide, b_ub=self._sides(node),
-                                 bounds=[*bounds, *[(0, None)] * rows], method="highs")
+        slack = sparse.vstack([sparse.identity(rows)] * 2).tocsr()
+        wide = sparse.hstack([self.both[places], -slack[places]]).tocsr()
+        free = np.column_stack([np.zeros(rows), np.full(rows, np.inf)])
+        found = optimize.linprog(np.append(np.zeros(self.count), np.ones(rows)), A_ub=wide, b_ub=sides,
+                                 bounds=np.concatenate([bounds, free]), method="highs")
         if found.status != 0:
             raise Open
-        return Solved(np.inf, None, self._multipliers(found))
+        return Solved(np.inf, None, self._multipliers(found, places))
 
     def _leaf(self, node: _SearchNode, solved: Solved) -> Optional[Leaf]:
         """A leaf by the multipliers, where they show it in whole numbers."""
@@ -243,7 +247,7 @@ class Trees:
             if denominator * float(np.abs(self.costs).max(initial=1)) * self.count > _MOST:
                 return None
             whole = np.rint(solved.multipliers * denominator)
-            if float(np.abs(whole).sum()) * float(self.far.max(initial=1.0)) > _MOST:
+            if float(np.abs(whole).sum()) * float(self.far.max(initial=0.0) + 1) > _MOST:
                 return None
             leaf = self._shown(node, whole.astype(np.int64), denominator if is_costly else 0)
             if leaf is not None:

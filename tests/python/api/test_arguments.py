@@ -195,7 +195,7 @@ class OwnFaults(unittest.TestCase):
     def test_refusals(self):
         """A roster that is too large for the library stays a fault of the file, with and without the variable."""
         for more in {}, {"NUSHBARET_DEBUG": "1"}:
-            ran = self.ran("__import__('nushbaret.costs.problem').costs.problem.TooLarge('too many')", **more)
+            ran = self.ran("__import__('nushbaret.costs.limits').costs.limits.TooLarge('too many')", **more)
             self.assertEqual((ran.returncode, ran.stdout, ran.stderr), (3, "", f"{self.file}: too many\n"))
 
 

@@ -172,7 +172,7 @@ class Prices(unittest.TestCase):
         self.assertEqual((plan.pairs, plan.cost, plan.missed_cost), ([("Ada", "N3"), ("Ben", "N1")], 5, 6))
 
     def test_refused(self):
-        for words, fault in ((([("Night per month", "1", "", 0)], {}), "rules, line 1: 0 is no price above 0"),
+        for words, fault in ((([("Night per month", "1", "", 0)], {}), "rules, line 1: the price 0 isn't above 0"),
                              (([], {"wanted": {"N4": (1, 2)}}), "wanted: there is no object 'N4'"),
                              (([], {"wanted": {"N1": (2, 2)}}), "wanted: 'N1': 2, where 1 to 1 may be"),
                              (([("even", "Night", "", 2)], {}), "'even' has no price")):

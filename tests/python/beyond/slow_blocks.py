@@ -28,8 +28,7 @@ def look(n, pairs, asked):
         better.append(below)
         least.append(min((value for value, _ in found.values()), default=None))
         own = -1 if asked.own is None else asked.own[row]
-        shown.append(own in found and any(exactly(cost) + prices[own] == numbers[row] for at, column, cost in pairs
-                                          if (at, column) == (row, own)))
+        shown.append(own in found and found[own][0] == numbers[row])
     first = next(((row, min(column for _, column, _ in below)) for row, below in enumerate(better) if below), None)
     return better, least, first, shown
 

@@ -1,5 +1,6 @@
 """Looks at blocks compared with their definition, and the proof alone: plans, prices and costs that are changed."""
 import unittest
+from unittest import mock
 
 from optional import np
 
@@ -63,6 +64,21 @@ class Looks(unittest.TestCase):
             found = blocks.look_listed(int(rows), at // columns, at % columns, costs, asked)
             pairs = list(zip((at // columns).tolist(), (at % columns).tolist(), costs.tolist()))
             self.compare(found, slow_blocks.look(rows, pairs, asked), asked.most)
+
+    def test_packs(self):
+        """Listed pairs in matrices of a few rows; some are listed twice, at another cost."""
+        random = np.random.default_rng(8)
+        for packed in (1, 9, 40, 4096) * 30:
+            rows, columns, count = (int(number) for number in random.integers(1, 12, 3))
+            at = random.integers(0, rows * columns, 4 * count)
+            costs = random.integers(-5, 9, len(at)).astype(float)
+            asked = self.asked(random, np.zeros((rows, 1)), columns)
+            pairs = list(zip((at // columns).tolist(), (at % columns).tolist(), costs.tolist()))
+            _, least, first, shown = slow_blocks.look(rows, pairs, asked)
+            with mock.patch.object(blocks, "PACKED", packed):
+                found = blocks._proved_listed(rows, at // columns, at % columns, costs, asked)
+            self.assertEqual((found.first, found.shown.tolist()), (first, shown))
+            self.assertEqual(found.least.tolist(), [float("inf") if value is None else value for value in least])
 
 
 @unittest.skipUnless(np, "needs NumPy")

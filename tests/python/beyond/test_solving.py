@@ -1,9 +1,9 @@
 """Plans for costs that nobody holds, compared with the package's own for the whole matrix: drawn problems of ten kinds,
 sources of each kind, time, progress and faults."""
 import importlib.util
+import math
 import pathlib
 import tempfile
-import time
 import unittest
 
 from optional import np
@@ -12,6 +12,7 @@ import nushbaret
 
 if np:
     from nushbaret import beyond
+    from nushbaret.beyond.engines import Here
     from .costs import Points, Products, best, kinds
     from .slow_blocks import patched
     patched()
@@ -103,6 +104,19 @@ class Sources(unittest.TestCase):
             self.assertEqual(beyond.solve(costs).cost, best(costs), dtype)
 
 
+class Ending(Here if np else object):
+    """This process, whose time is over after so many passes."""
+
+    def __init__(self, passes):
+        self.left = passes
+
+    def run(self, task, words, end):
+        if self.left == 0:
+            raise TimeoutError
+        self.left -= 1
+        return super().run(task, words, end)
+
+
 class Chunks:
     """What slices as an array of zarr does."""
 
@@ -141,14 +155,13 @@ class Passes(unittest.TestCase):
             beyond.solve(costs, costs.shape, timeout=0)
         self.assertIsNone(caught.exception.best)
 
-        def slow(number, gap, pairs):
-            time.sleep(0.4 if number == 3 else 0)
         with self.assertRaises(TimeoutError) as caught:
-            beyond.solve(costs, costs.shape, timeout=0.35, progress=slow)
+            beyond.solve(costs, costs.shape, client=Ending(3))
         found = caught.exception.best
-        if found is not None:
-            self.assertEqual(found.verdict, "undecided")
-            self.assertLessEqual(found.cost - wanted, found.gap + 1e-9)
+        self.assertEqual((found.verdict, found.passes), ("undecided", 3))
+        self.assertTrue(0 <= found.cost - wanted <= found.gap < math.inf)
+        again = beyond.solve(costs, costs.shape, start=found)
+        self.assertEqual((again.cost, again.verdict), (wanted, "proved"))
 
     def test_costs_that_change(self):
         calls = []

@@ -353,6 +353,9 @@ class Words(unittest.TestCase):
         self.assertEqual(result.pairs, [("Ada", "late"), ("Ada", "office"), ("Ben", "early")])
         self.assertEqual(result.to_frame().values.tolist(),
                          [["Ada", "late", 1], ["Ada", "office", 3], ["Ben", "early", 2]])
+        self.assertEqual(result.as_dict(), {"Ada": ["late", "office"], "Ben": ["early"]})
+        series = result.to_series()
+        self.assertEqual((list(series.items()), series.name, series.index.name), (result.pairs, "column", "row"))
         with self.assertRaises(nushbaret.Infeasible) as caught:
             nushbaret.assign_counts(frame, (0, 1), [3, 0, 0])
         self.assertEqual(str(pickle.loads(pickle.dumps(caught.exception))), "counts can't be met: column early must "

@@ -5,7 +5,7 @@ from unittest import mock
 
 import nushbaret
 from nushbaret.lap import direct
-from optional import np, sparse
+from optional import np, pydata, sparse
 from ways import extension
 
 KINDS = {"whole": lambda rng, shape: rng.integers(-20, 50, shape), "doubles": lambda rng, shape: rng.random(shape),
@@ -34,8 +34,9 @@ class Listed(unittest.TestCase):
         lists = entries.row[order], entries.col[order], entries.data[order]
         wide = sparse.csr_matrix(entries)
         wide.indices, wide.indptr = wide.indices.astype(np.int64), wide.indptr.astype(np.int64)
+        own = [pydata.COO.from_scipy_sparse(entries), pydata.GCXS.from_scipy_sparse(entries)] if pydata else []
         return [(entries,), (entries.tocsr(),), (entries.tocsc(),), (sparse.csr_array(entries),), (wide,),
-                (OfPydata(entries),), (*map(int, entries.shape), *lists)]
+                (OfPydata(entries),), (*map(int, entries.shape), *lists), *((one,) for one in own)]
 
     def said(self, words, maximize, is_short):
         """The result, or why there is none."""
@@ -68,6 +69,26 @@ class Listed(unittest.TestCase):
                 listed = words if len(words) > 1 else (*words, *[None] * 4)
                 taken[kind] += direct.found_listed(listed, maximize) is not None
         self.assertTrue(all(taken[kind] for kind in KINDS if kind not in ("ties", "near")), taken)
+
+    def test_larger_ones(self):
+        """Squares and rectangles of up to 60 rows, whose first plans take bids and paths, cost what dense ones do."""
+        rng = np.random.default_rng(6)
+        for number in range(60):
+            shape = tuple(rng.integers(20, 60, 2)) if number % 2 else (int(rng.integers(20, 60)),) * 2
+            greatest = int(rng.choice([2, 5, 100, 10**6, 10**12]))
+            costs = rng.integers(-greatest, greatest, shape)
+            allowed = rng.random(shape) < rng.choice([0.1, 0.2, 0.5])
+            np.fill_diagonal(allowed, True)
+            if shape[0] == shape[1]:
+                allowed = allowed[:, rng.permutation(shape[1])]
+            listed = sparse.coo_matrix((costs[allowed], np.nonzero(allowed)), shape).tocsr()
+            maximize = bool(number // 2 % 2)
+            found = nushbaret.solve_sparse(listed, maximize=maximize)
+            wanted = nushbaret.solve(np.where(allowed, costs.astype(object), None), maximize).cost
+            with self.subTest(number=number, shape=shape, greatest=greatest):
+                self.assertEqual((found.cost, costs[found.rows, found.columns].sum()), (wanted, wanted))
+                self.assertTrue(allowed[found.rows, found.columns].all() and found.verify())
+                self.assertIsNotNone(direct.found_listed((listed, *[None] * 4), maximize))
 
     def test_what_is_left_to_the_longer_way(self):
         twice = sparse.coo_matrix(([1, 2, 3], ([0, 0, 1], [0, 0, 1])), (2, 2))

@@ -7,7 +7,7 @@ from datetime import date, datetime, time, timedelta
 
 from nushbaret.roster.output.calendar import Event, calendar
 from nushbaret.roster.output.each import file_names
-from nushbaret.roster.times_of_day import Times
+from nushbaret.roster.dates import Times
 from commands import Runs, parsed, without_names
 from optional import openpyxl
 

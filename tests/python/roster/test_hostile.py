@@ -13,7 +13,7 @@ import zipfile
 from unittest import mock
 
 from nushbaret.roster import sheet_scan, sheets
-from nushbaret.roster.cells import FORBIDDEN, guarded, unguarded
+from nushbaret.roster.names import FORBIDDEN, guarded, unguarded
 from nushbaret.roster.output.each import file_names
 from commands import SQUARE, Runs, environment
 from optional import openpyxl

@@ -16,6 +16,7 @@ from nushbaret.roster.names import BEGIN, END, Piece, joined, marked, pieces, wi
 from nushbaret.roster.output import html as _html, page
 from nushbaret.roster.output.days import SIZES, _size
 from commands import SQUARE, TOP, Runs, parsed, without_names
+from optional import optimize
 
 BROWSER = next(filter(None, map(shutil.which, ("chromium", "chromium-browser", "google-chrome"))), None)
 SHIFTS = ("early", "late", "night")
@@ -247,7 +248,9 @@ class Month(Runs):
 
 
 class Picture(unittest.TestCase):
-    """The picture of a week that README.md shows."""
+    """The pictures of a week and of a month that the pages show."""
+
+    SHOWN = (("week", 990, "README.md", "docs/"), ("month", 1100, "docs/RULES.md", ""))
 
     def size(self, path):
         """The width and the height of a PNG."""
@@ -256,19 +259,20 @@ class Picture(unittest.TestCase):
         self.assertLess(len(data), 150_000)
         return struct.unpack(">II", data[16:24])
 
-    def test_it_is_shown(self):
-        self.assertIn("](docs/pictures/week.png)", (TOP / "README.md").read_text(encoding="utf-8"))
-        self.assertEqual(self.size(TOP / "docs/pictures/week.png")[0], 990)
+    def test_they_are_shown(self):
+        for name, width, shown_on, folder in self.SHOWN:
+            self.assertIn(f"]({folder}pictures/{name}.png)", (TOP / shown_on).read_text(encoding="utf-8"))
+            self.assertEqual(self.size(TOP / f"docs/pictures/{name}.png")[0], width)
 
-    @unittest.skipUnless(BROWSER, "Chromium isn't installed")
-    def test_it_can_be_made_again(self):
+    @unittest.skipUnless(BROWSER and optimize, "Chromium or SciPy isn't installed")
+    def test_they_can_be_made_again(self):
         with tempfile.TemporaryDirectory() as folder:
-            picture = pathlib.Path(folder) / "week.png"
-            subprocess.run([sys.executable, str(TOP / "docs/pictures.py"), str(picture)], check=True, timeout=300)
-            width, height = self.size(picture)
-        self.assertEqual(width, 990)
-        # Letters differ between machines.
-        self.assertLess(abs(height - self.size(TOP / "docs/pictures/week.png")[1]), 200)
+            subprocess.run([sys.executable, str(TOP / "docs/pictures.py"), folder], check=True, timeout=300)
+            for name, width, _, _ in self.SHOWN:
+                found = self.size(pathlib.Path(folder) / f"{name}.png")
+                self.assertEqual(found[0], width)
+                # Letters differ between machines.
+                self.assertLess(abs(found[1] - self.size(TOP / f"docs/pictures/{name}.png")[1]), 200)
 
 
 if __name__ == "__main__":

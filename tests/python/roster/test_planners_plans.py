@@ -3,9 +3,8 @@ without."""
 import math
 import unittest
 
-from nushbaret.roster.answer import Request, answer_of
+from nushbaret.roster.answer import Request, answer_of, fair_answer
 from nushbaret.roster.by_counts import answer_by_counts
-from nushbaret.roster.fair import fair_answer
 from roster.test_planners_counts import drawings, pairs_of
 
 

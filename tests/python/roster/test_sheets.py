@@ -9,7 +9,7 @@ import warnings
 import zipfile
 
 from nushbaret.roster.dates import spellings
-from nushbaret.roster.encodings import LETTERS, MARKS
+from nushbaret.roster.names import SHARED
 from commands import SQUARE, Runs, shell
 from optional import openpyxl
 
@@ -231,11 +231,11 @@ class Encodings(Runs):
         self.assertTrue(self.run_words("u.csv", "--keep", "p.csv", "--matrix")[1].endswith("p.csv: no pair changes\n"))
 
     def test_all_plausible_letters(self):
-        letters = LETTERS + MARKS.replace("\u00a0", "")
+        letters = SHARED.western["letters"] + SHARED.western["marks"].replace("\u00a0", "")
         self.bytes("r.csv", "a,b,c\n" + "".join(f"p {letter} q,x,1\n" for letter in letters), "cp1252")
         status, out, _ = self.run_words("r.csv")
         self.assertEqual(status, 0)
-        self.assertIn("\u00e4", LETTERS)
+        self.assertIn("\u00e4", SHARED.western["letters"])
         for letter in letters[1:]:
             self.assertIn(f"p {letter} q", out)
 

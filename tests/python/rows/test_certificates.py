@@ -8,7 +8,7 @@ import unittest
 from unittest import mock
 
 from nushbaret.lap import library
-from nushbaret.rows import certificates as files, row_checker
+from nushbaret.rows import certificate_check, certificates as files
 from nushbaret.rows.certificate_check import MOST_DEPTH, shows, shows_here
 from nushbaret.rows.model import Certificate, Leaf, Limits, Split, flat
 import row_models as models
@@ -116,25 +116,26 @@ class Library(unittest.TestCase):
     """The lists that the library's call takes."""
 
     def test_lists(self):
-        with mock.patch.object(row_checker, "_rows_call", return_value=call_here):
-            self.assertTrue(shows(TRIANGLE) and shows(EVEN) and row_checker.shown_by_library(TRIANGLE))
-            self.assertFalse(row_checker.shown_by_library(TRIANGLE._replace(plan=(1, 0, 1)))
+        with mock.patch.object(certificate_check, "_rows_call", return_value=call_here):
+            self.assertTrue(shows(TRIANGLE) and shows(EVEN) and certificate_check.shown_by_library(TRIANGLE))
+            self.assertFalse(certificate_check.shown_by_library(TRIANGLE._replace(plan=(1, 0, 1)))
                              or shows(EVEN._replace(tree=(0, 0))))
-            self.assertIs(row_checker.shown_by_library(EVEN._replace(tree=(0, 1, 0, 2**63))), None)
-            self.assertIs(row_checker.shown_by_library(EVEN._replace(rows=(Limits(-2**63, (), None),))), None)
+            self.assertIs(certificate_check.shown_by_library(EVEN._replace(tree=(0, 1, 0, 2**63))), None)
+            self.assertIs(certificate_check.shown_by_library(EVEN._replace(rows=(Limits(-2**63, (), None),))), None)
 
     def test_undecided(self):
         for code, shown in ((2, None), (13, None), (0, True), (1, False), (4, False), (14, False)):
-            with mock.patch.object(row_checker, "_rows_call", return_value=lambda *_: code):
-                self.assertIs(row_checker.shown_by_library(EVEN), shown)
-        with mock.patch.object(row_checker, "_rows_call", return_value=None):
-            self.assertIs(row_checker.shown_by_library(EVEN), None)
+            with mock.patch.object(certificate_check, "_rows_call", return_value=lambda *_: code):
+                self.assertIs(certificate_check.shown_by_library(EVEN), shown)
+        with mock.patch.object(certificate_check, "_rows_call", return_value=None):
+            self.assertIs(certificate_check.shown_by_library(EVEN), None)
 
     def test_other_versions(self):
         """A library of another version isn't called."""
-        self.assertIs(row_checker.shown_by_library(EVEN), True)
-        with mock.patch.object(row_checker, "_call", []), mock.patch.multiple(library, VERSION="0.0.0", _calls={}):
-            self.assertIs(row_checker.shown_by_library(EVEN), None)
+        self.assertIs(certificate_check.shown_by_library(EVEN), True)
+        other = mock.patch.multiple(library, VERSION="0.0.0", _calls={})
+        with mock.patch.object(certificate_check, "_call", []), other:
+            self.assertIs(certificate_check.shown_by_library(EVEN), None)
             self.assertTrue(shows(EVEN))
 
 

@@ -89,7 +89,7 @@ class Command(InFolders):
         with mock.patch.object(sys, "path", paths):
             words = process.command()
         self.assertEqual(words[:2], [sys.executable, "-I"])
-        self.assertEqual(words[-3:], [str(PACKAGE / "nushbaret" / "rows" / "start.py"), str(self.programs), "/lib"])
+        self.assertEqual(words[-3:], [str(PACKAGE / "nushbaret" / "rows" / "worker.py"), str(self.programs), "/lib"])
 
     @unittest.skipIf(os.name == "nt", "these programs are those of Linux")
     def test_no_python(self):
@@ -108,7 +108,7 @@ class Failing(InFolders):
     """Processes that end before their work does."""
 
     def check(self, text, said):
-        with mock.patch.object(process, "START", self.program("start.py", text)), mock.patch.object(
+        with mock.patch.object(process, "START", self.program("worker.py", text)), mock.patch.object(
                 finding.importlib.util, "find_spec"), self.assertRaisesRegex(RuntimeError, said):
             finding.find(MODEL, 600)
 

@@ -15,8 +15,9 @@ if models.scipy:
     import numpy as np
     from nushbaret.rows import diagrams, prices
     from nushbaret.rows.chains import Closing, chain
-    from nushbaret.rows.model_parts import Part
+    from nushbaret.rows.model import Part
     from nushbaret.rows.prices import SCALE, Pricing
+    from nushbaret.rows.stacked import TOO_MUCH, Stacked
     from nushbaret.rows.trees import Open, Trees
 
 CASES = 300
@@ -39,18 +40,19 @@ class Diagrams(unittest.TestCase):
                 model = models.drawn_model(draw)
                 model = model._replace(rows=tuple(row for row in model.rows if row.terms))
                 diagram, plans = diagrams.diagram_of(model.variables, limits(model)), models.plans(model)
+                stacked = Stacked([diagram], [range(model.variables)])
                 costs = np.array([draw.randint(-9, 9) for _ in range(model.variables)], dtype=np.int64)
                 costs_of = {plan: int(costs @ np.array(plan)) for plan in plans}
-                found = diagrams.cheapest(diagram, costs)
+                found = stacked.cheapest(costs)
                 self.assertEqual(found is None, not plans)
                 if found is not None:
-                    self.assertEqual((found[0], costs_of[tuple(found[1].tolist())]), (min(costs_of.values()),) * 2)
-                    self.check_each(model, costs_of, diagrams.cheapest_with(diagram, costs))
+                    self.assertEqual((found[0][0], costs_of[tuple(found[1].tolist())]), (min(costs_of.values()),) * 2)
+                    self.check_each(model, costs_of, stacked.with_and_without(costs))
 
     def check_each(self, model, costs_of, found):
         for value, variable in itertools.product((0, 1), range(model.variables)):
             least = min((price for plan, price in costs_of.items() if plan[variable] == value), default=None)
-            self.assertEqual(None if found[value, variable] >= diagrams.TOO_MUCH // 2 else found[value, variable],
+            self.assertEqual(None if found[value, variable] >= TOO_MUCH // 2 else found[value, variable],
                              least)
 
     def test_too_wide(self):

@@ -5,7 +5,7 @@ from datetime import date, datetime, time, timedelta
 from typing import Dict, Iterator, List, NamedTuple, Optional, Sequence, Set
 
 from ...lap.library import VERSION
-from ..times_of_day import Times
+from ..dates import Times
 
 # Octets of a line, without its end.
 WIDEST = 75

@@ -5,11 +5,10 @@ from html import escape
 from typing import Dict, Iterator, List, NamedTuple, Optional, Sequence, Set, Tuple
 
 from ..answer import NamedPlan, listed
-from ..dates import Dates, dates_of
+from ..dates import Dates, Times, dates_of
 from ..day_tables import Block, blocks_of, group_of, labels_of
 from ..names import shown_path
 from ..roster import OldPlan, Roster
-from ..times_of_day import Times
 from .calendar import Event, Older, calendar, older_of
 from .html import document, name, ours, scrolling, style_of
 

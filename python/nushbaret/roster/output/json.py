@@ -3,8 +3,7 @@ import json
 from collections import Counter
 from typing import Callable, Dict, List, Sequence
 
-from ..answer import NamedPlan, Pair, ShortGroup
-from ..changes import by_person, changes_of
+from ..answer import NamedPlan, Pair, ShortGroup, by_person, changes_of
 from ..groups import missing_of
 from ..plan_json import FORMAT
 from ..roster import OldPlan, Roster, decimal_text

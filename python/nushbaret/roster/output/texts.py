@@ -4,11 +4,10 @@ import io
 from collections import Counter
 from typing import TYPE_CHECKING, Dict, Iterable, Iterator, List, NamedTuple, Optional, Sequence, Tuple
 
-from ..answer import MOST_NAMES_SHOWN, PLURALS, Answer, Fair, NamedPlan, Pair, counted, left_out, named, sentence
-from ..cells import guarded
-from ..changes import Lost, OfPerson, by_person, changes_of
+from ..answer import (MOST_NAMES_SHOWN, PLURALS, Answer, Fair, Lost, NamedPlan, OfPerson, Pair, by_person, changes_of,
+    counted, left_out, named, sentence)
 from ..groups import Broken, Counts, order_of
-from ..names import joined, marked, quoted, shown_path, with_names_marked
+from ..names import guarded, joined, marked, quoted, said, shown_path, with_names_marked
 from ..roster import CHANGE, COMES, GOES, NOT_POSSIBLE, TITLES, OldPlan, PlanLine, Roster, alike, like
 from ..sheets import SEPARATORS
 from ..words import Options
@@ -72,7 +71,7 @@ def read_lines(path: str, roster: Roster, on_terminal: bool) -> List[str]:
                                                                                    roster.titles[1])
         lines.append(f"{persons}, {objects}, {counted(len(roster.costs), 'pair')}{_rule(roster)}")
     groups = alike(roster.persons) + alike(roster.objects)
-    lines += [f"{shown_path(path)}: {', '.join(map(quoted, group))} differ in case or spaces alone"
+    lines += [f"{shown_path(path)}: {said('alike', ', '.join(map(quoted, group)))}"
               for group in groups[:MOST_NAMES_SHOWN]]
     if len(groups) > MOST_NAMES_SHOWN:
         lines.append(f"{shown_path(path)}: and {len(groups) - MOST_NAMES_SHOWN} more of these names")

@@ -5,9 +5,8 @@ from decimal import Decimal
 from typing import Any, List
 
 from ..answer import NamedPlan, left_out
-from ..cells import kept_apart
 from ..files import OutputFault
-from ..names import shown_path
+from ..names import kept_apart, shown_path
 from ..roster import PLAN_SHEET, Roster, decimal_text
 from .day_sheets import add_days
 from .month_workbook import add_month

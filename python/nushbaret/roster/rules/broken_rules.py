@@ -2,9 +2,8 @@
 from collections import Counter
 from typing import Dict, Iterator, List, Sequence, Tuple
 
-from ..answer import counted
+from ..answer import counted, pairs_of
 from ..by_counts import bounds_around
-from ..changes import pairs_of
 from ..groups import Broken, Missing, Paired, missing_of, order_of
 from ..names import joined
 from ..plan_json import NamedPair

@@ -4,15 +4,15 @@ import sys
 from typing import Callable, Iterator, List, Optional, Sequence, Tuple
 
 from ..answer import Answer, Request
+from ..files import interrupts_raise
 from ..groups import Broken, Paired
-from ..interrupts import interrupts_raise
 from ..month import Before, month_of
 from ..roster import OldPlan, Roster, named_pairs
 from ..words import Options, WordsFault
 from .rule_file import Ruling, read_rules
-from .rules_kept import broken_by, missed_by, plan_of
+from .rules_kept import (broken_by, days_in_order, kinds_alike, left_out, missed_by, other_holidays, plan_of,
+    without_day, without_kind)
 from .stages import COSTS, Progress, Proved, Task, answer_by_rules
-from .unruled import days_in_order, kinds_alike, left_out, other_holidays, without_day, without_kind
 
 DEFAULT_SECONDS = 60
 

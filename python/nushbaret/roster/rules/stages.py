@@ -5,9 +5,8 @@ from typing import Callable, Dict, List, NamedTuple, Optional, Sequence, Set, Tu
 from ...counts.count_rows import certificate_of_best, certificate_of_lack, terms_of
 from ...counts.planned import planned
 from ...rows.model import Certificate, Conflict, Finding, Row
-from ..answer import Answer, NamedPlan, Request, plan_of
+from ..answer import Answer, NamedPlan, Request, full_pairs, plan_of
 from ..by_counts import counted_of
-from ..changes import full_pairs
 from ..month import Month
 from ..roster import Roster
 from .evenness import even_counted, even_rules, start_of
@@ -25,9 +24,9 @@ Progress = Callable[[str, str, Optional[int], Optional[int]], None]
 # The share of the time that a stage before the costs gets, and that is left for one after them.
 SHARE = 0.25
 # The share of the time in which as little as can be is to be missed.
-MISSING_SHARE = 0.4
+MISSING_SHARE = 0.6
 # The share of the time in which it is looked for why something is missing, of what is left then.
-WHY_SHARE = 0.35
+WHY_SHARE = 0.3
 # The share of the time that the plan that misses the least has by itself, where it wasn't asked for.
 FULLEST = 0.5
 # The goals, as progress shows them.

@@ -209,6 +209,37 @@ class Gone(Files):
                                                       "they can't hold:\n  shifts per month: 2- (Zoe)\n"))
 
 
+@unittest.skipUnless(optimize, "SciPy isn't there")
+class NextPlans(Files):
+    """The plans after the best one: a search of all 174 that keep counts and rules has costs of 6, 8, 9 and 9."""
+
+    SECOND = "  there Ada: Early 2027-03-05, 3\n  there Cleo: not Early 2027-03-05\n"
+
+    def test_others(self):
+        self.expect(0, "least cost: 6, proved: no plan that keeps the rules costs less\n" + PLAN +
+                    "no other plan is as good, proved: the next best is 8, 2 more\n" + self.SECOND, "", *WORDS,
+                    "--others")
+
+    def test_plans(self):
+        out = self.run_words(*WORDS, "--plans", "3", "--certificate", "c.txt", "--output", "p.json")[1]
+        self.assertIn("plan 2: 8, 2 more\n" + self.SECOND + "plan 3: 9, 3 more\n  there Ada: Early 2027-03-06, 4\n",
+                      out)
+        following = json.loads(self.read("p.json"))["rules"]["following"]
+        self.assertEqual([(one["cost"], one["missed_cost"], one["better"], len(one["pairs"])) for one in following],
+                         [("8", "0", "0", 8), ("9", "0", "0", 8)])
+        for name, least in (("c.txt", 6), ("c-2.txt", 8), ("c-3.txt", 9)):
+            self.assertEqual(self.run_words("--check", name)[::2], (0, ""))
+            self.assertIn(str(least), self.run_words("--check", name)[1])
+
+    def test_only_one(self):
+        self.files({"s.csv": "person,shift,cost\nAda,Early 2027-03-05,1\n", "t.csv": "person,at least,at most\n"
+                    "Ada,1,1\n", "d.csv": "".join(line + "\n" for line in DAYS.splitlines()[:2])})
+        self.rules("days in a row,5,")
+        for words, mark in ((("--others",), ""), (("--plans", "4"), "plan 2: ")):
+            out = self.run_words(*WORDS, *words)[1]
+            self.assertTrue(out.endswith(f"\n{mark}no other plan keeps the rules, proved\n"), out)
+
+
 class TakesNone(Files):
     """Who takes none may not have any, so evenness is among the others."""
 
@@ -363,7 +394,7 @@ class Words(Files):
             times, answers = [], [Finding("undecided"), second]
             with mock.patch.object(finding, "find", side_effect=found):
                 self.expect(status, said, "", *WORDS, "--time", "2", "--as-many-as-can", "--output", "o.csv")
-            self.assertLess(times[0], 1)
+            self.assertLess(times[0], 1.3)
             self.assertGreater(times[1], 0.3)
 
     def test_long_reasons_are_never_the_answer(self):

@@ -89,6 +89,14 @@ def searched(roster, month, rules, past, options):
     return best
 
 
+def costs_of_all(roster, month, rules, past, options):
+    """What each plan that keeps counts and rules costs with what it misses of those with a price, in order."""
+    return sorted(sum(pair.cost for pair in plan) + sum(one.cost for one in missed_by(plan_of(roster, rules, month,
+                                                                                              plan)))
+                  for plan in ([*past, *filter(None, choice)] for choice in itertools.product(*options))
+                  if keeps_counts(roster, plan) and not broken_by(plan_of(roster, rules, month, plan)))
+
+
 def side_by_side(models):
     """One model of several that have nothing to do with each other: its least cost is the sum of theirs."""
     costs, rows, persons, starts = [], [], [], []
@@ -244,7 +252,8 @@ class Prices(unittest.TestCase):
 
     COUNT = 60
 
-    def drawn(self, seed):
+    @staticmethod
+    def drawn(seed):
         roster, month, rules, past, options = drawn(seed)
         r = random.Random(seed)
         rules = rules._replace(rules=[rule._replace(price=r.choice((None, 1, 3, 7))) for rule in rules.rules])
@@ -256,15 +265,12 @@ class Prices(unittest.TestCase):
     def test_best(self):
         missed = 0
         for seed in itertools.count(7000):
-            roster, month, rules, past, options = self.drawn(seed)
-            costs = [sum(pair.cost for pair in plan) + sum(one.cost for one in missed_by(plan_of(roster, rules, month,
-                                                                                                  plan)))
-                     for plan in ([*past, *filter(None, choice)] for choice in itertools.product(*options))
-                     if keeps_counts(roster, plan) and not broken_by(plan_of(roster, rules, month, plan))]
+            roster, month, rules, past, _ = case = self.drawn(seed)
+            costs = costs_of_all(*case)
             if not costs:
                 continue
             answer, proved = answer_by_rules(Task(roster, month, rules, Request(past), SECONDS))
-            self.assertEqual((proved.kind, answer.plan.cost + proved.missed_cost), ("best", min(costs)), seed)
+            self.assertEqual((proved.kind, answer.plan.cost + proved.missed_cost), ("best", costs[0]), seed)
             self.check(proved.certificate)
             missed += bool(proved.missed)
             if seed >= 7000 + self.COUNT:
@@ -277,6 +283,48 @@ class Prices(unittest.TestCase):
         last = certificate.rows[-1]
         less = (*certificate.rows[:-1], last._replace(most=last.most + 1))
         self.assertFalse(shows(certificate._replace(rows=less)))
+
+
+@unittest.skipIf(optimize is None or np is None, "needs SciPy")
+class Following(unittest.TestCase):
+    """The plans after the best one, next to all plans by their cost with what they miss."""
+
+    FIRST, COUNT, PLANS = 7106, 6, 3
+
+    def test_next_plans(self):
+        kinds = {"only one": 0, "several": 0, "none": 0}
+        for seed in itertools.count(self.FIRST):
+            roster, month, rules, past, options = case = Prices.drawn(seed)
+            costs = costs_of_all(*case)
+            if not costs:
+                continue
+            answer, proved = answer_by_rules(Task(roster, month, rules, Request(past, plans=self.PLANS), SECONDS))
+            found = [answer.plan.cost + proved.missed_cost]
+            seen = [sorted(answer.plan.pairs)]
+            for one in proved.following:
+                self.assertTrue(shows(one.certificate), seed)
+                if one.plan is None:
+                    self.assertTrue(one.is_none, seed)
+                    continue
+                self.assertEqual(one.better, 0, seed)
+                found.append(one.plan.cost + one.missed_cost)
+                seen.append(sorted(one.plan.pairs))
+            self.assertEqual(found, costs[:self.PLANS], seed)
+            self.assertEqual(len(proved.following), min(len(costs), self.PLANS - 1), seed)
+            self.assertEqual(len({tuple(plan) for plan in seen}), len(seen), seed)
+            kinds["none" if len(costs) < self.PLANS else "several" if costs[0] == costs[1] else "only one"] += 1
+            if sum(kinds.values()) >= self.COUNT and all(kinds.values()):
+                break
+
+    def test_whether_another_is_as_good(self):
+        for seed in range(self.FIRST, self.FIRST + 2):
+            roster, month, rules, past, _ = case = Prices.drawn(seed)
+            costs = costs_of_all(*case)
+            if costs:
+                answer, proved = answer_by_rules(Task(roster, month, rules, Request(past, others=True), SECONDS))
+                following, = proved.following
+                self.assertEqual(None if following.plan is None else following.plan.cost + following.missed_cost,
+                                 costs[1] if len(costs) > 1 else None, seed)
 
 
 def most_even(roster, month, rules, past, options):

@@ -10,9 +10,9 @@ from typing import Any, List, NamedTuple, Tuple
 
 from . import naming, reading as exact
 from .kinds import Costs, Doubles, WholeNumbers, plain, whole_numbers
-from .limits import MOST_PERSONS
+from .limits import MOST_PERSONS, TooLarge
 from .numbers import Unit, in_unit, unit_of
-from .problem import AssignmentProblem, TooLarge, kept, listed
+from .problem import AssignmentProblem, kept, listed
 
 WORD = "unmatched_cost"
 # What a row's own column is called in messages.
