@@ -1,19 +1,30 @@
-// What the worker does with a roster: it reads it, solves it, and says all that the page shows.
-import { answerOf, firstLines, leftOut, rowsOf } from "./plan.mjs";
+// What the worker does with files: it reads them, plans the roster, and says all that the page shows.
+import { sheetOf } from "./days.mjs";
+import { costsOf, named, namedPairs, oldPlanOf, pairKey, withPast } from "./earlier.mjs";
+import { RosterFault, said, within } from "./faults.mjs";
+import { tablesOf } from "./files.mjs";
 import { MOST_PERSONS, NoMemory } from "./library.mjs";
 import { alike } from "./names.mjs";
-import { RosterFault } from "./faults.mjs";
-import { rosterOfBytes, rosterOfText } from "./roster.mjs";
+import { answerOf, firstLines, leftOut, listsOf, notesOf, rowsOf } from "./plan.mjs";
+import { rosterOf } from "./roster.mjs";
 import { counted } from "./sentences.mjs";
+import { forgotten, ofObject, ofPerson, readCounts, readGroups, withTakes } from "./takes.mjs";
 import { quoted } from "./texts.mjs";
 
-const MOST_NOTES = 20;
+// So many notes on names; tables with more cells aren't sent to the page, and lists of more pairs aren't.
+const [MOST_NOTES, MOST_SHOWN_CELLS, MOST_PAIRS, MOST_DRAWN] = [20, 20000, 5000, 250000];
 
 /**
  * @typedef {import("./roster.mjs").Roster} Roster
- * @typedef {{ form: string, comma: boolean, max: boolean }} Choices
- * @typedef {{ source: string | ArrayBuffer, choices: Choices, module: ArrayBuffer }} Question
+ * @typedef {import("./files.mjs").Table} Table
+ * @typedef {import("./earlier.mjs").OldPlan} OldPlan
+ * @typedef {import("./plan.mjs").Plan} Plan
+ * @typedef {{ person: string, object: string, isFixed: boolean }} Mark A pair that is to be in the plan, or must not be
+ * @typedef {{ form: string, comma: boolean, max: boolean, fullest: boolean, past: string }} Choices
+ * @typedef {{ files: import("./files.mjs").Given[], choices: Choices, marks: Mark[], module: ArrayBuffer }} Question
  * @typedef {{ how: string, count: string, names: string }} Left
+ * @typedef {{ name: string, kind: string, place: number, isChosen: boolean, count: number, rows: string[][] | null, separator: string }} Shown A
+ *   table as the page shows it
  * @typedef {object} Found What the page shows of an answer
  * @property {"found"} kind
  * @property {string} read How much was read
@@ -22,63 +33,125 @@ const MOST_NOTES = 20;
  * @property {Left[]} left
  * @property {string[]} notes
  * @property {Roster} roster
- * @property {number[]} objectOf The object of each person, -1 where it has none
+ * @property {Plan | null} plan
+ * @property {import("./days.mjs").DaySheet | null} sheet
+ * @property {{ persons: string[], objects: string[] }} lists
  * @property {{ persons: number[], objects: number[] }} short All who are short
- * @typedef {{ kind: "fault", text: string, line: number, column: number }} Fault
+ * @property {Shown[]} tables
+ * @typedef {{ kind: "fault", text: string, file: string, line: number, column: number, tables: Shown[] }} Fault
  * @typedef {{ kind: "failure", text: string }} Failure
- * @typedef {Found | Fault | Failure} Reply
+ * @typedef {{ kind: "progress", text: string }} Progress
+ * @typedef {Found | Fault | Failure | Progress} Reply
+ * @typedef {{ roster: Roster, kept: OldPlan | null, fixed: import("./earlier.mjs").Pair[], lines: string[] }} Read
  */
 
-/**
- * What is to be said of a roster as it was read.
- * @param {Roster} roster
- * @returns {string[]}
- */
-function notesOf(roster) {
+/** @type {(roster: Roster, tables: Table[]) => string[]} What is to be said of a roster as it was read. */
+function notesOn(roster, tables) {
   const groups = [...alike(roster.persons), ...alike(roster.objects)];
-  const notes = groups.slice(0, MOST_NOTES).map((group) => `${group.map(quoted).join(", ")} differ in case or spaces alone`);
+  const notes = groups.slice(0, MOST_NOTES).map((group) => said("alike", group.map(quoted).join(", ")));
   if (groups.length > MOST_NOTES) notes.push(`and ${groups.length - MOST_NOTES} more of these names`);
-  return roster.isGuess ? ["The file is read as Windows-1252, since it is no UTF-8", ...notes] : notes;
+  const guesses = tables.filter(({ isGuess }) => isGuess);
+  const files = guesses.map(({ name }) => tables.length > 1 ? `${name} is` : "The file is");
+  return [...files.map((file) => `${file} read as Windows-1252, since it is no UTF-8`), ...notes];
 }
 
-/**
- * @param {Roster} roster
- * @param {boolean} max
- * @param {import("./library.mjs").Library} library
- * @returns {Found}
- */
-function found(roster, max, library) {
-  const answer = answerOf(roster, max, library);
-  const { plan, shorts } = answer;
-  const [persons, objects] = [counted(roster.persons.length, roster.titles[0]), counted(roster.objects.length, roster.titles[1])];
-  const objectOf = new Array(roster.persons.length).fill(-1);
-  plan?.pairs.forEach((pair) => { objectOf[pair.person] = pair.object; });
+/** @type {(tables: Table[], kind: string) => Table | null} The table of a kind, of which there may be one. */
+function tableOf(tables, kind) {
+  const own = tables.filter((table) => table.kind === kind);
+  if (own.length < 2) return own[0] || null;
+  const fault = new RosterFault(`a second file of this kind (${kind}), after ${own[0].name}: choose what each is`);
+  fault.file = own[1].name;
+  throw fault;
+}
+
+/** @type {(tables: Table[], choices: Choices, most?: number) => Read} The roster of tables with its counts and groups, and an earlier plan. */
+export function readTables(tables, choices, most = MOST_PERSONS) {
+  const table = tableOf(tables, "roster");
+  if (!table) throw new RosterFault("no file is a roster: choose what each is");
+  const first = within(table.name, () => rosterOf(table.sheet, { ...choices, most }));
+  /** @type {<Result>(kind: string, read: (table: Table) => Result) => Result | null} */
+  const ofKind = (kind, read) => {
+    const own = tableOf(tables, kind);
+    return own && within(own.name, () => read(own));
+  };
+  const tasks = ofKind("tasks", ({ sheet }) => readCounts(sheet, first, false));
+  const places = ofKind("places", ({ sheet }) => readCounts(sheet, first, true));
+  const roster = withTakes(first, tasks, places, ofKind("groups", ({ sheet }) => readGroups(sheet, first)));
+  const lines = [places, tasks].flatMap((counts, k) => counts ? forgotten(roster, counts, k === 0, named) : []);
+  const isRuled = roster.takes !== null || roster.groups !== null;
+  const kept = ofKind("plan", ({ sheet }) => oldPlanOf(roster, namedPairs(sheet, roster), !isRuled));
+  if (kept?.gone.length) lines.push(`the earlier plan has names that the roster hasn't: ${kept.gone.slice(0, MOST_NOTES).join(", ")}`);
+  if (!kept || !roster.groups || !choices.past) return { roster, kept, fixed: [], lines };
+  const past = withPast(roster, roster.groups, kept, choices.past);
+  return { ...past, lines: [...lines, ...past.lines] };
+}
+
+/** @type {(read: Read, marks: Mark[]) => Read} The roster without pairs that must not be, and the pairs that are to be in the plan. */
+export function withMarks({ roster, kept, fixed, lines }, marks) {
+  const numbered = marks.flatMap(({ person, object, isFixed }) => {
+    const [one, other] = [roster.personNumbers.get(person), roster.objectNumbers.get(object)];
+    return one === undefined || other === undefined || roster.past.has(other) ? [] : [{ person: one, object: other, isFixed, key: pairKey(roster, one, other) }];
+  });
+  const barred = new Set(numbered.filter(({ isFixed }) => !isFixed).map(({ key }) => key));
+  const left = [...roster.costs.keys()].filter((k) => !barred.has(pairKey(roster, roster.ofPersons[k], roster.ofObjects[k])));
+  const costs = costsOf(roster);
+  const own = numbered.filter(({ isFixed, key }) => isFixed && costs.has(key)).map(({ person, object, key }) => ({ person, object, cost: costs.get(key) ?? 0 }));
+  const all = [...fixed, ...own];
+  for (const { person, object } of own) {
+    const [had, used] = [all.filter((pair) => pair.person === person).length, all.filter((pair) => pair.object === object).length];
+    const [most, room] = [ofPerson(roster, person).most, ofObject(roster, object).most];
+    const names = `${roster.persons[person]}, ${roster.objects[object]}`;
+    if (had > most) throw new RosterFault(said("most with the past", names, roster.persons[person], had, most));
+    if (used > room) throw new RosterFault(`with ${names} ${roster.objects[object]} has ${used}, where ${room} is the most`);
+  }
+  if (!barred.size) return { roster, kept, fixed: all, lines };
+  const [ofPersons, ofObjects, ownCosts] = [roster.ofPersons, roster.ofObjects, roster.costs].map((list) => left.map((k) => list[k]));
+  const changed = { ...roster, ofPersons, ofObjects, costs: ownCosts };
+  return { roster: changed, kept: kept && { ...oldPlanOf(changed, kept.named, false), gone: kept.gone }, fixed: all, lines };
+}
+
+/** @type {(tables: Table[]) => Shown[]} */
+function shownTables(tables) {
+  return tables.map(({ name, kind, place, isChosen, sheet }) => {
+    const width = sheet.rows.reduce((most, { cells }) => Math.max(most, cells.length), 0);
+    const rows = sheet.fault || width * sheet.rows.length > MOST_SHOWN_CELLS ? null : sheet.rows.map(({ cells }) => Array.from({ length: width }, (_, k) => cells[k] || ""));
+    return { name, kind, place, isChosen, count: sheet.rows.length, rows, separator: sheet.separator };
+  });
+}
+
+/** @type {(tables: Table[], question: Question, library: import("./library.mjs").Library) => Found} */
+function foundIn(tables, { choices, marks }, library) {
+  const { roster, kept, fixed, lines } = withMarks(readTables(tables, choices), marks);
+  const answer = answerOf(roster, { max: choices.max, fullest: choices.fullest, fixed, kept }, library);
+  const { plan } = answer;
+  const sheet = plan && sheetOf(roster, plan, kept);
+  // The page draws no matrix of more pairs, and their lists would stop it while they come.
+  const shown = sheet || roster.costs.length <= MOST_DRAWN ? roster : { ...roster, ofPersons: [], ofObjects: [], costs: [] };
+  const sums = [counted(roster.persons.length, roster.titles[0]), counted(roster.objects.length, roster.titles[1]), counted(roster.costs.length, "pair")];
   return {
-    kind: "found",
-    read: `${persons}, ${objects}, ${counted(roster.costs.length, "pair")}`,
-    lines: firstLines(roster, max, answer),
-    rows: plan ? rowsOf(roster, plan) : [],
-    left: plan ? leftOut(roster, plan) : [],
-    notes: notesOf(roster),
-    roster, objectOf,
-    short: { persons: shorts.flatMap((short) => short.persons), objects: shorts.flatMap((short) => short.objects) },
+    kind: "found", read: sums.join(", "), lines: firstLines(roster, choices.max, answer), rows: plan ? rowsOf(roster, plan) : [],
+    left: plan ? leftOut(roster, plan) : [], notes: [...plan ? notesOf(roster, plan, kept) : [], ...lines, ...notesOn(roster, tables)],
+    roster: shown, plan, sheet, lists: plan && plan.pairs.length <= MOST_PAIRS ? listsOf(roster, plan) : { persons: [], objects: [] },
+    short: answer.short, tables: shownTables(tables),
   };
 }
 
-/**
- * The reply to a question.
- * @param {Question} question
- * @param {() => Promise<import("./library.mjs").Library>} load
- * @returns {Promise<Reply>}
- */
-export async function replyTo(question, load) {
-  const { source, choices } = question;
+/** @type {(question: Question, load: () => Promise<import("./library.mjs").Library>, report?: (progress: Progress) => void) => Promise<Reply>} The reply to a question. */
+export async function replyTo(question, load, report = () => {}) {
+  /** @type {Table[]} */
+  let tables = [];
   try {
-    const reading = { ...choices, most: MOST_PERSONS };
-    const roster = typeof source === "string" ? rosterOfText(source, reading) : rosterOfBytes(new Uint8Array(source), reading);
-    return found(roster, choices.max, await load());
+    report({ kind: "progress", text: "Reading .." });
+    tables = await tablesOf(question.files, question.choices.comma);
+    const library = await load();
+    report({ kind: "progress", text: "Planning .." });
+    library.look = (pairs) => report({ kind: "progress", text: `Planning .. ${counted(pairs, "pair")} so far` });
+    return foundIn(tables, question, library);
   } catch (fault) {
-    if (fault instanceof RosterFault) return { kind: "fault", text: fault.text, line: fault.line, column: fault.column };
+    if (fault instanceof RosterFault) {
+      const { text, line, column } = fault;
+      return { kind: "fault", text, file: fault.file, line, column, tables: shownTables(tables) };
+    }
     if (fault instanceof NoMemory || fault instanceof RangeError) {
       return { kind: "failure", text: "The roster needs more memory than the browser gives. The command takes more." };
     }

@@ -13,13 +13,7 @@ export function byId(id, kind) {
   return found;
 }
 
-/**
- * A new element with attributes, and texts or elements in it.
- * @param {string} name
- * @param {Record<string, string>} attributes
- * @param {...(string | Node)} content
- * @returns {HTMLElement}
- */
+/** @type {(name: string, attributes: Record<string, string>, ...content: (string | Node)[]) => HTMLElement} A new element with attributes, and texts or elements in it. */
 export function element(name, attributes, ...content) {
   const made = document.createElement(name);
   for (const [key, value] of Object.entries(attributes)) made.setAttribute(key, value);
@@ -27,12 +21,14 @@ export function element(name, attributes, ...content) {
   return made;
 }
 
-/**
- * A table: titles, and a row for each line. Cells are of no language that we know.
- * @param {string[]} titles
- * @param {string[][]} rows
- * @returns {HTMLElement}
- */
+/** @type {(text: string, work: () => void, attributes?: Record<string, string>) => HTMLElement} A new button and what it does. */
+export function button(text, work, attributes = {}) {
+  const made = element("button", { type: "button", ...attributes }, text);
+  made.addEventListener("click", work);
+  return made;
+}
+
+/** @type {(titles: string[], rows: string[][]) => HTMLElement} A table: titles, and a row for each line. Cells are of no language that we know. */
 export function table(titles, rows) {
   const head = element("tr", {}, ...titles.map((title) => element("th", { scope: "col" }, title)));
   const body = rows.map((row) => element("tr", {}, ...row.map((cell) => element("td", {}, cell))));

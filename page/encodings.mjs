@@ -1,5 +1,5 @@
 // The text of a file's bytes: by its BOM, as UTF-8, or as western text of Windows.
-import { RosterFault } from "./faults.mjs";
+import { RosterFault, said, SHARED } from "./faults.mjs";
 
 const SAVE = "save the sheet as 'CSV UTF-8'";
 const WESTERN = "windows-1252";
@@ -11,45 +11,29 @@ const UTF_32 = [[0xff, 0xfe, 0, 0], [0, 0, 0xfe, 0xff]];
 // How workbooks begin: .xlsx, and what was before it.
 const WORKBOOKS = [[0x50, 0x4b, 3, 4], [0xd0, 0xcf, 0x11, 0xe0]];
 // Letters and marks above 127 that western texts of Windows have. Other encodings use other bytes for common letters.
-const PLAUSIBLE = new Set([
-  0x8c, 0x9c, 0x80, 0xa2, 0xa3, 0xa5, 0x96, 0x97, 0x91, 0x92, 0x82, 0x93, 0x94, 0x84, 0x8b, 0x9b, 0xab, 0xbb, 0xb0, 0xa7, 0xa0,
-  ...Array.from({ length: 64 }, (_, k) => 0xc0 + k).filter((code) => code !== 0xd7 && code !== 0xf7)]);
+const WESTERN_LETTERS = new Set(Object.values(SHARED.western).join(""));
+const PLAUSIBLE = new Set(Array.from({ length: 128 }, (_, k) => 128 + k).filter((code) => (
+  WESTERN_LETTERS.has(new TextDecoder(WESTERN).decode(Uint8Array.of(code))))));
 // In DOS these are letters with accents; in Windows they are quotes, which stand between letters in no text.
 const QUOTES = new Set([0x82, 0x84, 0x93, 0x94]);
 
-/**
- * @param {Uint8Array} bytes
- * @param {number[]} begin
- * @returns {boolean}
- */
+/** @type {(bytes: Uint8Array, begin: number[]) => boolean} */
 function beginsWith(bytes, begin) {
   return begin.every((byte, place) => bytes[place] === byte);
 }
 
-/**
- * @param {number} byte
- * @returns {boolean}
- */
+/** @type {(byte: number) => boolean} */
 function isSmall(byte) {
   return byte >= 0x61 && byte <= 0x7a;
 }
 
-/**
- * Whether a quote stands between letters.
- * @param {Uint8Array} bytes
- * @param {number} place
- * @returns {boolean}
- */
+/** @type {(bytes: Uint8Array, place: number) => boolean} Whether a quote stands between letters. */
 function isQuoteInWord(bytes, place) {
   const before = bytes[place - 1];
   return QUOTES.has(bytes[place]) && (isSmall(before) || before >= 0x41 && before <= 0x5a) && isSmall(bytes[place + 1]);
 }
 
-/**
- * Where bytes are no western text of Windows: the first byte that none has, else the first letter around a quote; -1 if nowhere.
- * @param {Uint8Array} bytes
- * @returns {number}
- */
+/** @type {(bytes: Uint8Array) => number} Where bytes are no western text of Windows: the first byte that none has, else the first letter around a quote; -1 if nowhere. */
 function placeOfOther(bytes) {
   const odd = bytes.findIndex((byte) => byte > 127 && !PLAUSIBLE.has(byte));
   if (odd >= 0) return odd;
@@ -58,9 +42,8 @@ function placeOfOther(bytes) {
 }
 
 /**
- * Says which encoding a text with NUL bytes is likely in. UTF-16 has one for each letter of English.
- * @param {Uint8Array} bytes
- * @param {number} place The first NUL byte
+ * Says which encoding a text with NUL bytes is likely in. UTF-16 has one for each letter of English; `place`: the first NUL byte.
+ * @type {(bytes: Uint8Array, place: number) => void}
  */
 function refuseNuls(bytes, place) {
   const sample = bytes.subarray(0, SAMPLE);
@@ -68,26 +51,18 @@ function refuseNuls(bytes, place) {
   const count = (side) => sample.filter((byte, k) => byte === 0 && k % 2 === side).length;
   const [least, most] = [count(0), count(1)].sort((one, other) => one - other);
   if (most >= Math.max(4, sample.length / 16, 8 * least)) {
-    throw new RosterFault(`a text in UTF-16 without a mark (BOM) at its beginning: ${SAVE}`);
+    throw new RosterFault(`${said("UTF-16")}: ${SAVE}`);
   }
-  const what = bytes.some((byte) => byte !== 0) ? "NUL bytes, which no text has" : "NUL bytes alone, and no text";
+  const what = said(bytes.some((byte) => byte !== 0) ? "NUL" : "NUL alone");
   throw new RosterFault(`${what}: ${SAVE}`, lineOf(bytes, place));
 }
 
-/**
- * @param {Uint8Array} bytes
- * @param {number} place
- * @returns {number}
- */
+/** @type {(bytes: Uint8Array, place: number) => number} */
 function lineOf(bytes, place) {
   return bytes.subarray(0, place).reduce((count, byte) => count + Number(byte === 10), 1);
 }
 
-/**
- * @param {Uint8Array} bytes
- * @param {string} encoding
- * @returns {string}
- */
+/** @type {(bytes: Uint8Array, encoding: string) => string} */
 function strictly(bytes, encoding) {
   try {
     return new TextDecoder(encoding, { fatal: true }).decode(bytes);
@@ -96,11 +71,7 @@ function strictly(bytes, encoding) {
   }
 }
 
-/**
- * The text of bytes, and whether its encoding is a guess.
- * @param {Uint8Array} bytes
- * @returns {{ text: string, isGuess: boolean }}
- */
+/** @type {(bytes: Uint8Array) => { text: string, isGuess: boolean }} The text of bytes, and whether its encoding is a guess. */
 export function decoded(bytes) {
   if (UTF_32.some((begin) => beginsWith(bytes, begin))) throw new RosterFault(`a text in UTF-32: ${SAVE}`);
   const marked = BOMS.find(([begin]) => beginsWith(bytes, begin));
@@ -117,10 +88,7 @@ export function decoded(bytes) {
   }
 }
 
-/**
- * @param {Uint8Array} bytes
- * @returns {string}
- */
+/** @type {(bytes: Uint8Array) => string} */
 function western(bytes) {
   const place = placeOfOther(bytes);
   if (place < 0) return new TextDecoder(WESTERN).decode(bytes);

@@ -1,16 +1,38 @@
-// What is wrong in a roster, and where.
+// What is wrong in a roster, and where; words and texts of faults that the command says too, with which the page is put together.
+
+/** @type {{ weekdays: string[], day_names: string, with_s: string, western: Record<string, string>, texts: Record<string, string> }} */
+export const SHARED = /** @type {any} */ (globalThis).SHARED;
+
+/** @type {(name: string, ...values: (string | number)[]) => string} A text that both say, with values in its gaps. */
+export function said(name, ...values) {
+  return SHARED.texts[name].split("{}").reduce((text, part, k) => `${text}${values[k - 1]}${part}`);
+}
 
 /** What is wrong: line and column (the cell of its line) from 1, 0 where there is no place. */
 export class RosterFault extends Error {
-  /**
-   * @param {string} text
-   * @param {number} [line]
-   * @param {number} [column]
-   */
+  /** @param {string} text @param {number} [line] @param {number} [column] */
   constructor(text, line = 0, column = 0) {
     super(text);
     this.text = text;
     this.line = line;
     this.column = column;
+    // The file, where there are several.
+    this.file = "";
+  }
+}
+
+/**
+ * Runs some work on a file, whose name its fault has.
+ * @template Result
+ * @param {string} file
+ * @param {() => Result} work
+ * @returns {Result}
+ */
+export function within(file, work) {
+  try {
+    return work();
+  } catch (fault) {
+    if (fault instanceof RosterFault) fault.file = fault.file || file;
+    throw fault;
   }
 }

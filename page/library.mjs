@@ -1,24 +1,56 @@
 // The calls of nushbaret.h over the WebAssembly module. No proof covers this file; what a call returns is what the proved call wrote.
 
 export const MOST_PERSONS = 4194304;
-const WORDS_OF_INFO = 6;
-const CODES = [
-  "BEST", "HALL", "SENSE", "SIZE", "LENGTH", "PERSON", "OBJECT", "COST", "PRICE", "MEMORY", "ANSWER_LENGTH", "UNLISTED", "TWICE",
-  "PRICE_RANGE", "SLACK", "HALL_RANGE", "HALL_ORDER", "HALL_MISSING", "HALL_EXTRA", "HALL_COUNT", "OVERPRICED", "STOPPED"];
 const VERSION_ROOM = 32;
+const CODES = [
+  "BEST", "ROWS_LACK", "COLUMNS_LACK", "SENSE", "DENSE", "BUFFER", "SIZE", "LENGTH", "ROW", "ORDER", "COLUMN", "GROUP", "ROW_COUNTS",
+  "COLUMN_COUNTS", "COST", "MEMORY", "STOPPED", "UNDECIDED", "NUMBERS", "TWICE", "ROW_LOOSE", "COLUMN_LOOSE", "SLACK", "MARKS", "ENOUGH",
+  "SIDE"];
+// Looks at pairs before a search says how far it is.
+const BUDGET = 20000000n;
+const WORDS_OF_INFO = 5;
+const WORDS_OF_RECORD = 8;
+// Sums of three numbers of this size are exact.
+const GREATEST_NUMBER = 2n ** 51n;
 
 /**
- * Persons and objects are numbered from 1. Where `persons` and `objects` are missing the costs are those of all pairs, person by person.
- * @typedef {{ n: number, m: number, persons?: number[], objects?: number[], costs: number[], max: boolean }} Problem
- * @typedef {{ code: string, total: bigint, assigned: number[], blocked: number[] }} Answer `assigned` has an object for each person, and
- *   in a Hall set its objects; `blocked` has its persons
+ * Pairs that may be made, by rising rows, none twice, and their costs, whose sum is to be least; how many columns each row takes, and how
+ * many rows each column; and the group of each column, of which a row takes one at most. All numbers are from 0. Groups that were given
+ * are below `nGroups`; a column k in none is alone in the group `nGroups` + k.
+ * @typedef {{ least: number, most: number }} Bounds
+ * @typedef {{ rows: Bounds[], columns: Bounds[], groupOf: number[], nGroups: number, ofRows: number[], ofColumns: number[], costs: number[] }} Counted
+ * @typedef {{ code: string, plan: Uint8Array, rows: bigint[], columns: bigint[] }} Answer A byte for each pair, and numbers of rows and
+ *   columns that prove the plan best
  * @typedef {{ address: number, count: bigint }} Block
  * @typedef {Uint8Array | Uint32Array | BigInt64Array} List
+ * @typedef {(values: List) => Block} Take
  * @typedef {Record<string, (...words: (number | bigint)[]) => number>} Calls
  */
 
 /** Memory was refused that a call can't do without. */
 export class NoMemory extends Error {}
+
+/** @type {(numbers: bigint[]) => number[]} The numbers of an answer, which are exact. */
+export function exact(numbers) {
+  if (numbers.some((number) => number > GREATEST_NUMBER || -number > GREATEST_NUMBER)) throw new RangeError("numbers beyond 2^51");
+  return numbers.map(Number);
+}
+
+/** @type {(...blocks: Block[]) => (number | bigint)[]} The words of blocks in a call. */
+function wordsOf(...blocks) {
+  return blocks.flatMap(({ address, count }) => [address, count]);
+}
+
+/** @type {(counted: Counted, take: Take) => Block[]} A problem's lists. */
+function given({ rows, columns, groupOf, nGroups, ofRows, ofColumns, costs }, take) {
+  // The library numbers groups up to the columns.
+  const numbers = new Map([...new Set(groupOf.filter((group) => group < nGroups))].map((group, k) => [group, k + 1]));
+  const groups = numbers.size ? groupOf.map((group) => numbers.get(group) || 0) : [];
+  const bounds = [rows.map(({ least }) => least), rows.map(({ most }) => most), columns.map(({ least }) => least), columns.map(({ most }) => most)];
+  return [
+    take(Uint32Array.from(ofRows, (row) => row + 1)), take(Uint32Array.from(ofColumns, (column) => column + 1)),
+    take(BigInt64Array.from(costs, BigInt)), ...[...bounds, groups].map((list) => take(Uint32Array.from(list)))];
+}
 
 /** A module that is loaded. After a trap it must not be called again. */
 export class Library {
@@ -26,12 +58,11 @@ export class Library {
   constructor(exports) {
     this.memory = /** @type {WebAssembly.Memory} */ (exports.memory);
     this.calls = /** @type {Calls} */ (/** @type {unknown} */ (exports));
+    // Called while a search goes on, with the pairs that it has.
+    this.look = (/** @type {number} */ _pairs) => {};
   }
 
-  /**
-   * @param {BufferSource} bytes
-   * @returns {Promise<Library>}
-   */
+  /** @type {(bytes: BufferSource) => Promise<Library>} */
   static async load(bytes) {
     const { instance } = await WebAssembly.instantiate(bytes, {});
     return new Library(instance.exports);
@@ -40,7 +71,7 @@ export class Library {
   /**
    * Runs some work with blocks of the module's memory, which are given back after it.
    * @template Result
-   * @param {(take: (values: List) => Block) => Result} work
+   * @param {(take: Take) => Result} work
    * @returns {Result}
    */
   within(work) {
@@ -59,78 +90,60 @@ export class Library {
     }
   }
 
-  /**
-   * The version of the library.
-   * @returns {string}
-   */
+  /** @returns {string} The version of the library. */
   version() {
     return this.within((take) => {
       const room = take(new Uint8Array(VERSION_ROOM));
       const length = Number(this.calls.nushbaret_version(room.address, room.count));
-      return String.fromCharCode(...new Uint8Array(this.memory.buffer, room.address, length));
+      return String.fromCharCode(...this.bytes({ ...room, count: BigInt(length) }));
+    });
+  }
+
+  /** @type {(block: Block) => bigint[]} Words of 64 bits that a call wrote. */
+  words(block) {
+    return Array.from(new BigInt64Array(this.memory.buffer, block.address, Number(block.count)));
+  }
+
+  /** @type {(block: Block) => Uint8Array} Bytes that a call wrote. */
+  bytes(block) {
+    return new Uint8Array(this.memory.buffer, block.address, Number(block.count)).slice();
+  }
+
+  /** @type {(counted: Counted) => Answer} A best plan, which the proved checker takes too, or the code of why there is none. */
+  solve(counted) {
+    const [n, m, pairs] = [counted.rows.length, counted.columns.length, counted.ofRows.length];
+    return this.within((take) => {
+      const lists = given(counted, take);
+      const [plan, rows, columns] = [take(new Uint8Array(pairs)), take(new BigInt64Array(n)), take(new BigInt64Array(m))];
+      const marks = [take(new Uint8Array(n)), take(new Uint8Array(m))];
+      const [record, info] = [take(new BigInt64Array(WORDS_OF_RECORD)), take(new BigInt64Array(WORDS_OF_INFO))];
+      const words = wordsOf(...lists, plan, rows, columns, ...marks);
+      let code = "STOPPED";
+      while (code === "STOPPED") {
+        code = CODES[this.calls.nushbaret_counts_from(0, ...words, BUDGET, record.address, info.address)];
+        if (code === "STOPPED") this.look(this.bytes(plan).reduce((sum, chosen) => sum + chosen, 0));
+      }
+      if (code === "BEST") {
+        const checked = CODES[this.calls.nushbaret_check_counts(0, ...wordsOf(...lists, plan, rows, columns), info.address)];
+        if (checked !== "BEST") throw checked === "MEMORY" ? new NoMemory("memory refused") : new Error(`the checker says ${checked} of a plan that the library found`);
+      }
+      return { code, plan: this.bytes(plan), rows: this.words(rows), columns: this.words(columns) };
     });
   }
 
   /**
-   * Words of 64 bits that a call wrote.
-   * @param {Block} block
-   * @param {number} count
-   * @returns {bigint[]}
+   * @type {(counted: Counted, ofColumns: boolean, rows: number[], columns: number[]) => boolean}
+   *   Whether the proved checker takes a shortage: of marked columns if `ofColumns` is true, and else of marked rows.
    */
-  words(block, count) {
-    return Array.from(new BigInt64Array(this.memory.buffer, block.address, count));
-  }
-
-  /**
-   * Numbers of persons or of objects that a call wrote.
-   * @param {Block} block
-   * @param {number} count
-   * @returns {number[]}
-   */
-  numbers(block, count) {
-    return Array.from(new Uint32Array(this.memory.buffer, block.address, count));
-  }
-
-  /**
-   * Solves a problem: an optimal assignment, a Hall set, or the code of the refusal.
-   * @param {Problem} problem
-   * @returns {Answer}
-   */
-  solve(problem) {
-    const { n, m } = problem;
-    const call = problem.persons ? this.calls.nushbaret_sparse : this.calls.nushbaret_dense;
+  isShort(counted, ofColumns, rows, columns) {
+    /** @type {(count: number, own: number[]) => Uint8Array} */
+    const marked = (count, own) => own.reduce((marks, number) => marks.fill(1, number, number + 1), new Uint8Array(count));
     return this.within((take) => {
-      const lists = [problem.persons, problem.objects].flatMap((list) => list ? [take(Uint32Array.from(list))] : []);
-      lists.push(take(BigInt64Array.from(problem.costs, BigInt)));
-      const objects = take(new Uint32Array(n));
-      const persons = take(new Uint32Array(n));
-      const prices = take(new BigInt64Array(m));
+      const lists = wordsOf(...given(counted, take));
+      const marks = wordsOf(take(marked(counted.rows.length, rows)), take(marked(counted.columns.length, columns)));
       const info = take(new BigInt64Array(WORDS_OF_INFO));
-      const given = [...lists, objects, persons].flatMap((list) => [list.address, list.count]);
-      const words = [problem.max ? 1 : 0, BigInt(n), BigInt(m), ...given, prices.address, BigInt(m), info.address];
-      const code = CODES[call(...words)];
-      const [total, , nPersons, nObjects] = this.words(info, WORDS_OF_INFO);
-      const counts = { BEST: [n, 0], HALL: [Number(nObjects), Number(nPersons)] }[code] || [0, 0];
-      return { code, total, assigned: this.numbers(objects, counts[0]), blocked: this.numbers(persons, counts[1]) };
-    });
-  }
-
-  /**
-   * Whether the first persons of a problem, so many, list just the first objects, which are fewer: judged by the proved checker.
-   * @param {{ n: number, m: number, persons: number[], objects: number[] }} problem
-   * @param {number} nPersons
-   * @param {number} nObjects
-   * @returns {boolean}
-   */
-  isHall(problem, nPersons, nObjects) {
-    /** @param {number} count */
-    const first = (count) => Uint32Array.from(Array.from({ length: count }, (_, k) => k + 1));
-    return this.within((take) => {
-      const costs = new BigInt64Array(problem.persons.length);
-      const lists = [Uint32Array.from(problem.persons), Uint32Array.from(problem.objects), costs, first(nPersons), first(nObjects)].map(take);
-      const info = take(new BigInt64Array(WORDS_OF_INFO));
-      const words = lists.flatMap((list) => [list.address, list.count]);
-      return CODES[this.calls.nushbaret_check_hall(BigInt(problem.n), BigInt(problem.m), ...words, info.address)] === "HALL";
+      const code = this.calls.nushbaret_check_shortage(0, ...lists, ofColumns ? 2 : 1, ...marks, info.address);
+      return CODES[code] === (ofColumns ? "COLUMNS_LACK" : "ROWS_LACK");
     });
   }
 }

@@ -1,46 +1,47 @@
-// The page: it takes a roster, lets a worker plan it, and shows the answer.
-import { byId } from "./elements.mjs";
-import { csvOf } from "./outputs.mjs";
-import { clearResult, showResult } from "./results.mjs";
+// The page: it takes files, lets a worker plan them, and shows the answer.
+import { calendarsOf, zipOf } from "./calendars.mjs";
+import { costsOf, pairKey } from "./earlier.mjs";
+import { button, byId, element, table } from "./elements.mjs";
+import { clearResult, legendOf, listOf, sheetTable, showResult } from "./results.mjs";
+import { csvOf } from "./sheet.mjs";
+import { showTables } from "./tables.mjs";
 
 const EXAMPLE = "nurse,early,late,night,office\nAda,2.50,4,,1\nBen,3.25,,1.75,2\nCleo,,2,4.50,\nDan,5,3.75,2,1.25\n";
 // Spreadsheets read CSV as UTF-8 where it begins with this mark.
 const BOM = "\ufeff";
+const PASTED = "";
+const KEPT = "the kept plan";
 
 /**
  * @typedef {import("./answers.mjs").Reply} Reply
  * @typedef {import("./answers.mjs").Found} Found
+ * @typedef {import("./answers.mjs").Shown} Shown
+ * @typedef {import("./files.mjs").Given} Given
  * @typedef {{ worker: Worker, begin: number, clock: number }} Run
  */
 
 /** @type {Run | null} */
 let run = null;
-/** @type {File | null} */
-let file = null;
+/** @type {Given[]} The files, the last one that was given last. */
+let files = [];
+/** @type {Shown[]} */
+let tables = [];
+/** @type {import("./answers.mjs").Mark[]} */
+let marks = [];
 /** @type {Found | null} */
 let found = null;
-// How often a plan was asked for.
-let asked = 0;
 
-/** @param {string} text */
-function say(text) {
-  byId("status", HTMLElement).textContent = text;
+/** @type {(id: string, text: string) => void} */
+function put(id, text) {
+  byId(id, HTMLElement).textContent = text;
 }
 
-/** @param {string} text */
-function refuse(text) {
-  byId("fault", HTMLElement).textContent = text;
-}
-
-/**
- * @param {number} time in milliseconds
- * @returns {string}
- */
+/** @type {(time: number) => string} A time in milliseconds. */
 function seconds(time) {
   return `${(time / 1000).toFixed(time < 10000 ? 1 : 0)} s`;
 }
 
-/** The module's bytes, which the page holds as text. */
+/** The packed module, which the page holds as text. */
 function moduleBytes() {
   const text = atob((byId("module", HTMLElement).textContent || "").trim());
   return Uint8Array.from(text, (letter) => letter.charCodeAt(0)).buffer;
@@ -55,162 +56,252 @@ function newWorker() {
   return worker;
 }
 
-/**
- * Ends a run, and returns how long it took.
- * @returns {number}
- */
+/** @type {() => number} Ends a run, and returns how long it took. */
 function end() {
   if (run === null) return 0;
   run.worker.terminate();
   clearInterval(run.clock);
   const time = performance.now() - run.begin;
   run = null;
-  byId("clock", HTMLElement).textContent = "";
-  byId("stop", HTMLElement).hidden = true;
+  put("clock", "");
+  for (const id of ["stop", "progress"]) byId(id, HTMLElement).hidden = true;
   return time;
 }
 
 function stop() {
-  if (run) say(`Stopped after ${seconds(end())}.`);
+  if (run) put("status", `Stopped after ${seconds(end())}.`);
   byId("plan", HTMLElement).focus();
 }
 
-/** What is chosen below the roster. */
+/** @type {() => import("./answers.mjs").Choices} What is chosen below the files. */
 function choices() {
   const chosen = new FormData(byId("ask", HTMLFormElement));
-  return { form: String(chosen.get("form")), comma: chosen.get("mark") === "comma", max: chosen.get("sense") === "max" };
+  return {
+    form: String(chosen.get("form")), comma: chosen.get("mark") === "comma", max: chosen.get("sense") === "max",
+    fullest: chosen.get("fullest") !== null, past: String(chosen.get("past") || ""),
+  };
 }
 
-/**
- * The file's bytes, or the cells in the box where there is none; nothing where the file can't be read.
- * @returns {Promise<string | ArrayBuffer>}
- */
-async function roster() {
-  if (file === null) return byId("text", HTMLTextAreaElement).value;
-  try {
-    return await file.arrayBuffer();
-  } catch (fault) {
-    return "";
-  }
-}
-
-/** Plans the file, or the cells in the box. */
-async function plan() {
+/** Plans the files. */
+function plan() {
   end();
   clearResult();
-  refuse("");
-  say("");
+  put("fault", files.length ? "" : "There is no roster yet: drop files, or paste cells.");
+  put("status", files.length ? "Planning .." : "");
   found = null;
-  const own = ++asked;
-  const source = await roster();
-  // Meanwhile another plan may have been asked for.
-  if (own !== asked) return;
-  if (source === "") refuse(file ? "The file can't be read: choose it again." : "There is no roster yet: drop a file, or paste cells.");
-  else start(source);
-}
-
-/**
- * Starts a worker that plans a roster.
- * @param {string | ArrayBuffer} source
- */
-function start(source) {
+  if (!files.length) return;
   const begin = performance.now();
   const worker = newWorker();
-  const clock = window.setInterval(() => {
-    byId("clock", HTMLElement).textContent = seconds(performance.now() - begin);
-  }, 500);
+  const clock = window.setInterval(() => put("clock", seconds(performance.now() - begin)), 500);
   run = { worker, begin, clock };
-  say("Planning ..");
-  byId("stop", HTMLElement).hidden = false;
+  for (const id of ["stop", "progress"]) byId(id, HTMLElement).hidden = false;
   worker.addEventListener("message", (event) => take(event.data));
   worker.addEventListener("error", (event) => take({ kind: "failure", text: event.message || "The worker doesn't start." }));
-  worker.postMessage({ source, choices: choices(), module: moduleBytes() });
+  worker.postMessage({ files, choices: choices(), marks, module: moduleBytes() });
 }
 
-/**
- * Shows what the worker replied.
- * @param {Reply} reply
- */
+/** @type {(fault: import("./answers.mjs").Fault | import("./answers.mjs").Failure) => string} Where a fault is: its file where there are several, line and column. */
+function placeOf(fault) {
+  if (fault.kind === "failure") return "";
+  const [file, line] = [files.length > 1 ? fault.file : "", fault.line ? `line ${fault.line}` : ""];
+  const parts = [file, line, line && fault.column ? `column ${fault.column}` : ""].filter(Boolean);
+  return parts.length ? `${parts.join(", ").replace(/^l/, file ? "l" : "L")}: ` : "";
+}
+
+/** @type {(reply: Reply) => void} Shows what the worker replied. */
 function take(reply) {
+  if (reply.kind === "progress") {
+    put("status", reply.text);
+    return;
+  }
   const time = seconds(end());
+  if (reply.kind !== "failure") {
+    tables = reply.tables;
+    showTables(tables, ON_TABLES);
+  }
   if (reply.kind === "found") {
     found = reply;
-    showResult(reply, rosterName());
-    say(`${reply.read}. Planned in ${time}.`);
+    showResult(reply, rosterName(), choose);
+    showPast(reply);
+    showMarks();
+    put("status", `${reply.read}. Planned in ${time}.`);
     byId("result-title", HTMLElement).focus();
   } else {
-    say("");
-    const line = reply.kind === "fault" && reply.line ? `Line ${reply.line}${reply.column ? `, column ${reply.column}` : ""}: ` : "";
-    refuse(line + reply.text);
+    put("status", "");
+    put("fault", placeOf(reply) + reply.text);
   }
   document.documentElement.dataset.done = String(Number(document.documentElement.dataset.done || "0") + 1);
 }
 
-/** @param {File} chosen */
-function takeFile(chosen) {
-  file = chosen;
-  byId("from", HTMLElement).textContent = `From the file ${chosen.name}`;
-  byId("text", HTMLTextAreaElement).value = "";
+/** @type {(table: Shown, changed: (own: Given) => Given | null) => void} Changes a table; those of its file become files of their own, and all is planned again. */
+function change(table, changed) {
+  const { place } = table;
+  const own = tables.filter((other) => other.place === place);
+  const given = own.map((other) => own.length === 1 && !other.rows ? files[place]
+    : { name: other.name, kind: other.isChosen || own.length > 1 ? other.kind : "", rows: other.rows || [], separator: other.separator });
+  files.splice(place, 1, ...given.flatMap((one, k) => own[k] === table ? changed(one) || [] : [one]));
+  if (table.name === PASTED) byId("text", HTMLTextAreaElement).value = "";
+  plan();
 }
 
-/** From now on the cells in the box are the roster. */
-function leaveFile() {
-  file = null;
-  byId("from", HTMLElement).textContent = "";
-  byId("file", HTMLInputElement).value = "";
+/** @type {(table: Shown, rows: string[][]) => void} New cells are taken when the plan is asked for again. */
+function onRows(table, rows) {
+  table.rows = rows;
+  const { place } = table;
+  const own = tables.filter((other) => other.place === place);
+  const given = own.map(({ name, kind, rows: cells, separator }) => ({ name, kind, rows: cells || [], separator }));
+  files.splice(place, 1, ...given);
+  tables.forEach((other) => { other.place += other.place > place ? given.length - 1 : own.indexOf(other) > 0 ? own.indexOf(other) : 0; });
+  put("status", "Cells have changed: plan again.");
 }
 
-/** @param {string} text */
+/** @type {import("./tables.mjs").Works} */
+const ON_TABLES = {
+  onKind: (table, kind) => change(table, (own) => ({ ...own, kind })), onRemove: (table) => change(table, () => null), onRows,
+};
+
+/** @type {(chosen: File[]) => Promise<void>} Takes files, each in place of one of its name, and plans. */
+async function takeFiles(chosen) {
+  try {
+    for (const file of chosen) giveFile({ name: file.name, kind: "", source: await file.arrayBuffer() });
+    plan();
+  } catch (fault) {
+    put("fault", "A file can't be read: choose it again.");
+  }
+}
+
+/** @type {(given: Given) => void} */
+function giveFile(given) {
+  files = [...files.filter(({ name }) => name !== given.name), given];
+}
+
+/** @type {(text: string) => void} */
 function takeText(text) {
-  leaveFile();
   byId("text", HTMLTextAreaElement).value = text;
+  if (text.trim()) giveFile({ name: PASTED, kind: "", source: text });
+  else files = files.filter(({ name }) => name !== PASTED);
 }
 
-/** @param {DragEvent} event */
+/** @type {(event: DragEvent) => void} */
 function drop(event) {
   event.preventDefault();
   byId("drop", HTMLElement).classList.remove("over");
   const data = event.dataTransfer;
-  if (!data) return;
-  if (data.files.length) takeFile(data.files[0]);
-  else takeText(data.getData("text/plain"));
+  if (data?.files.length) takeFiles([...data.files]);
+  else if (data) {
+    takeText(data.getData("text/plain"));
+    plan();
+  }
+}
+
+/** The roster's name without its end, or a word where it was pasted. */
+function rosterName() {
+  const name = tables.find(({ kind }) => kind === "roster")?.name || "roster";
+  return name.replace(/\.[^.]*$/, "");
+}
+
+/** @type {(found: Found) => void} The days before which nothing may be planned, where there is an earlier plan. */
+function showPast({ roster }) {
+  const room = byId("past", HTMLSelectElement);
+  const names = roster.groups ? roster.groups.names : [];
+  const [had, isThere] = [room.value, names.length > 0 && tables.some(({ kind }) => kind === "plan")];
+  room.replaceChildren(element("option", { value: "" }, "nothing is past"), ...names.map((name) => element("option", { value: name }, name)));
+  room.value = names.includes(had) ? had : "";
+  byId("past-room", HTMLElement).hidden = !isThere;
+}
+
+/** The pairs that were chosen, each with a button that takes the choice back. */
+function showMarks() {
+  byId("marks", HTMLElement).replaceChildren(...marks.map((mark) => {
+    const text = `${mark.isFixed ? "given" : "not"}: ${mark.person}, ${mark.object}`;
+    return button(`${text} \u00d7`, () => decide([mark], null), { "aria-label": `Take back ${text}` });
+  }));
+}
+
+/** @type {(those: import("./answers.mjs").Mark[], mark: import("./answers.mjs").Mark | null) => void} Takes choices back, makes one, and plans again. */
+function decide(those, mark) {
+  const isSame = (/** @type {import("./answers.mjs").Mark} */ one) => those.some(({ person, object }) => person === one.person && object === one.object);
+  marks = [...marks.filter((one) => !isSame(one)), ...mark ? [mark] : []];
   plan();
 }
 
-/** The file's name without its end, or a word where there is no file. */
-function rosterName() {
-  return file ? file.name.replace(/\.[^.]*$/, "") : "roster";
+/** @type {(row: number, column: number) => void} Asks what a person is to have on a day: each of its objects may be given, or forbidden. */
+function choose(row, column) {
+  if (!found || !found.sheet || found.sheet.days[column].isPast) return;
+  const { roster, sheet } = found;
+  const [person, day] = [roster.persons[row], sheet.days[column]];
+  const costs = costsOf(roster);
+  const isOpen = (/** @type {number} */ object) => costs.has(pairKey(roster, row, object))
+    || marks.some((mark) => mark.person === person && mark.object === roster.objects[object]);
+  const own = [...roster.groups?.ofObjects || []].filter(([object, group]) => group === day.group && isOpen(object)).map(([object]) => roster.objects[object]);
+  const room = byId("choice", HTMLDialogElement);
+  const all = own.map((object) => ({ person, object, isFixed: true }));
+  const act = (/** @type {string} */ text, /** @type {() => void} */ work) => button(text, () => {
+    room.close();
+    work();
+  });
+  const buttons = all.flatMap((mark) => [
+    act(`Give ${mark.object}`, () => decide(all, mark)), act(`Not ${mark.object}`, () => decide([mark], { ...mark, isFixed: false }))]);
+  room.replaceChildren(
+    element("h2", {}, element("span", { lang: "" }, `${person}, ${day.name}`)), element("p", { class: "pairs" }, ...own.length ? buttons : ["Nothing is possible here."]),
+    element("p", {}, act("As the plan chooses", () => decide(all, null)), " ", act("Leave it", () => {})));
+  room.showModal();
+}
+
+/** The plan is from now on the earlier one, from which as little changes as can be. */
+function keep() {
+  if (!found) return;
+  files = [...files.filter((_, place) => !tables.some((table) => table.place === place && table.kind === "plan")), { name: KEPT, kind: "plan", rows: found.rows, separator: found.roster.separator }];
+  plan();
 }
 
 function copy() {
   const { rows } = /** @type {Found} */ (found);
   /** @param {ClipboardEvent} event */
-  const put = (event) => {
+  const fill = (event) => {
     event.clipboardData?.setData("text/plain", csvOf(rows, "\t"));
     event.preventDefault();
   };
-  document.addEventListener("copy", put, { once: true });
+  document.addEventListener("copy", fill, { once: true });
   const isDone = document.execCommand("copy");
-  document.removeEventListener("copy", put);
-  say(isDone ? "The plan is copied; paste it into a spreadsheet." : "The browser refused to copy: mark the table and copy it.");
+  document.removeEventListener("copy", fill);
+  put("status", isDone ? "The plan is copied; paste it into a spreadsheet." : "The browser refused to copy: mark the table and copy it.");
 }
 
-function save() {
-  const { rows, roster } = /** @type {Found} */ (found);
-  const place = URL.createObjectURL(new Blob([BOM + csvOf(rows, roster.separator)], { type: "text/csv" }));
+/** @type {(blob: Blob, name: string) => void} */
+function saveAs(blob, name) {
+  const place = URL.createObjectURL(blob);
   const link = document.createElement("a");
   link.href = place;
-  link.download = `${rosterName()}-plan.csv`;
+  link.download = name;
   link.click();
   setTimeout(() => URL.revokeObjectURL(place), 60000);
 }
 
-/**
- * @param {string} id
- * @param {() => void} work
- */
-function onClick(id, work) {
-  byId(id, HTMLElement).addEventListener("click", work);
+function save() {
+  const { rows, roster } = /** @type {Found} */ (found);
+  saveAs(new Blob([BOM + csvOf(rows, roster.separator)], { type: "text/csv" }), `${rosterName()}-plan.csv`);
+}
+
+/** A page of the plan alone, without costs and scripts, for the wall. */
+function saveWall() {
+  const { sheet, lists, roster, rows } = /** @type {Found} */ (found);
+  const [titles, ...pairs] = rows.map((cells) => cells.slice(0, 2));
+  const content = sheet ? [element("div", { class: "sheet" }, sheetTable(sheet, roster.titles[0], true), legendOf(sheet, true)),
+    element("h2", {}, `By ${roster.titles[1]}`), listOf(lists.objects)] : [table(titles, pairs)];
+  const style = element("style", {}, document.querySelector("style")?.textContent || "");
+  const policy = element("meta", { "http-equiv": "Content-Security-Policy", content: "default-src 'none'; style-src 'unsafe-inline'" });
+  const page = element("html", { lang: "en" }, element("head", {}, element("meta", { charset: "utf-8" }), policy,
+    element("meta", { name: "viewport", content: "width=device-width, initial-scale=1" }), element("title", {}, rosterName()), style),
+  element("body", {}, element("h1", { lang: "" }, rosterName()), ...content));
+  saveAs(new Blob([`<!DOCTYPE html>\n${page.outerHTML}\n`], { type: "text/html" }), `${rosterName()}-wall.html`);
+}
+
+function saveCalendars() {
+  const { roster, plan: own } = /** @type {Found} */ (found);
+  const { files: calendars, why } = own ? calendarsOf(roster, own, byId("version", HTMLElement).textContent || "") : { files: [], why: "there is no plan" };
+  if (calendars.length) saveAs(zipOf(calendars), `${rosterName()}-calendars.zip`);
+  else put("status", `No calendars: ${why}.`);
 }
 
 function begin() {
@@ -218,25 +309,30 @@ function begin() {
     event.preventDefault();
     plan();
   });
-  onClick("stop", stop);
-  onClick("copy", copy);
-  onClick("save", save);
-  onClick("print", () => window.print());
-  onClick("example", () => {
+  const clear = () => {
+    [files, tables, marks] = [[], [], []];
+    takeText("");
+    byId("file", HTMLInputElement).value = "";
+    showTables([], ON_TABLES);
+    showMarks();
+    plan();
+    put("fault", "");
+  };
+  const example = () => {
+    clear();
     takeText(EXAMPLE);
     plan();
-  });
+  };
+  const works = { stop, copy, save, wall: saveWall, calendars: saveCalendars, keep, print: () => window.print(), clear, example };
+  for (const [id, work] of Object.entries(works)) byId(id, HTMLElement).addEventListener("click", work);
   const text = byId("text", HTMLTextAreaElement);
-  text.addEventListener("input", leaveFile);
+  text.addEventListener("input", () => takeText(text.value));
   text.addEventListener("paste", () => setTimeout(plan));
   const input = byId("file", HTMLInputElement);
   // So that a file that was chosen before counts as a change.
   input.addEventListener("click", () => { input.value = ""; });
-  input.addEventListener("change", () => {
-    if (!input.files || !input.files.length) return;
-    takeFile(input.files[0]);
-    plan();
-  });
+  input.addEventListener("change", () => { if (input.files?.length) takeFiles([...input.files]); });
+  for (const id of ["past", "fullest"]) byId(id, HTMLElement).addEventListener("change", plan);
   document.addEventListener("dragover", (event) => {
     event.preventDefault();
     byId("drop", HTMLElement).classList.add("over");

@@ -1,4 +1,5 @@
 // The matrix: all costs, shaded, with the plan's cells outlined, in parts that each fit on a sheet of paper.
+import { pairKey } from "./earlier.mjs";
 import { element } from "./elements.mjs";
 import { shown } from "./numbers.mjs";
 
@@ -19,24 +20,10 @@ const ROWS_AT_ONCE = 100;
 /**
  * @typedef {import("./answers.mjs").Found} Found
  * @typedef {{ begin: number, end: number }} Part Columns
- * @typedef {{ found: Found, costs: (number | undefined)[][], least: number, greatest: number, who: Set<number>, what: Set<number> }} Drawing
+ * @typedef {{ found: Found, costs: (number | undefined)[][], least: number, greatest: number, who: Set<number>, what: Set<number>, chosen: Set<number> }} Drawing
  */
 
-/**
- * How many cells the matrix of an answer has.
- * @param {Found} found
- * @returns {number}
- */
-export function cellsOf(found) {
-  return found.roster.persons.length * found.roster.objects.length;
-}
-
-/**
- * Columns one after the other, in parts of at most so much room.
- * @param {number[]} widths
- * @param {number} room
- * @returns {Part[]}
- */
+/** @type {(widths: number[], room: number) => Part[]} Columns one after the other, in parts of at most so much room. */
 function filled(widths, room) {
   const parts = [];
   let begin = 0;
@@ -52,11 +39,7 @@ function filled(widths, room) {
   return parts;
 }
 
-/**
- * As many columns at a time as fit on a sheet next to the names of persons, in parts of about one width.
- * @param {Drawing} drawing
- * @returns {Part[]}
- */
+/** @type {(drawing: Drawing) => Part[]} As many columns at a time as fit on a sheet next to the names of persons, in parts of about one width. */
 function partsOf({ found: { roster }, least, greatest }) {
   const names = roster.persons.reduce((most, name) => Math.max(most, name.length), 0);
   const room = SHEET_WIDTH - MARGIN - Math.min(LETTER * names, MOST_NAME_WIDTH);
@@ -68,10 +51,7 @@ function partsOf({ found: { roster }, least, greatest }) {
   return even.length === parts.length ? even : parts;
 }
 
-/**
- * @param {Found} found
- * @returns {Drawing}
- */
+/** @type {(found: Found) => Drawing} */
 function drawingOf(found) {
   const { roster, short } = found;
   /** @type {(number | undefined)[][]} */
@@ -80,15 +60,11 @@ function drawingOf(found) {
   const least = roster.costs.reduce((one, other) => Math.min(one, other), Infinity);
   const greatest = roster.costs.reduce((one, other) => Math.max(one, other), -Infinity);
   const span = roster.costs.length ? { least, greatest } : { least: 0, greatest: 0 };
-  return { found, costs, ...span, who: new Set(short.persons), what: new Set(short.objects) };
+  const chosen = new Set((found.plan?.pairs || []).map(({ person, object }) => pairKey(roster, person, object)));
+  return { found, costs, ...span, who: new Set(short.persons), what: new Set(short.objects), chosen };
 }
 
-/**
- * @param {Drawing} drawing
- * @param {number} person
- * @param {number} object
- * @returns {HTMLElement}
- */
+/** @type {(drawing: Drawing, person: number, object: number) => HTMLElement} */
 function cell(drawing, person, object) {
   const { found, costs, least, greatest } = drawing;
   const cost = costs[person][object];
@@ -98,40 +74,24 @@ function cell(drawing, person, object) {
     return made;
   }
   const level = Math.floor((cost - least) * SHADES / (greatest - least + 1));
-  made.className = found.objectOf[person] === object ? `s${level} own` : `s${level}`;
+  made.className = drawing.chosen.has(pairKey(found.roster, person, object)) ? `s${level} own` : `s${level}`;
   made.textContent = shown(found.roster, cost);
   return made;
 }
 
-/**
- * @param {"row" | "col"} scope
- * @param {string | Node} content
- * @param {boolean} isShort
- * @returns {HTMLElement}
- */
+/** @type {(scope: "row" | "col", content: string | Node, isShort: boolean) => HTMLElement} */
 function heading(scope, content, isShort) {
   return element("th", isShort ? { scope, class: "short" } : { scope }, content);
 }
 
-/**
- * @param {Drawing} drawing
- * @param {number} person
- * @param {Part} part
- * @returns {HTMLElement}
- */
+/** @type {(drawing: Drawing, person: number, part: Part) => HTMLElement} */
 function rowOf(drawing, person, part) {
   const row = element("tr", {}, heading("row", drawing.found.roster.persons[person], drawing.who.has(person)));
   for (let object = part.begin; object < part.end; object++) row.append(cell(drawing, person, object));
   return row;
 }
 
-/**
- * The headings of a part, below a line that names it on paper, if there are several.
- * @param {Drawing} drawing
- * @param {Part} part
- * @param {string} name
- * @returns {HTMLElement}
- */
+/** @type {(drawing: Drawing, part: Part, name: string) => HTMLElement} The headings of a part, below a line that names it on paper, if there are several. */
 function headOf(drawing, part, name) {
   const objects = drawing.found.roster.objects.slice(part.begin, part.end);
   const titles = objects.map((object, place) => heading("col", element("span", {}, object), drawing.what.has(part.begin + place)));
@@ -143,9 +103,7 @@ function headOf(drawing, part, name) {
 
 /**
  * Draws the matrix of an answer, some rows at a time, so that the page answers meanwhile. It stops where `isWanted` says so.
- * @param {Found} found
- * @param {HTMLElement} room
- * @param {() => boolean} isWanted
+ * @type {(found: Found, room: HTMLElement, isWanted: () => boolean) => Promise<void>}
  */
 export async function drawMatrix(found, room, isWanted) {
   const drawing = drawingOf(found);

@@ -1,48 +1,13 @@
 // The names of one side of a roster. A date is one name however it is written.
-import { RosterFault } from "./faults.mjs";
+import { spellings } from "./dates.mjs";
+import { RosterFault, said } from "./faults.mjs";
+import { gathered } from "./gathered.mjs";
 import { nameOf } from "./sheet.mjs";
 import { bare, quoted } from "./texts.mjs";
 
-const DATE = /^(?:([0-9]{4})-([0-9]{1,2})-([0-9]{1,2})|([0-9]{1,2})\.\s?([0-9]{1,2})\.\s?([0-9]{4}))$/;
-
-/**
- * A number with at least so many digits.
- * @param {number} number
- * @param {number} width
- * @returns {string}
- */
-function padded(number, width) {
-  return String(number).padStart(width, "0");
-}
-
-/**
- * All common ways to write a name that is a date with a year alone; of any other name itself.
- * @param {string} name
- * @returns {string[]}
- */
-export function spellings(name) {
-  const found = DATE.exec(name);
-  if (found === null) return [name];
-  const [year, month, day] = (found[1] ? [found[1], found[2], found[3]] : [found[6], found[5], found[4]]).map(Number);
-  const date = new Date(2000, 0, 1);
-  date.setFullYear(year, month - 1, day);
-  const isOne = date.getFullYear() === year && date.getMonth() === month - 1 && date.getDate() === day;
-  // The command takes later and earlier days for no dates.
-  if (!isOne || year < 1000 || date > new Date(9999, 11, 26)) return [name];
-  const days = [padded(day, 2), String(day)];
-  const months = [padded(month, 2), String(month)];
-  const dashed = months.flatMap((other) => days.map((one) => `${year}-${other}-${one}`));
-  const dotted = ["", " "].flatMap((space) => days.flatMap((one) => months.map((other) => (
-    `${one}.${space}${other}.${space}${year}`))));
-  return [...dashed, ...dotted, name];
-}
-
 /** The names of one side, numbered from 0 as they come. */
 export class Names {
-  /**
-   * @param {string} kind
-   * @param {number} most
-   */
+  /** @param {string} kind @param {number} most */
   constructor(kind, most) {
     this.kind = kind;
     this.most = most;
@@ -52,13 +17,7 @@ export class Names {
     this.numbers = new Map();
   }
 
-  /**
-   * The number of a name, a new one where it is new.
-   * @param {string} cell
-   * @param {number} line
-   * @param {number} column
-   * @returns {number}
-   */
+  /** @type {(cell: string, line: number, column: number) => number} The number of a name, a new one where it is new. */
   number(cell, line, column) {
     const known = this.numbers.get(cell);
     if (known !== undefined) return known;
@@ -68,28 +27,17 @@ export class Names {
     return found;
   }
 
-  /**
-   * The number of a name that must be new.
-   * @param {string} cell
-   * @param {number} line
-   * @param {number} column
-   * @returns {number}
-   */
+  /** @type {(cell: string, line: number, column: number) => number} The number of a name that must be new. */
   once(cell, line, column) {
     const before = this.list.length;
     const number = this.number(cell, line, column);
     if (number < before) {
-      throw new RosterFault(`the name ${quoted(cell)} a second time (list it once; the command takes counts)`, line, column);
+      throw new RosterFault(`the name ${quoted(cell)} a second time (list it once; a file of ${this.kind === "persons" ? "tasks" : "places"} says how many it takes)`, line, column);
     }
     return number;
   }
 
-  /**
-   * @param {string} name
-   * @param {number} line
-   * @param {number} column
-   * @returns {number}
-   */
+  /** @type {(name: string, line: number, column: number) => number} */
   add(name, line, column) {
     if (this.list.length === this.most) throw new RosterFault(`more than ${this.most} ${this.kind}`, line, column);
     this.list.push(name);
@@ -98,14 +46,66 @@ export class Names {
   }
 }
 
-/**
- * The names that differ in case or spaces alone, together.
- * @param {string[]} names
- * @returns {string[][]}
- */
+/** The pairs of a roster and their costs, as they are read. */
+export class Pairs {
+  /** @param {import("./numbers.mjs").Costs} costs @param {number} most */
+  constructor(costs, most) {
+    this.costs = costs;
+    this.persons = new Names("persons", most);
+    this.objects = new Names("objects", most);
+    /** @type {number[]} */
+    this.ofPersons = [];
+    /** @type {number[]} */
+    this.ofObjects = [];
+    /** @type {Map<number, number>} */
+    this.lines = new Map();
+  }
+
+  /** @type {(person: number, object: number, cell: string, line: number, column: number) => void} */
+  take(person, object, cell, line, column) {
+    this.costs.take(cell, line, column);
+    this.ofPersons.push(person);
+    this.ofObjects.push(object);
+  }
+
+  /** @type {(person: number, object: number, names: string[], line: number) => void} Refuses a pair that a line before has. */
+  refuseTwice(person, object, names, line) {
+    const key = person * this.objects.most + object;
+    const before = this.lines.get(key);
+    if (before !== undefined) throw new RosterFault(said("pair twice", ...names, before), line);
+    this.lines.set(key, line);
+  }
+
+  /** @type {(cells: string[], objects: number[], line: number) => void} Takes a row of a matrix: a person, and its costs. */
+  takeRow(cells, objects, line) {
+    const person = this.persons.once(cells[0], line, 1);
+    objects.forEach((object, k) => {
+      if (cells[k + 1]) this.take(person, object, cells[k + 1], line, k + 2);
+    });
+  }
+}
+
+/** @type {(names: string[]) => string[][]} The names that differ in case or spaces alone, together. */
 export function alike(names) {
-  /** @type {Map<string, string[]>} */
-  const groups = new Map();
-  for (const name of names) groups.set(bare(name), [...(groups.get(bare(name)) || []), name]);
-  return [...groups.values()].filter((group) => group.length > 1);
+  return [...gathered(names, bare).values()].filter((group) => group.length > 1);
+}
+
+/** @type {(one: string, other: string) => boolean} Whether two differ by one letter, or by two neighbours in the other order. A digit makes another name. */
+function isNear(one, other) {
+  const [longer, shorter] = one.length >= other.length ? [one, other] : [other, one];
+  let begin = 0;
+  while (begin < shorter.length && longer[begin] === shorter[begin]) begin++;
+  const [left, right] = [longer.slice(begin), shorter.slice(begin)];
+  if (left.length !== right.length) return shorter.length > 1 && left.slice(1) === right && !/^[0-9]/.test(left);
+  const isTurned = left.slice(0, 2) === [...right.slice(0, 2)].reverse().join("") && left.slice(2) === right.slice(2);
+  return isTurned && !/^[0-9]{2}/.test(left) || left.slice(1) === right.slice(1) && !/[0-9]/.test(left.slice(0, 1) + right.slice(0, 1));
+}
+
+/** @type {(name: string, names: Iterable<string>) => string} What a message adds on names that are like one that isn't there. */
+export function hintOf(name, names) {
+  const own = bare(name);
+  const all = [...names];
+  const same = all.filter((other) => bare(other) === own);
+  const near = (same.length ? same : all.filter((other) => isNear(bare(other), own))).slice(0, 3);
+  return near.length ? said("near", near.map(quoted).join(" or ")) : "";
 }

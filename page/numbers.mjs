@@ -1,5 +1,5 @@
 // Costs as a roster writes them, read exactly: whole numbers of units of 10^-decimals.
-import { RosterFault } from "./faults.mjs";
+import { RosterFault, said } from "./faults.mjs";
 import { quoted } from "./texts.mjs";
 
 export const MOST_PLACES = 6;
@@ -7,44 +7,24 @@ export const GREATEST_COST = 1e12;
 const MILLION = 10 ** MOST_PLACES;
 const WITH_POWER = /^([+-]?)([0-9]+)(?:[.,]([0-9]*))?[eE]([+-]?[0-9]{1,2})$/;
 
-/**
- * Whether a cell might be meant as a number, of any make.
- * @param {string} cell
- * @returns {boolean}
- */
+/** @type {(cell: string) => boolean} Whether a cell might be meant as a number, of any make. */
 export function looksLikeNumber(cell) {
   return /^[+-]?[0-9., ']*[0-9][0-9., ']*([eE][+-]?[0-9]{1,2})?$/.test(cell);
 }
 
-/**
- * A whole number of units of 10^-decimals as the roster writes it.
- * @param {bigint} units
- * @param {number} decimals
- * @param {string} point
- * @returns {string}
- */
+/** @type {(units: bigint, decimals: number, point: string) => string} A whole number of units of 10^-decimals as the roster writes it. */
 export function decimalText(units, decimals, point) {
   const digits = String(units < 0n ? -units : units).padStart(decimals + 1, "0");
   const whole = digits.slice(0, digits.length - decimals);
   return (units < 0n ? "-" : "") + whole + (decimals ? point + digits.slice(-decimals) : "");
 }
 
-/**
- * Units of a roster as it writes costs.
- * @param {{ decimals: number, comma: boolean }} roster
- * @param {bigint | number} units
- * @returns {string}
- */
+/** @type {(roster: { decimals: number, comma: boolean }, units: bigint | number) => string} Units of a roster as it writes costs. */
 export function shown(roster, units) {
   return decimalText(BigInt(units), roster.decimals, roster.comma ? "," : ".");
 }
 
-/**
- * A cell such as 1.2E+03 as a plain number, and any other as it is.
- * @param {string} cell
- * @param {boolean} comma
- * @returns {string}
- */
+/** @type {(cell: string, comma: boolean) => string} A cell such as 1.2E+03 as a plain number, and any other as it is. */
 function withoutPower(cell, comma) {
   const found = cell.includes(comma ? "." : ",") ? null : WITH_POWER.exec(cell);
   if (found === null) return cell;
@@ -75,18 +55,13 @@ export class Costs {
     this.greatest = { whole: 0, millionths: 0, line: 0, column: 0 };
   }
 
-  /**
-   * Takes a cell, or refuses it.
-   * @param {string} cell
-   * @param {number} line
-   * @param {number} column
-   */
+  /** @type {(cell: string, line: number, column: number) => void} Takes a cell, or refuses it. */
   take(cell, line, column) {
     const found = this.plain.exec(cell) || this.plain.exec(withoutPower(cell, this.comma));
-    if (found === null) throw new RosterFault(`${quoted(cell)} is no number${this.hint(cell)}`, line, column);
+    if (found === null) throw new RosterFault(said("no cost", quoted(cell), this.hint(cell)), line, column);
     const [, sign, digits, part = ""] = found;
     if (part.length > MOST_PLACES) {
-      throw new RosterFault(`${quoted(cell)} has more than ${MOST_PLACES} decimal places`, line, column);
+      throw new RosterFault(said("many places", quoted(cell), MOST_PLACES, ""), line, column);
     }
     this.places = Math.max(this.places, part.length);
     const whole = Number(digits.slice(0, 20));
@@ -97,30 +72,24 @@ export class Costs {
     this.millionths.push(millionths);
   }
 
-  /**
-   * Keeps the greatest cost, either way.
-   * @param {{ whole: number, millionths: number, line: number, column: number }} cost
-   */
+  /** @type {(cost: { whole: number, millionths: number, line: number, column: number }) => void} Keeps the greatest cost, either way. */
   look(cost) {
     const most = this.greatest;
     if (cost.whole < most.whole || cost.whole === most.whole && cost.millionths <= most.millionths) return;
     if (cost.whole > GREATEST_COST || cost.whole === GREATEST_COST && cost.millionths > 0) {
-      throw new RosterFault(`a cost beyond ${GREATEST_COST}`, cost.line, cost.column);
+      throw new RosterFault(said("beyond", GREATEST_COST, ""), cost.line, cost.column);
     }
     this.greatest = cost;
   }
 
-  /**
-   * How many places are used, and the costs as whole numbers of that unit.
-   * @returns {{ decimals: number, units: number[] }}
-   */
+  /** @type {() => { decimals: number, units: number[] }} How many places are used, and the costs as whole numbers of that unit. */
   scaled() {
     const decimals = this.places;
     const unit = 10 ** decimals;
     const rest = MILLION / unit;
     const size = this.greatest.whole * unit + Math.floor(this.greatest.millionths / rest);
     if (size > GREATEST_COST) {
-      const text = `a cost beyond ${Math.floor(GREATEST_COST / unit)} with ${decimals} decimal places`;
+      const text = said("beyond", Math.floor(GREATEST_COST / unit), said("with places", decimals));
       throw new RosterFault(text, this.greatest.line, this.greatest.column);
     }
     const units = this.whole.map((whole, place) => {
@@ -130,15 +99,11 @@ export class Costs {
     return { decimals, units };
   }
 
-  /**
-   * What a cell may have been meant as.
-   * @param {string} cell
-   * @returns {string}
-   */
+  /** @type {(cell: string) => string} What a cell may have been meant as. */
   hint(cell) {
-    if (this.comma && /^[+-]?[0-9]+\.[0-9]+$/.test(cell)) return " with a decimal comma";
+    if (this.comma && /^[+-]?[0-9]+\.[0-9]+$/.test(cell)) return said("comma");
     if (!this.comma && /^[+-]?[0-9]+,[0-9]+$/.test(cell)) return "; with a decimal comma it may be";
     const forbids = ["x", "-", "n/a"].includes(cell.toLowerCase());
-    return forbids ? "; what forbids a pair is an empty cell of a matrix, or no line" : "";
+    return forbids ? said("forbids") : "";
   }
 }

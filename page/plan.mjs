@@ -1,154 +1,180 @@
 // The plan of a roster, or who is short of what.
-import { groupsOf } from "./groups.mjs";
-import { NoMemory } from "./library.mjs";
+import { changesOf, missingOf, named, orderOf, pairKey } from "./earlier.mjs";
+import { freePairs } from "./exchanges.mjs";
+import { gathered, usesOf } from "./gathered.mjs";
+import { cutOf, lacksOf } from "./lacks.mjs";
+import { exact, NoMemory } from "./library.mjs";
+import { fixedBy, narrowed, wholePlan } from "./narrowed.mjs";
 import { shown } from "./numbers.mjs";
 import { counted, sentence } from "./sentences.mjs";
+import { hasBounds, ofObject, ofPerson } from "./takes.mjs";
 import { joined } from "./texts.mjs";
 
+// Who could change places isn't looked for among more pairs.
+const MOST_EXCHANGED = 100000;
 /**
  * @typedef {import("./roster.mjs").Roster} Roster
  * @typedef {import("./library.mjs").Library} Library
- * @typedef {import("./sentences.mjs").Short} Short
- * @typedef {{ person: number, object: number, cost: number }} Pair Numbers from 0, and a cost in the roster's units
- * @typedef {{ pairs: Pair[], cost: bigint, without: number[], unused: number[] }} Plan Pairs in the order of persons, the sum of their
- *   costs, and who and what is in no pair
+ * @typedef {import("./library.mjs").Counted} Counted
+ * @typedef {import("./earlier.mjs").Pair & { isFixed: boolean }} Pair Numbers from 0, and a cost in the roster's units
+ * @typedef {{ pairs: Pair[], cost: bigint, without: number[], unused: number[], swaps: number[][][] | null }} Plan Pairs in the order of persons,
+ *   the sum of their costs, who and what has too few, and persons and objects that could change places, where these were looked for
+ * @typedef {{ max: boolean, fullest: boolean, fixed: import("./earlier.mjs").Pair[], kept: import("./earlier.mjs").OldPlan | null }} Request
+ * @typedef {{ plan: Plan | null, sentences: string[], short: { persons: number[], objects: number[] } }} Answer
  */
 
-/**
- * The pairs of persons with their objects, in the order of persons. A pair that the roster forbids isn't among them.
- * @param {Roster} roster
- * @param {Map<number, number>} objectOf The object of each person that has one
- * @returns {Pair[]}
- */
-function pairsOf(roster, objectOf) {
-  /** @type {Pair[]} */
-  const pairs = [];
-  roster.costs.forEach((cost, k) => {
-    const [person, object] = [roster.ofPersons[k], roster.ofObjects[k]];
-    if (objectOf.get(person) === object) pairs.push({ person, object, cost });
-  });
-  return pairs.sort((one, other) => one.person - other.person);
+/** @type {(bounds: import("./library.mjs").Bounds, count: number | undefined) => import("./library.mjs").Bounds} What a count leaves next to what is given. */
+function less({ least, most }, count = 0) {
+  return { least: Math.max(0, least - count), most: most - count };
 }
 
-/**
- * A roster as the library takes it: the fewer of persons and objects are its persons.
- * @param {Roster} roster
- * @param {boolean} max
- * @returns {import("./library.mjs").Problem}
- */
-function problemOf(roster, max) {
-  const isTurned = roster.persons.length > roster.objects.length;
-  const [rows, columns] = isTurned ? [roster.ofObjects, roster.ofPersons] : [roster.ofPersons, roster.ofObjects];
-  const [n, m] = [roster.persons.length, roster.objects.length].sort((one, other) => one - other);
-  if (!isTurned && roster.isMatrix && roster.costs.length === n * m) return { n, m, costs: roster.costs, max };
-  return { n, m, persons: rows.map((number) => number + 1), objects: columns.map((number) => number + 1), costs: roster.costs, max };
-}
-
-/**
- * The plan of an assignment; a fault where it has other pairs than the roster, or another sum than the total.
- * @param {Roster} roster
- * @param {number[]} assigned
- * @param {bigint} total
- * @returns {Plan}
- */
-function planOf(roster, assigned, total) {
-  const isTurned = roster.persons.length > roster.objects.length;
-  const objectOf = new Map(assigned.map((column, row) => isTurned ? [column - 1, row] : [row, column - 1]));
-  const pairs = pairsOf(roster, objectOf);
-  const cost = pairs.reduce((sum, pair) => sum + BigInt(pair.cost), 0n);
-  if (pairs.length !== assigned.length || cost !== total) {
-    throw new Error(`${pairs.length} pairs whose costs sum up to ${cost}, where the library says ${assigned.length} and ${total}`);
+/** @type {(roster: Roster, request: Request) => { counted: Counted, places: number[] }} What is left to plan around the fixed pairs, with costs that are to be least, and the places of its pairs in the roster. */
+export function countedOf(roster, { max, fixed }) {
+  const { persons, objects, ofPersons, ofObjects, costs, groups } = roster;
+  const nGroups = groups ? groups.names.length : 0;
+  const groupOf = objects.map((_, object) => groups?.ofObjects.get(object) ?? nGroups + object);
+  const [had, used] = usesOf(fixed);
+  const rows = persons.map((_, person) => less(ofPerson(roster, person), had.get(person)));
+  const columns = objects.map((_, object) => roster.past.has(object) ? { least: 0, most: 0 } : less(ofObject(roster, object), used.get(object)));
+  if (!hasBounds(roster)) {
+    const [first, second] = [rows, columns].map((side) => side.reduce((sum, { most }) => sum + most, 0));
+    (first <= second ? rows : columns).forEach((own) => { own.least = own.most; });
   }
-  const had = new Set(pairs.map((pair) => pair.person));
-  const used = new Set(pairs.map((pair) => pair.object));
+  const isRuled = roster.takes !== null || groups !== null;
+  const width = nGroups + objects.length;
+  const taken = new Set(fixed.map(({ person, object }) => person * width + groupOf[object]));
+  const places = [...ofPersons.keys()].filter((k) => !roster.past.has(ofObjects[k])
+    && !(taken.size && taken.has(ofPersons[k] * width + groupOf[ofObjects[k]])) && (isRuled || rows[ofPersons[k]].most > 0 && columns[ofObjects[k]].most > 0));
+  if (!roster.isMatrix) places.sort((one, other) => ofPersons[one] - ofPersons[other] || ofObjects[one] - ofObjects[other]);
+  const counted = {
+    rows, columns, groupOf, nGroups, ofRows: places.map((k) => ofPersons[k]), ofColumns: places.map((k) => ofObjects[k]),
+    costs: places.map((k) => max ? -costs[k] : costs[k]),
+  };
+  return { counted, places };
+}
+
+/** @type {(roster: Roster, fixed: { object: number }[]) => string} What is planned around, in words. */
+function aroundOf(roster, fixed) {
+  const isPast = fixed.map(({ object }) => roster.past.has(object));
+  const names = [...isPast.includes(true) ? ["the past"] : [], ...isPast.includes(false) ? ["the fixed pairs"] : []];
+  return names.length ? `around ${names.join(" and ")}, ` : "";
+}
+
+/** @type {(library: Library, counted: Counted) => import("./library.mjs").Answer} A best plan with its numbers. */
+function bestOf(library, counted) {
+  if (!counted.ofRows.length && counted.rows.every(({ least }) => !least) && counted.columns.every(({ least }) => !least)) {
+    return { code: "BEST", plan: new Uint8Array(0), rows: counted.rows.map(() => 0n), columns: counted.columns.map(() => 0n) };
+  }
+  const found = library.solve(counted);
+  if (found.code === "MEMORY") throw new NoMemory("memory refused");
+  if (!["BEST", "ROWS_LACK", "COLUMNS_LACK"].includes(found.code)) throw new Error(`the library gives no answer: ${found.code}`);
+  return found;
+}
+
+/** @type {(library: Library, counted: Counted, best: import("./library.mjs").Answer, isKept: (place: number) => boolean) => Uint8Array} Of all best plans one with the fewest changes: pairs that aren't kept, and kept ones that it doesn't have. */
+function withFewestChanges(library, counted, best, isKept) {
+  const [rows, columns] = [exact(best.rows), exact(best.columns)];
+  const spare = counted.costs.map((cost, k) => cost - rows[counted.ofRows[k]] - columns[counted.ofColumns[k]]);
+  const face = narrowed(counted, spare, fixedBy(counted.rows, rows), fixedBy(counted.columns, columns));
+  const found = bestOf(library, { ...face.counted, costs: face.places.map((place) => isKept(place) ? -1 : 1) });
+  const plan = found.code === "BEST" ? wholePlan(face, found.plan, counted.costs.length) : new Uint8Array(counted.costs.length);
+  if (sumOf(counted, plan) !== sumOf(counted, best.plan)) throw new Error("a plan was found to be as good as the best, and isn't");
+  return plan;
+}
+
+/** @type {(counted: Counted, plan: ArrayLike<number>) => bigint} */
+function sumOf({ costs }, plan) {
+  return costs.reduce((sum, cost, k) => plan[k] ? sum + BigInt(cost) : sum, 0n);
+}
+
+/** @type {(roster: Roster, request: Request, library: Library) => Answer} The plan of a roster, or who is short where there is none. */
+export function answerOf(roster, request, library) {
+  const { counted: problem, places } = countedOf(roster, request);
+  const whole = bestOf(library, problem);
+  const lacks = whole.code === "BEST" ? [] : lacksOf(problem, library);
+  const sentences = lacks.map((lack) => sentence(roster, problem, lack, aroundOf(roster, request.fixed)));
+  const short = { persons: lacks.flatMap((lack) => lack.rows), objects: lacks.flatMap((lack) => lack.columns) };
+  if (lacks.length && !request.fullest) return { plan: null, sentences, short };
+  const part = lacks.length ? cutOf(problem, lacks) : { counted: problem, places: [...problem.costs.keys()], taken: [] };
+  const best = lacks.length ? bestOf(library, part.counted) : whole;
+  const isKept = (/** @type {number} */ place) => {
+    const k = part.places[place];
+    return Boolean(request.kept?.known.has(pairKey(roster, problem.ofRows[k], problem.ofColumns[k])));
+  };
+  const plan = request.kept ? withFewestChanges(library, part.counted, best, isKept) : best.plan;
+  const chosen = wholePlan(part, plan, problem.costs.length);
+  const swaps = part.counted.costs.length > MOST_EXCHANGED ? null : freePairs(part.counted, plan, exact(best.rows), exact(best.columns))
+    .map((those) => [problem.ofRows, problem.ofColumns].map((list) => [...new Set(those.map((k) => list[part.places[k]]))].sort((one, other) => one - other)));
+  return { plan: planOf(roster, request.fixed, places.filter((_, k) => chosen[k]), swaps), sentences, short };
+}
+
+/** @type {(roster: Roster, fixed: import("./earlier.mjs").Pair[], chosen: number[], swaps: number[][][] | null) => Plan} A plan of the fixed pairs and of those at some places of the roster. */
+function planOf(roster, fixed, chosen, swaps) {
+  const ranks = new Map(orderOf(roster).map((object, rank) => [object, rank]));
+  const pairs = [
+    ...fixed.map(({ person, object, cost }) => ({ person, object, cost, isFixed: true })),
+    ...chosen.map((k) => ({ person: roster.ofPersons[k], object: roster.ofObjects[k], cost: roster.costs[k], isFixed: false }))];
+  pairs.sort((one, other) => one.person - other.person || (ranks.get(one.object) ?? 0) - (ranks.get(other.object) ?? 0));
+  const [had, used] = usesOf(pairs);
+  const isFewer = (/** @type {import("./library.mjs").Bounds} */ { least, most }, /** @type {number} */ count) => (
+    count < (!hasBounds(roster) ? most : least ? 0 : Math.min(most, 1)));
   return {
-    pairs, cost,
-    without: [...roster.persons.keys()].filter((number) => !had.has(number)),
-    unused: [...roster.objects.keys()].filter((number) => !used.has(number)),
+    pairs, swaps, cost: pairs.reduce((sum, pair) => sum + BigInt(pair.cost), 0n),
+    without: [...roster.persons.keys()].filter((person) => isFewer(ofPerson(roster, person), had.get(person) || 0)),
+    unused: [...roster.objects.keys()].filter((object) => !roster.past.has(object) && isFewer(ofObject(roster, object), used.get(object) || 0)),
   };
 }
 
-/**
- * All groups that are short, each proved by the library.
- * @param {Roster} roster
- * @param {Library} library
- * @returns {Short[]}
- */
-function shortages(roster, library) {
-  const ofObjects = roster.persons.length > roster.objects.length;
-  const [nodes, items] = ofObjects ? [roster.ofObjects, roster.ofPersons] : [roster.ofPersons, roster.ofObjects];
-  const [count, others] = [roster.persons.length, roster.objects.length].sort((one, other) => one - other);
-  /** @type {number[][]} */
-  const lists = Array.from({ length: count }, () => []);
-  nodes.forEach((node, k) => lists[node].push(items[k]));
-  return groupsOf(lists, others).map(({ many, few }) => {
-    prove(lists, many, few, library);
-    return ofObjects ? { persons: few, objects: many, ofObjects } : { persons: many, objects: few, ofObjects };
-  });
+/** @type {(roster: Roster, max: boolean, answer: Answer) => string[]} The first lines: a sentence for each group that is short, and the cost of the plan. */
+export function firstLines(roster, max, { plan, sentences }) {
+  if (!plan) return sentences;
+  const partial = sentences.length ? ` of ${plan.pairs.length} pairs${hasBounds(roster) ? " that miss least" : ""}` : "";
+  return [...sentences, `${max ? "greatest" : "least"} ${roster.titles[2]}${partial}: ${shown(roster, plan.cost)}`];
 }
 
-/**
- * Lets the library check that these nodes list just these items, which are fewer.
- * @param {number[][]} lists
- * @param {number[]} many
- * @param {number[]} few
- * @param {Library} library
- */
-function prove(lists, many, few, library) {
-  const place = new Map(few.map((item, k) => [item, k + 1]));
-  const persons = many.flatMap((node, k) => lists[node].map(() => k + 1));
-  const objects = many.flatMap((node) => lists[node].map((item) => place.get(item) || 0));
-  const problem = { n: many.length, m: Math.max(many.length, few.length), persons, objects };
-  if (!library.isHall(problem, many.length, few.length)) throw new Error("a group was found to be short, and the library says otherwise");
-}
-
-/**
- * The plan of a roster, or the groups that are short where there is none.
- * @param {Roster} roster
- * @param {boolean} max
- * @param {Library} library
- * @returns {{ plan: Plan | null, shorts: Short[] }}
- */
-export function answerOf(roster, max, library) {
-  const { code, total, assigned } = library.solve(problemOf(roster, max));
-  if (code === "BEST") return { plan: planOf(roster, assigned, total), shorts: [] };
-  if (code === "HALL") return { plan: null, shorts: shortages(roster, library) };
-  if (code === "MEMORY") throw new NoMemory("memory refused");
-  throw new Error(`the library refused its lists: ${code}`);
-}
-
-/**
- * The first lines: a sentence for each group that is short, or the cost of the plan.
- * @param {Roster} roster
- * @param {boolean} max
- * @param {{ plan: Plan | null, shorts: Short[] }} answer
- * @returns {string[]}
- */
-export function firstLines(roster, max, answer) {
-  const lines = answer.shorts.map((short) => sentence(roster, short));
-  const which = max ? "greatest" : "least";
-  return answer.plan ? [`${which} ${roster.titles[2]}: ${shown(roster, answer.plan.cost)}`] : lines;
-}
-
-/**
- * Who and what is in no pair: how that is called, how many they are, and their names in a row.
- * @param {Roster} roster
- * @param {Plan} plan
- * @returns {{ how: string, count: string, names: string }[]}
- */
+/** @type {(roster: Roster, plan: Plan) => { how: string, count: string, names: string }[]} Who and what has too few: how that is called, how many they are, and their names. */
 export function leftOut(roster, plan) {
-  return [
-    { how: "without", count: counted(plan.without.length, roster.titles[0]), names: joined(plan.without.map((number) => roster.persons[number])) },
-    { how: "unused", count: counted(plan.unused.length, roster.titles[1]), names: joined(plan.unused.map((number) => roster.objects[number])) },
-  ].filter((left) => left.names !== "");
+  const [had, used] = usesOf(plan.pairs);
+  const partOf = (/** @type {string} */ name, /** @type {number} */ count, /** @type {number} */ wanted) => hasBounds(roster) || wanted === 1 ? name : `${name} (${count} of ${wanted})`;
+  const missing = missingOf(roster, plan.pairs);
+  const missed = (/** @type {boolean} */ isObject) => missing.filter((one) => one.isObject === isObject)
+    .map((one) => `${(isObject ? roster.objects : roster.persons)[one.number]}: ${one.had} of ${one.least}`);
+  const lists = [
+    { how: "missing", names: missed(true), side: 1 }, { how: "missing", names: missed(false), side: 0 },
+    { how: "without", names: plan.without.map((number) => partOf(roster.persons[number], had.get(number) || 0, ofPerson(roster, number).most)), side: 0 },
+    { how: "unused", names: plan.unused.map((number) => partOf(roster.objects[number], used.get(number) || 0, ofObject(roster, number).most)), side: 1 }];
+  return lists.filter(({ names }) => names.length).map(({ how, names, side }) => (
+    { how, count: counted(names.length, roster.titles[side]), names: joined(names) }));
 }
 
-/**
- * The plan as rows: titles, then a person, an object and a cost.
- * @param {Roster} roster
- * @param {Plan} plan
- * @returns {string[][]}
- */
+/** @type {(roster: Roster, plan: Plan) => string[][]} The plan as rows: titles, then a person, an object and a cost. */
 export function rowsOf(roster, plan) {
   return [roster.titles, ...plan.pairs.map((pair) => [roster.persons[pair.person], roster.objects[pair.object], shown(roster, pair.cost)])];
+}
+
+/** @type {(roster: Roster, count: number) => string} How often a name is used, where that isn't once and isn't what its count says. */
+function timesOf(roster, count) {
+  return count !== 1 && (hasBounds(roster) || roster.groups) ? ` (${count})` : "";
+}
+
+/** @type {(roster: Roster, plan: Plan) => { persons: string[], objects: string[] }} Each person with all of its own, and each object with all of its persons. */
+export function listsOf(roster, plan) {
+  const why = (/** @type {Pair} */ { isFixed, object }) => !isFixed ? "" : roster.past.has(object) ? " (past)" : " (fixed)";
+  const persons = [...gathered(plan.pairs, ({ person }) => person)].map(([person, pairs]) => {
+    const own = pairs.map((pair) => `${roster.objects[pair.object]}, ${shown(roster, pair.cost)}${why(pair)}`);
+    return `${roster.persons[person]}${timesOf(roster, own.length)}: ${own.join("; ")}`;
+  });
+  const ofObjects = gathered(plan.pairs, ({ object }) => object);
+  const objects = orderOf(roster).filter((object) => ofObjects.has(object)).map((object) => {
+    const own = (ofObjects.get(object) || []).map(({ person }) => roster.persons[person]);
+    return `at ${roster.objects[object]}${timesOf(roster, own.length)}: ${joined(own)}`;
+  });
+  return { persons, objects };
+}
+
+/** @type {(roster: Roster, plan: Plan, kept: import("./earlier.mjs").OldPlan | null) => string[]} Other plans that are as good, and what changes from an earlier plan. */
+export function notesOf(roster, plan, kept) {
+  const swaps = (plan.swaps || []).map(([persons, objects]) => (
+    `could change places at no cost: ${named(persons, roster.titles[0], roster.persons)} on ${named(objects, roster.titles[1], roster.objects)}`));
+  return [...plan.swaps && !swaps.length ? ["no other plan is as good"] : swaps, ...kept ? changesOf(roster, plan.pairs, kept).lines : []];
 }

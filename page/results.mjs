@@ -1,9 +1,14 @@
-// The answer on the page: the cost, the plan, who is left over or short, and the matrix.
-import { byId, element, table } from "./elements.mjs";
-import { cellsOf, drawMatrix, MOST_AT_ONCE, MOST_CELLS } from "./matrix.mjs";
+// The answer on the page: the cost, the plan as one sheet and as lists, who is left over or short, and the matrix.
+import { shortDay } from "./days.mjs";
+import { button, byId, element, table } from "./elements.mjs";
+import { drawMatrix, MOST_AT_ONCE, MOST_CELLS } from "./matrix.mjs";
 
+// So many kinds have a colour of their own. What is printed: the height of a sheet for rows, and of a row at most.
+const [COLOURS, HEIGHT, ROW] = [6, 600, 17];
 /**
  * @typedef {import("./answers.mjs").Found} Found
+ * @typedef {import("./days.mjs").DaySheet} DaySheet
+ * @typedef {import("./days.mjs").Cell} Cell
  */
 
 /** Which answer is on the page: drawing stops where it is another. */
@@ -18,64 +23,152 @@ export function clearResult() {
   delete byId("matrix", HTMLElement).dataset.drawn;
 }
 
-/**
- * Who and what is left over: a line that unfolds; on paper, where nothing can, the names.
- * @param {import("./answers.mjs").Left} left
- * @returns {HTMLElement[]}
- */
-function leftOver({ how, count, names }) {
-  const title = `${how}: ${count}`;
-  return [
-    element("details", { open: "" }, element("summary", {}, title), element("p", { lang: "" }, names)),
-    element("p", { class: "paper" }, `${title}: ${names}`),
-  ];
+/** @type {(name: string, inner: HTMLElement) => HTMLElement} A part that scrolls by itself, also by keys. */
+function scrolling(name, inner) {
+  return element("div", { class: "scroll", tabindex: "0", role: "region", "aria-label": name }, inner);
 }
 
-/**
- * Puts an answer on the page.
- * @param {Found} found
- * @param {string} name The roster's, for paper
- */
-export function showResult(found, name) {
+/** @type {(title: string, content: HTMLElement, isOpen: boolean) => HTMLElement} A line that unfolds. */
+function unfolding(title, content, isOpen) {
+  return element("details", isOpen ? { open: "" } : {}, element("summary", {}, title), content);
+}
+
+/** @type {(left: import("./answers.mjs").Left) => HTMLElement[]} Who and what is left over: a line that unfolds; on paper, where nothing can, the names. */
+function leftOver({ how, count, names }) {
+  const title = `${how}: ${count}`;
+  return [unfolding(title, element("p", { lang: "" }, names), true), element("p", { class: "paper" }, `${title}: ${names}`)];
+}
+
+/** @type {(sheet: DaySheet) => Map<string, string>} The class of each kind's colour. */
+function coloursOf({ letters }) {
+  return new Map([...letters.keys()].map((kind, k) => [kind, k < COLOURS ? `k${k}` : ""]));
+}
+
+/** @type {(sheet: DaySheet, cell: Cell, day: import("./days.mjs").Day, colours: Map<string, string>) => HTMLElement} */
+function cellElement({ letters }, { entries, gone, isOff }, day, colours) {
+  const isChanged = gone.length > 0 || entries.some(({ isNew }) => isNew);
+  const marks = [
+    day.isWeekend ? "weekend" : "", isChanged ? "changed" : "", entries.some(({ isFixed }) => isFixed) ? "fixed" : "", day.isPast ? "past" : "",
+    entries.length ? colours.get(entries[0].label) || "" : isOff ? "off" : ""];
+  const texts = entries.map(({ label }) => letters.get(label) || "").join(" ");
+  const made = element("td", { class: marks.filter(Boolean).join(" ") }, texts);
+  if (!entries.length) gone.forEach((label) => made.append(element("s", {}, letters.get(label) || "")));
+  const words = entries.map(({ label, isFixed, isNew }) => `${label}${isFixed ? ", given" : ""}${isNew && isChanged ? ", new" : ""}`);
+  made.title = words.join("; ") || (isOff ? "nothing possible" : "free");
+  return made;
+}
+
+/** @type {(sheet: DaySheet, title: string, isPlanOnly: boolean) => HTMLElement} Nurses by days, what each has in all, and each day's staff. */
+export function sheetTable(sheet, title, isPlanOnly) {
+  const colours = coloursOf(sheet);
+  const columns = isPlanOnly ? sheet.columns.slice(0, -1) : sheet.columns;
+  const head = element("tr", {}, element("th", { scope: "col" }, title), ...sheet.days.map((day) => {
+    const [first, second] = shortDay(day);
+    const inner = second ? element("abbr", { title: day.name }, element("span", { lang: "en" }, first), element("br", {}), second) : element("span", { class: "up" }, first);
+    return element("th", { scope: "col", class: day.isWeekend ? "weekend" : "" }, inner);
+  }), ...columns.map((column) => element("th", { scope: "col", class: "sum" }, column.title)));
+  const rows = sheet.persons.map(({ name, cells, sums }) => element(
+    "tr", {}, element("th", { scope: "row" }, name), ...cells.map((cell, k) => cellElement(sheet, cell, sheet.days[k], colours)),
+    ...columns.map((_, k) => element("td", { class: "sum" }, sums[k]))));
+  const staff = sheet.kinds.map(({ kind, staff: own }, place) => element(
+    "tr", place ? {} : { class: "first" }, element("th", { scope: "row" }, kind), ...own.map((cell, k) => {
+      const isShort = cell && cell.wanted !== null && cell.had < cell.wanted;
+      const marks = [cell ? "staff" : "", sheet.days[k].isWeekend ? "weekend" : "", isShort ? "short" : ""].filter(Boolean).join(" ");
+      return element("td", { class: marks }, cell ? `${cell.had}${cell.wanted === null ? "" : `/${cell.wanted}`}` : "");
+    }), element("td", { class: "rest", colspan: String(columns.length) })));
+  const made = element("table", { class: "month", lang: "" }, element("thead", {}, head), element("tbody", {}, ...rows, ...staff));
+  made.style.setProperty("--days", String(sheet.days.length));
+  made.style.setProperty("--row", `${Math.min(ROW, HEIGHT / (rows.length + staff.length + 2)).toFixed(1)}px`);
+  return made;
+}
+
+/** @type {(sheet: DaySheet, isPlanOnly: boolean) => HTMLElement} What letters and marks mean. */
+export function legendOf(sheet, isPlanOnly) {
+  const colours = coloursOf(sheet);
+  const cells = sheet.persons.flatMap((person) => person.cells);
+  const kinds = [...sheet.letters].flatMap(([kind, letter]) => [element("span", { class: `key ${colours.get(kind)}`, lang: "" }, letter), ` ${kind} \u00b7 `]);
+  const columns = isPlanOnly ? sheet.columns.slice(0, -1) : sheet.columns;
+  const notes = columns.filter(({ meaning }) => meaning && !sheet.letters.has(meaning)).map(({ title, meaning }) => `${title}: ${meaning}`);
+  /** @type {[string, boolean][]} */
+  const marks = [
+    ["shaded: weekend", sheet.days.some(({ isWeekend }) => isWeekend)], ["hatched: nothing possible", cells.some(({ isOff }) => isOff)],
+    ["framed: changed", cells.some(({ entries, gone }) => gone.length > 0 || entries.some(({ isNew }) => isNew))],
+    ["underlined: given", cells.some(({ entries }) => entries.some(({ isFixed }) => isFixed))],
+    ["3/4: 3 of 4 wanted", sheet.kinds.some(({ staff }) => staff.some((own) => own !== null && own.wanted !== null))]];
+  return element("p", { class: "legend" }, ...kinds, [...notes, ...marks.filter(([, isThere]) => isThere).map(([text]) => text)].join(" \u00b7 "));
+}
+
+/** @type {(texts: string[]) => HTMLElement} */
+export function listOf(texts) {
+  return element("ul", { lang: "" }, ...texts.map((text) => element("li", {}, text)));
+}
+
+/** @type {(made: HTMLElement, sheet: DaySheet, onCell: (person: number, day: number) => void) => HTMLElement} The sheet as a grid whose cells are chosen by click or by keys. */
+function withCells(made, sheet, onCell) {
+  const rows = [...made.querySelectorAll("tbody tr")].slice(0, sheet.persons.length).map((row) => /** @type {HTMLElement[]} */ ([...row.querySelectorAll("td:not(.sum)")]));
+  made.setAttribute("role", "grid");
+  const at = (/** @type {number} */ row, /** @type {number} */ column) => {
+    const cell = rows[row]?.[column];
+    if (!cell) return;
+    made.querySelectorAll("td[tabindex='0']").forEach((other) => other.setAttribute("tabindex", "-1"));
+    cell.tabIndex = 0;
+    cell.focus();
+  };
+  rows.forEach((cells, row) => cells.forEach((cell, column) => {
+    cell.tabIndex = row || column ? -1 : 0;
+    cell.classList.add("choice");
+    cell.setAttribute("aria-label", `${sheet.persons[row].name}, ${sheet.days[column].name}: ${cell.title}`);
+    cell.addEventListener("click", () => onCell(row, column));
+    cell.addEventListener("keydown", (event) => {
+      const step = { ArrowUp: [-1, 0], ArrowDown: [1, 0], ArrowLeft: [0, -1], ArrowRight: [0, 1] }[event.key];
+      if (step) at(row + step[0], column + step[1]);
+      else if (event.key === "Enter" || event.key === " ") onCell(row, column);
+      else return;
+      event.preventDefault();
+    });
+  }));
+  return made;
+}
+
+/** @type {(found: Found, name: string, onCell: (person: number, day: number) => void) => void} Puts an answer on the page; the roster's name is for paper. */
+export function showResult(found, name, onCell) {
   clearResult();
   byId("name", HTMLElement).textContent = name;
-  const isPlan = found.rows.length > 0;
-  byId("result-title", HTMLElement).textContent = isPlan ? found.lines[0] : "There is no plan for all";
-  const answer = byId("answer", HTMLElement);
-  if (isPlan) {
-    const room = { class: "scroll", tabindex: "0", role: "region", "aria-label": "The plan" };
-    answer.append(element("div", room, table(found.rows[0], found.rows.slice(1))), ...found.left.flatMap(leftOver));
-  } else {
-    answer.append(...found.lines.map((line) => element("p", { class: "short" }, line)));
+  const { sheet, lists, plan } = found;
+  const [answer, cost] = [byId("answer", HTMLElement), found.lines.length - 1];
+  byId("result-title", HTMLElement).textContent = plan ? found.lines[cost] : "There is no plan for all";
+  answer.append(...found.lines.slice(0, plan ? cost : cost + 1).map((line) => element("p", { class: "short" }, line)));
+  const [person, object] = found.roster.titles;
+  if (plan && sheet) {
+    const grid = withCells(sheetTable(sheet, person, false), sheet, onCell);
+    answer.append(element("div", { class: "sheet" }, scrolling("The plan", grid), legendOf(sheet, false)), ...found.left.flatMap(leftOver));
+  } else if (plan) {
+    answer.append(scrolling("The plan", table(found.rows[0], found.rows.slice(1))), ...found.left.flatMap(leftOver));
   }
-  answer.append(...found.notes.map((note) => element("p", {}, note)));
-  for (const id of ["copy", "save"]) byId(id, HTMLElement).hidden = !isPlan;
+  answer.append(...found.notes.map((note) => element("p", { class: "note" }, note)));
+  if (sheet) answer.append(unfolding(`By ${object}`, listOf(lists.objects), false), unfolding(`By ${person}`, listOf(lists.persons), false));
+  for (const id of ["copy", "save", "wall", "calendars", "keep"]) byId(id, HTMLElement).hidden = !plan;
+  byId("calendars", HTMLElement).hidden = !sheet || sheet.days[0].when === null;
   byId("result", HTMLElement).hidden = false;
+  // On paper the sheet of days stands alone.
+  byId("matrix", HTMLElement).classList.toggle("screen", sheet !== null);
   showMatrix(found);
 }
 
-/**
- * Draws the matrix, a great one on request alone.
- * @param {Found} found
- */
+/** @type {(found: Found) => void} Draws the matrix, a great one on request alone. */
 function showMatrix(found) {
-  const count = cellsOf(found);
+  const count = found.roster.persons.length * found.roster.objects.length;
   const room = byId("matrix", HTMLElement);
   if (count > MOST_CELLS) {
     room.append(element("p", { class: "screen" }, `The matrix has more than ${MOST_CELLS} cells and isn't drawn.`));
   } else if (count > MOST_AT_ONCE) {
-    const button = element("button", { type: "button", class: "screen" }, `Draw the matrix of ${count} cells`);
-    button.addEventListener("click", () => drawInto(found, room));
-    room.append(button);
+    room.append(button(`Draw the matrix of ${count} cells`, () => drawInto(found, room), { class: "screen" }));
   } else {
     drawInto(found, room);
   }
 }
 
-/**
- * @param {Found} found
- * @param {HTMLElement} room
- */
+/** @type {(found: Found, room: HTMLElement) => Promise<void>} */
 async function drawInto(found, room) {
   const own = current;
   const inner = element("div", { class: "matrix", lang: "", tabindex: "0", role: "region", "aria-label": "The costs of all pairs" });

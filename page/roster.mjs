@@ -1,13 +1,11 @@
 // Rosters: persons, objects and costs by name, in lines of pairs or as a matrix. They are read as the command reads them.
-import { decoded } from "./encodings.mjs";
-import { RosterFault } from "./faults.mjs";
-import { Names } from "./names.mjs";
+import { areDailyLines, headsOf, readDailyLines, readDailyMatrix } from "./daily.mjs";
+import { RosterFault, said } from "./faults.mjs";
+import { Pairs } from "./names.mjs";
 import { Costs, looksLikeNumber } from "./numbers.mjs";
-import { nameOf, Sheet } from "./sheet.mjs";
+import { nameOf } from "./sheet.mjs";
 import { quoted } from "./texts.mjs";
 
-// More bytes would need more memory than browsers give.
-export const MOST_BYTES = 2 ** 25;
 export const TITLES = ["person", "object", "cost"];
 
 /**
@@ -24,56 +22,37 @@ export const TITLES = ["person", "object", "cost"];
  * @property {string} separator
  * @property {boolean} comma
  * @property {boolean} isMatrix
- * @property {boolean} isGuess Whether the text's encoding was guessed
+ * @property {Map<string, number>} personNumbers
+ * @property {Map<string, number>} objectNumbers
+ * @property {import("./takes.mjs").Takes | null} takes How many names take; where there is none each takes one at most, and the fewer ones one
+ * @property {import("./takes.mjs").Groups | null} groups
+ * @property {Set<number>} past Objects of which nothing is planned
+ * @property {Set<number>} gone Persons of the past alone
  */
 
 /**
  * What the reader says of a roster: `form` is 'lines', 'matrix' or '', which takes the form from the text.
  * @typedef {{ form: string, comma: boolean, most: number }} Reading
- * @typedef {{ titles: string[], persons: Names, objects: Names, ofPersons: number[], ofObjects: number[] }} Read
+ * @typedef {import("./sheet.mjs").Sheet} Sheet
+ * @typedef {{ titles: string[], pairs: Pairs, groups?: import("./takes.mjs").Groups | null }} Read
  */
 
-/**
- * The roster that bytes hold.
- * @param {Uint8Array} bytes
- * @param {Reading} reading
- * @returns {Roster}
- */
-export function rosterOfBytes(bytes, reading) {
-  refuseLonger(bytes.length);
-  const { text, isGuess } = decoded(bytes);
-  return { ...rosterOfText(text, reading), isGuess };
-}
-
-/** @param {number} length */
-function refuseLonger(length) {
-  if (length > MOST_BYTES) throw new RosterFault(`longer than ${MOST_BYTES} bytes; the command reads more`);
-}
-
-/**
- * The roster that a text holds.
- * @param {string} text
- * @param {Reading} reading
- * @returns {Roster}
- */
-export function rosterOfText(text, reading) {
-  refuseLonger(text.length);
-  const sheet = new Sheet(text);
-  const costs = new Costs(reading.comma);
-  const isMatrix = reading.form === "matrix" || reading.form === "" && !mayBeLines(sheet);
-  const read = isMatrix ? readMatrix : reading.form ? readLines : readSureLines;
-  const { persons, objects, ...lists } = read(sheet, costs, reading.most);
+/** @type {(sheet: Sheet, reading: Reading) => Roster} The roster that a sheet holds. */
+export function rosterOf(sheet, { form, comma, most }) {
+  const costs = new Costs(comma);
+  const isDaily = form !== "matrix" && areDailyLines(sheet);
+  const isMatrix = !isDaily && (form === "matrix" || form === "" && !mayBeLines(sheet));
+  const read = isDaily ? readDailyLines : isMatrix ? headsOf(sheet) ? readDailyMatrix : readMatrix : form ? readLines : readSureLines;
+  const { titles, pairs, groups = null } = read(sheet, costs, most);
+  const { persons, objects, ofPersons, ofObjects } = pairs;
   const { decimals, units } = costs.scaled();
   return {
-    ...lists, persons: persons.list, objects: objects.list, costs: units, decimals, separator: sheet.separator, comma: reading.comma,
-    isMatrix, isGuess: false,
+    titles, persons: persons.list, objects: objects.list, personNumbers: persons.numbers, objectNumbers: objects.numbers, ofPersons, ofObjects,
+    costs: units, decimals, separator: sheet.separator, comma, isMatrix, takes: null, groups, past: new Set(), gone: new Set(),
   };
 }
 
-/**
- * @param {Sheet} sheet
- * @returns {boolean}
- */
+/** @type {(sheet: Sheet) => boolean} */
 function mayBeLines(sheet) {
   const { cells } = sheet.title();
   return cells.length === 3 && cells[0] !== "";
@@ -81,9 +60,7 @@ function mayBeLines(sheet) {
 
 /**
  * Whether three columns are lines: the second has words alone, or numbers alone and a person stands twice.
- * @param {(string | number)[]} persons
- * @param {string[]} objects
- * @returns {boolean}
+ * @type {(persons: (string | number)[], objects: string[]) => boolean}
  */
 function areLines(persons, objects) {
   const numbers = objects.some((cell) => cell === "" || looksLikeNumber(cell));
@@ -91,10 +68,7 @@ function areLines(persons, objects) {
   return words && !numbers || !words && new Set(persons).size < persons.length;
 }
 
-/**
- * Refuses a roster of three columns that may be lines or a matrix.
- * @param {Sheet} sheet
- */
+/** @type {(sheet: Sheet) => void} Refuses a roster of three columns that may be lines or a matrix. */
 function refuseUnsure(sheet) {
   const { line, cells } = sheet.title();
   const rows = [...sheet.body(cells.length)];
@@ -102,13 +76,7 @@ function refuseUnsure(sheet) {
   throw new RosterFault("lines of pairs, or a matrix of two objects? Choose the form", line);
 }
 
-/**
- * Reads lines, unless they might be a matrix as well: that is refused before any other fault.
- * @param {Sheet} sheet
- * @param {Costs} costs
- * @param {number} most
- * @returns {Read}
- */
+/** @type {(sheet: Sheet, costs: Costs, most: number) => Read} Reads lines, unless they might be a matrix as well: that is refused before any other fault. */
 function readSureLines(sheet, costs, most) {
   /** @type {Read} */
   let read;
@@ -118,105 +86,41 @@ function readSureLines(sheet, costs, most) {
     refuseUnsure(sheet);
     throw fault;
   }
-  if (!areLines(read.ofPersons, read.objects.list)) refuseUnsure(sheet);
+  if (!areLines(read.pairs.ofPersons, read.pairs.objects.list)) refuseUnsure(sheet);
   return read;
 }
 
-/**
- * @param {Sheet} sheet
- * @param {Costs} costs
- * @param {number} most
- * @returns {Read}
- */
+/** @type {(sheet: Sheet, costs: Costs, most: number) => Read} */
 function readLines(sheet, costs, most) {
   const { line: first, cells: title } = sheet.title();
   if (title.length !== 3) {
-    const fourth = title.length > 3 ? ` (${quoted(title[3])} is a fourth column)` : "";
-    throw new RosterFault(`${title.length} titles, where a person, an object and a cost are needed${fourth}`, first);
+    const fourth = title.length > 3 ? said("fourth", quoted(title[3])) : "";
+    throw new RosterFault(said("titles", title.length, fourth), first);
   }
   if (looksLikeNumber(title[2])) {
-    throw new RosterFault(`a title line must come first, and ${quoted(title[2])} is a number`, first, 3);
+    throw new RosterFault(said("no title", quoted(title[2])), first, 3);
   }
   const titles = title.map((cell, place) => cell === "" ? TITLES[place] : nameOf(cell, first, place + 1));
-  const lines = new Lines(costs, most);
-  for (const { line, cells } of sheet.body(3)) lines.take(line, cells);
-  if (!lines.ofPersons.length) throw new RosterFault("no line after the title", first);
-  return { titles, persons: lines.persons, objects: lines.objects, ofPersons: lines.ofPersons, ofObjects: lines.ofObjects };
+  const pairs = new Pairs(costs, most);
+  for (const { line, cells } of sheet.body(3)) {
+    const [person, object] = [pairs.persons.number(cells[0], line, 1), pairs.objects.number(cells[1], line, 2)];
+    pairs.refuseTwice(person, object, cells.slice(0, 2), line);
+    pairs.take(person, object, cells[2], line, 3);
+  }
+  if (!pairs.ofPersons.length) throw new RosterFault(said("no line"), first);
+  return { titles, pairs };
 }
 
-/** The lines of a roster, as they are read. */
-class Lines {
-  /**
-   * @param {Costs} costs
-   * @param {number} most
-   */
-  constructor(costs, most) {
-    this.costs = costs;
-    this.most = most;
-    this.persons = new Names("persons", most);
-    this.objects = new Names("objects", most);
-    /** @type {number[]} */
-    this.ofPersons = [];
-    /** @type {number[]} */
-    this.ofObjects = [];
-    // The line of each pair.
-    /** @type {Map<number, number>} */
-    this.pairs = new Map();
-  }
-
-  /**
-   * @param {number} line
-   * @param {string[]} cells
-   */
-  take(line, cells) {
-    const person = this.persons.number(cells[0], line, 1);
-    const object = this.objects.number(cells[1], line, 2);
-    const pair = person * this.most + object;
-    const before = this.pairs.get(pair);
-    if (before !== undefined) throw new RosterFault(`the pair ${cells[0]}, ${cells[1]} a second time, after line ${before}`, line);
-    this.pairs.set(pair, line);
-    this.costs.take(cells[2], line, 3);
-    this.ofPersons.push(person);
-    this.ofObjects.push(object);
-  }
-}
-
-/**
- * @param {Sheet} sheet
- * @param {Costs} costs
- * @param {number} most
- * @returns {Read}
- */
+/** @type {(sheet: Sheet, costs: Costs, most: number) => Read} */
 function readMatrix(sheet, costs, most) {
   const { line: first, cells: title } = sheet.title();
   if (looksLikeNumber(title[0])) {
-    throw new RosterFault(`the first line and the first column must have names, and ${quoted(title[0])} is a number`, first, 1);
+    throw new RosterFault(said("number for a title", quoted(title[0])), first, 1);
   }
-  if (title.length < 2) throw new RosterFault("no object after the first column", first);
-  const persons = new Names("persons", most);
-  const objects = new Names("objects", most);
-  title.slice(1).forEach((cell, place) => objects.once(cell, first, place + 2));
-  /** @type {Read} */
-  const read = { titles: [], persons, objects, ofPersons: [], ofObjects: [] };
-  for (const { line, cells } of sheet.body(title.length)) takeRow(read, costs, line, cells);
-  if (!persons.list.length) throw new RosterFault("no line after the title", first);
-  const corner = title[0] === "" ? TITLES[0] : nameOf(title[0], first, 1);
-  return { ...read, titles: [corner, TITLES[1], TITLES[2]] };
-}
-
-/**
- * Takes a row of a matrix: a person, and its costs.
- * @param {Read} read
- * @param {Costs} costs
- * @param {number} line
- * @param {string[]} cells
- */
-function takeRow(read, costs, line, cells) {
-  const person = read.persons.once(cells[0], line, 1);
-  for (let column = 1; column < cells.length; column++) {
-    if (cells[column] === "") continue;
-    costs.take(cells[column], line, column + 1);
-    read.ofPersons.push(person);
-    read.ofObjects.push(column - 1);
-  }
+  if (title.length < 2) throw new RosterFault(said("no object"), first);
+  const pairs = new Pairs(costs, most);
+  const objects = title.slice(1).map((cell, place) => pairs.objects.once(cell, first, place + 2));
+  for (const { line, cells } of sheet.body(title.length)) pairs.takeRow(cells, objects, line);
+  if (!pairs.persons.list.length) throw new RosterFault(said("no line"), first);
+  return { titles: [title[0] === "" ? TITLES[0] : nameOf(title[0], first, 1), TITLES[1], TITLES[2]], pairs };
 }

@@ -1,22 +1,18 @@
-// The cells of CSV and of pasted cells, and what is wrong in them. Lines and columns are counted from 1.
-import { RosterFault } from "./faults.mjs";
-import { hasControl, isPrintable, onOneLine, quoted, stripped, unguarded } from "./texts.mjs";
+// The cells of CSV and of pasted cells, and what is wrong in them; and a plan as CSV, a roster of lines that is read again. Lines and columns are counted from 1.
+import { RosterFault, said } from "./faults.mjs";
+import { guarded, hasControl, isPrintable, onOneLine, quoted, stripped, unguarded } from "./texts.mjs";
 
 const SEPARATORS = ";\t,";
 const MOST_LETTERS = 131072;
 // A person, and its costs for as many objects as the command takes.
-const MOST_CELLS = 4194305;
+const MOST_IN_RECORD = 4194305;
 
 /**
  * @typedef {{ line: number, cells: string[] }} Row
  * @typedef {{ cells: string[], end: number, fault: string }} Record A record, where the text after it begins, and what is wrong in it
  */
 
-/**
- * What stands most between the cells of a first line; a comma where nothing does.
- * @param {string} first
- * @returns {string}
- */
+/** @type {(first: string) => string} What stands most between the cells of a first line; a comma where nothing does. */
 export function separatorOf(first) {
   const outside = first.replace(/"[^"]*"/g, "");
   /** @param {string} mark */
@@ -25,20 +21,14 @@ export function separatorOf(first) {
   return outside.includes(most) ? most : ",";
 }
 
-/**
- * How many line breaks a text has, of any make.
- * @param {string} text
- * @returns {number}
- */
+/** @type {(text: string) => number} How many line breaks a text has, of any make. */
 function breaksIn(text) {
   return (text.match(/\r\n?|\n/g) || []).length;
 }
 
 /**
  * A cell in quotes, which begins at a place, and where the text after it begins; -1 where its end is missing.
- * @param {string} text
- * @param {number} begin
- * @returns {{ cell: string, end: number }}
+ * @type {(text: string, begin: number) => { cell: string, end: number }}
  */
 function quotedCell(text, begin) {
   let at = begin + 1;
@@ -52,13 +42,7 @@ function quotedCell(text, begin) {
   }
 }
 
-/**
- * The record that begins at a place of a text. The end of its line isn't read.
- * @param {string} text
- * @param {number} begin
- * @param {string} separator
- * @returns {Record}
- */
+/** @type {(text: string, begin: number, separator: string) => Record} The record that begins at a place of a text. The end of its line isn't read. */
 function recordAt(text, begin, separator) {
   const cells = [];
   let at = begin;
@@ -66,37 +50,27 @@ function recordAt(text, begin, separator) {
     let cell = "";
     if (text[at] === '"') {
       ({ cell, end: at } = quotedCell(text, at));
-      if (at < 0) return { cells, end: text.length, fault: "no CSV: the quotes around a cell aren't closed" };
+      if (at < 0) return { cells, end: text.length, fault: said("open quotes") };
     } else {
       const end = endOfCell(text, at, separator);
       cell = text.slice(at, end);
       at = end;
     }
-    if (isLong(cell)) return { cells, end: at, fault: `a cell of more than ${MOST_LETTERS} characters` };
-    if (cells.length === MOST_CELLS) return { cells, end: at, fault: `more than ${MOST_CELLS} cells in one record` };
+    if (isLong(cell)) return { cells, end: at, fault: said("long cell", MOST_LETTERS) };
+    if (cells.length === MOST_IN_RECORD) return { cells, end: at, fault: said("long record", MOST_IN_RECORD) };
     cells.push(cell);
     if (at >= text.length || text[at] === "\n" || text[at] === "\r") return { cells, end: at, fault: "" };
-    if (text[at] !== separator) return { cells, end: at, fault: "no CSV: text after the quotes around a cell" };
+    if (text[at] !== separator) return { cells, end: at, fault: said("after quotes") };
     at++;
   }
 }
 
-/**
- * Whether a text has more characters than a cell may.
- * @param {string} text
- * @returns {boolean}
- */
+/** @type {(text: string) => boolean} Whether a text has more characters than a cell may. */
 function isLong(text) {
   return text.length > MOST_LETTERS && Array.from(text).length > MOST_LETTERS;
 }
 
-/**
- * Where a cell without quotes ends.
- * @param {string} text
- * @param {number} begin
- * @param {string} separator
- * @returns {number}
- */
+/** @type {(text: string, begin: number, separator: string) => number} Where a cell without quotes ends. */
 function endOfCell(text, begin, separator) {
   let at = begin;
   while (at < text.length && text[at] !== separator && text[at] !== "\n" && text[at] !== "\r") at++;
@@ -116,13 +90,20 @@ export class Sheet {
     this.rows = [];
     /** @type {RosterFault | null} */
     this.fault = null;
+    // Lines that are one merged cell of a workbook.
+    this.merged = new Set();
     this.read(text);
   }
 
-  /**
-   * Reads the rows, up to the first fault.
-   * @param {string} text
-   */
+  /** @type {(rows: string[][], separator: string) => Sheet} A sheet of rows of cells, those of a workbook or of a table. */
+  static ofRows(rows, separator) {
+    const sheet = new Sheet("");
+    sheet.separator = separator;
+    rows.forEach((cells, row) => sheet.add(row + 1, cells.map((cell) => unguarded(stripped(cell)))));
+    return sheet;
+  }
+
+  /** @type {(text: string) => void} Reads the rows, up to the first fault. */
   read(text) {
     let line = 1;
     let at = 0;
@@ -136,55 +117,63 @@ export class Sheet {
     }
   }
 
-  /**
-   * @param {number} line
-   * @param {string[]} cells
-   */
+  /** @type {(line: number, cells: string[]) => void} */
   add(line, cells) {
     const isHint = this.hasHint && line === 1;
     if (cells.some((cell) => cell !== "") && !isHint) this.rows.push({ line, cells });
   }
 
-  /**
-   * The first record, without empty cells at its end.
-   * @returns {Row}
-   */
+  /** @type {() => Row} The first record, without empty cells at its end. */
   title() {
-    if (!this.rows.length) throw this.fault || new RosterFault("an empty file");
+    if (!this.rows.length) throw this.fault || new RosterFault(said("no file"));
     const { line, cells } = this.rows[0];
     let width = cells.length;
     while (cells[width - 1] === "") width--;
+    if (this.merged.has(line)) throw new RosterFault(said("merged title", quoted(cells[0])), line);
     return { line, cells: cells.slice(0, width) };
   }
 
-  /**
-   * The records after the title, each of so many cells.
-   * @param {number} width
-   * @returns {Generator<Row>}
-   */
+  /** @type {(width: number) => Generator<Row>} The records after the title, each of so many cells. */
   *body(width) {
-    for (const { line, cells } of this.rows.slice(1)) {
+    for (const { line, cells } of this.records()) {
       if (cells.length < width || cells.slice(width).some((cell) => cell !== "")) {
-        const hint = cells.length > width && this.separator === "," ? " (a comma inside a cell needs quotes)" : "";
-        throw new RosterFault(`${cells.length} cells, where the title line has ${width}${hint}`, line);
+        const hint = cells.length > width && this.separator === "," ? said("comma in a cell") : "";
+        throw new RosterFault(said("cells", cells.length, width, hint), line);
       }
       yield { line, cells: cells.slice(0, width) };
     }
+  }
+
+  /** @returns {Generator<Row>} The records after the title. */
+  *records() {
+    yield* this.rows.slice(1);
     if (this.fault) throw this.fault;
   }
 }
 
 /**
  * A cell as a name, with a blank for each line break; letters with accents are one name however they are written.
- * @param {string} cell
- * @param {number} line
- * @param {number} column
- * @returns {string}
+ * @type {(cell: string, line: number, column: number) => string}
  */
 export function nameOf(cell, line, column) {
   const name = isPrintable(cell) ? cell : onOneLine(cell);
-  if (name === "") throw new RosterFault("an empty name", line, column);
-  if (isLong(name)) throw new RosterFault(`a name of more than ${MOST_LETTERS} characters`, line, column);
-  if (hasControl(name)) throw new RosterFault(`a control character in the name ${quoted(name)}`, line, column);
+  if (name === "") throw new RosterFault(said("no name"), line, column);
+  if (isLong(name)) throw new RosterFault(said("long name", MOST_LETTERS), line, column);
+  if (hasControl(name)) throw new RosterFault(said("control", quoted(name)), line, column);
   return name.normalize("NFC");
+}
+
+/** @type {(cell: string, separator: string, always: boolean) => string} */
+function cellOf(cell, separator, always) {
+  const needsQuotes = always || cell.includes(separator) || /["\r\n]/.test(cell);
+  return needsQuotes ? `"${cell.replace(/"/g, '""')}"` : cell;
+}
+
+/**
+ * Rows as CSV, whose cells no spreadsheet runs. Readers take the separator from the title line, so no other may seem to be there.
+ * @type {(rows: string[][], separator: string) => string}
+ */
+export function csvOf(rows, separator) {
+  const isUnsure = rows[0].some((title) => [...SEPARATORS].some((mark) => title.includes(mark)));
+  return rows.map((row, line) => `${row.map((cell) => cellOf(guarded(cell), separator, isUnsure && line === 0)).join(separator)}\n`).join("");
 }

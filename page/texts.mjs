@@ -13,11 +13,7 @@ const IS_RUN = new RegExp(`^'*${RUN}`);
 const IS_GUARDED = new RegExp(`^'+${RUN}`);
 const MOST_QUOTED = 40;
 
-/**
- * A cell without the white space around it.
- * @param {string} cell
- * @returns {string}
- */
+/** @type {(cell: string) => string} A cell without the white space around it. */
 export function stripped(cell) {
   let begin = 0;
   let end = cell.length;
@@ -27,66 +23,39 @@ export function stripped(cell) {
 }
 
 /**
- * A cell of CSV as it is written: with an apostrophe in front where a spreadsheet would run it, and one more where apostrophes
- * stand before what a spreadsheet would run.
- * @param {string} cell
- * @returns {string}
+ * A cell of CSV as it is written: with an apostrophe in front where a spreadsheet would run it, and one more where apostrophes stand before what a spreadsheet would run.
+ * @type {(cell: string) => string}
  */
 export function guarded(cell) {
   return IS_RUN.test(cell) ? `'${cell}` : cell;
 }
 
-/**
- * A cell of CSV as it is meant: without the first of the apostrophes before what a spreadsheet would run.
- * @param {string} cell
- * @returns {string}
- */
+/** @type {(cell: string) => string} A cell of CSV as it is meant: without the first of the apostrophes before what a spreadsheet would run. */
 export function unguarded(cell) {
   return cell[0] === "'" && IS_GUARDED.test(cell) ? stripped(cell.slice(1)) : cell;
 }
 
-/**
- * Whether a text has no control characters and no white space other than blanks.
- * @param {string} text
- * @returns {boolean}
- */
+/** @type {(text: string) => boolean} Whether a text has no control characters and no white space other than blanks. */
 export function isPrintable(text) {
   return !NOT_PRINTABLE.test(text);
 }
 
-/**
- * Whether a text has a control character.
- * @param {string} text
- * @returns {boolean}
- */
+/** @type {(text: string) => boolean} Whether a text has a control character. */
 export function hasControl(text) {
   return CONTROL.test(text);
 }
 
-/**
- * A text with a blank for each line break and the white space around it.
- * @param {string} text
- * @returns {string}
- */
+/** @type {(text: string) => string} A text with a blank for each line break and the white space around it. */
 export function onOneLine(text) {
   return text.replace(LINE_BREAKS, " ");
 }
 
-/**
- * A name without its white space and without a difference between small and capital letters.
- * @param {string} name
- * @returns {string}
- */
+/** @type {(name: string) => string} A name without its white space and without a difference between small and capital letters. */
 export function bare(name) {
   return name.replace(ALL_SPACE, "").toUpperCase().toLowerCase();
 }
 
-/**
- * A letter as a message shows it within quotes.
- * @param {string} letter
- * @param {string} quote
- * @returns {string}
- */
+/** @type {(letter: string, quote: string) => string} A letter as a message shows it within quotes. */
 function escaped(letter, quote) {
   const short = { "\n": "\\n", "\r": "\\r", "\t": "\\t", "\\": "\\\\" }[letter];
   if (short !== undefined) return short;
@@ -97,11 +66,7 @@ function escaped(letter, quote) {
   return code.length <= 4 ? `\\u${code.padStart(4, "0")}` : `\\U${code.padStart(8, "0")}`;
 }
 
-/**
- * A cell as a message shows it: in quotes, on one line, and not too long.
- * @param {string} cell
- * @returns {string}
- */
+/** @type {(cell: string) => string} A cell as a message shows it: in quotes, on one line, and not too long. */
 export function quoted(cell) {
   const letters = Array.from(cell);
   const shown = letters.length <= MOST_QUOTED ? letters : [...letters.slice(0, MOST_QUOTED - 3), ..."..."];
@@ -109,11 +74,7 @@ export function quoted(cell) {
   return quote + shown.map((letter) => escaped(letter, quote)).join("") + quote;
 }
 
-/**
- * Names in a row, parted by semicolons where one has a comma.
- * @param {string[]} names
- * @returns {string}
- */
+/** @type {(names: string[]) => string} Names in a row, parted by semicolons where one has a comma. */
 export function joined(names) {
   return names.join(names.some((name) => name.includes(",")) ? "; " : ", ");
 }

@@ -8,6 +8,15 @@ const WORDS = ["--headless=new", "--no-sandbox", "--disable-gpu", "--disable-dev
 // The browser is given so many milliseconds for what a test waits for.
 const PATIENCE = 300000;
 
+// What drops files, of a name and a text each, on the page.
+export function dropOf(files) {
+  return `(() => {
+    const dataTransfer = new DataTransfer();
+    ${JSON.stringify(files)}.forEach(([name, text]) => dataTransfer.items.add(new File([text], name)));
+    document.dispatchEvent(new DragEvent("drop", { dataTransfer, bubbles: true, cancelable: true }));
+  })()`;
+}
+
 export class Browser {
   constructor() {
     this.folder = fs.mkdtempSync(path.join(os.tmpdir(), "chromium-"));
@@ -83,9 +92,27 @@ export class Browser {
   }
 
   async giveFile(file) {
+    await this.giveFiles([file]);
+  }
+
+  async giveFiles(files) {
     const { root } = await this.ask("DOM.getDocument");
     const { nodeId } = await this.ask("DOM.querySelector", { nodeId: root.nodeId, selector: "#file" });
-    await this.ask("DOM.setFileInputFiles", { nodeId, files: [path.resolve(file)] });
+    await this.ask("DOM.setFileInputFiles", { nodeId, files: files.map((file) => path.resolve(file)) });
+  }
+
+  async press(id) {
+    return this.value(`document.getElementById("${id}").click()`);
+  }
+
+  async paste(text) {
+    const box = 'document.getElementById("text")';
+    await this.value(`document.getElementById("clear").click(); ${box}.value = ${JSON.stringify(text)}; ${box}.dispatchEvent(new Event("input"))`);
+    await this.press("plan");
+  }
+
+  async dropTexts(files) {
+    await this.value(dropOf(files));
   }
 
   async picture(file) {

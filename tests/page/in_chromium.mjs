@@ -1,10 +1,12 @@
 // The page in Chromium, from a file on disk: node in_chromium.mjs PAGE.html EXAMPLES GREAT.csv HEADING
 // EXAMPLES is the folder of the examples. GREAT.csv is a great matrix, and HEADING what the command says of it.
 import assert from "node:assert";
+import { execFileSync } from "node:child_process";
 import fs from "node:fs";
 import os from "node:os";
 import path from "node:path";
 import { Browser } from "./browser.mjs";
+import { monthFiles, tryMarks, tryMonth, trySick, tryShort } from "./ward.mjs";
 
 const [page, examples, great, heading] = process.argv.slice(2);
 const SHORT = "3 people (Ben, Cleo, Dan) can take only 2 shifts between them (night, weekend): allow one of them another, or leave one out";
@@ -16,13 +18,11 @@ async function textOf(id) {
 }
 
 async function press(id) {
-  return browser.value(`document.getElementById("${id}").click()`);
+  return browser.press(id);
 }
 
 async function paste(text) {
-  const box = 'document.getElementById("text")';
-  await browser.value(`${box}.value = ${JSON.stringify(text)}; ${box}.dispatchEvent(new Event("input"))`);
-  await browser.answered(() => press("plan"));
+  await browser.answered(() => browser.paste(text));
 }
 
 async function choose(name, value) {
@@ -45,12 +45,9 @@ async function tryPlan() {
 
 // A file that is dropped, and the plan of it that is copied.
 async function tryDrop() {
-  await browser.answered(() => browser.value(`(() => {
-    const dataTransfer = new DataTransfer();
-    dataTransfer.items.add(new File(["nurse;shift;hours\\nAda;early;1\\nAda;late;2\\nBen;early;2\\nBen;late;7\\n"], "dropped.csv"));
-    document.dispatchEvent(new DragEvent("drop", { dataTransfer, bubbles: true, cancelable: true }));
-  })()`));
-  assert.strictEqual(await textOf("from"), "From the file dropped.csv");
+  await press("clear");
+  await browser.answered(() => browser.dropTexts([["dropped.csv", "nurse;shift;hours\nAda;early;1\nAda;late;2\nBen;early;2\nBen;late;7\n"]]));
+  assert.strictEqual(await browser.value("document.querySelector('#files b').textContent"), "dropped.csv");
   const copied = `new Promise((done) => {
     addEventListener("copy", (event) => done(event.clipboardData.getData("text/plain")), { once: true });
     document.getElementById("copy").click();
@@ -60,6 +57,7 @@ async function tryDrop() {
 
 // Who is short, who is left over, a decimal comma, the greatest sum, and a cell that is no number.
 async function tryAnswers() {
+  await press("clear");
   await browser.answered(() => browser.giveFile(path.join(examples, "night_shifts.csv")));
   assert.strictEqual(await textOf("answer"), SHORT);
   assert.strictEqual(await browser.value("document.querySelectorAll('#matrix th.short').length"), 5);
@@ -79,6 +77,7 @@ async function tryAnswers() {
 
 // A great roster: stopped, and planned.
 async function tryGreat() {
+  await press("clear");
   const before = await browser.answers();
   const isDone = `Number(document.documentElement.dataset.done || "0") > ${before}`;
   await browser.giveFile(great);
@@ -100,6 +99,52 @@ async function tryRequest() {
   assert.strictEqual(await browser.value("document.querySelectorAll('#matrix td').length"), 22500);
 }
 
+// What the page saves of the month: the plan, a page for the wall, and calendars, which are the command's.
+async function saved(id, name) {
+  const file = path.join(folder, name);
+  await press(id);
+  for (let k = 0; k < 200 && !(fs.existsSync(file) && fs.statSync(file).size); k++) await new Promise((done) => setTimeout(done, 50));
+  return file;
+}
+
+async function tryMonthFiles() {
+  const wanted = monthFiles(folder);
+  await tryMonth(browser, folder, wanted);
+  await press("clear");
+  await browser.answered(() => browser.giveFiles(["roster", "places", "tasks", "groups"].map((name) => path.join(folder, `month_${name}.csv`))));
+  const plan = await saved("save", "month_roster-plan.csv");
+  const zip = await saved("calendars", "month_roster-calendars.zip");
+  const wall = fs.readFileSync(await saved("wall", "month_roster-wall.html"), "utf8");
+  assert(wall.includes("Nurse 28") && !wall.includes("<script") && !wall.includes("<button"));
+  const given = (name) => path.join(folder, `month_${name}.csv`);
+  const each = path.join(folder, "each");
+  execFileSync("python3", ["-m", "nushbaret", given("roster"), "--places", given("places"), "--tasks", given("tasks"), "--groups", given("groups"),
+    "--keep", plan, "--each", each], { stdio: "ignore" });
+  const unzip = "import sys, zipfile\nzipfile.ZipFile(sys.argv[1]).extractall(sys.argv[2])";
+  execFileSync("python3", ["-c", unzip, zip, path.join(folder, "unzipped")]);
+  const calendars = fs.readdirSync(path.join(folder, "unzipped"));
+  assert.strictEqual(calendars.length, 28);
+  calendars.forEach((name) => assert.deepStrictEqual(fs.readFileSync(path.join(folder, "unzipped", name)), fs.readFileSync(path.join(each, name)), name));
+  await browser.answered(() => browser.giveFile(path.join(examples, "month_rules.csv")));
+  assert.strictEqual(await browser.value("document.getElementById('rules').hidden"), false);
+  await browser.answered(() => browser.value("[...document.querySelectorAll('#files button')].at(-1).click()"));
+  await trySick(browser, folder, wanted);
+  await tryMarks(browser);
+  await tryShort(browser);
+}
+
+// Names that are HTML, formulas or 10,000 letters harm nothing.
+async function tryNastyNames() {
+  const names = ["<img src=x onerror=alert(1)>", "=HYPERLINK(\"http://127.0.0.1:9/\")", "x".repeat(10000), "</script><b>", "a & b"];
+  const rows = names.map((name, k) => [name, "early", String(k)].map((cell) => `"${cell.replace(/"/g, '""')}"`).join(","));
+  await paste(`nurse,shift,cost\n${rows.join("\n")}\n`);
+  assert.strictEqual(await textOf("result-title"), "least cost: 0");
+  assert.strictEqual(await browser.value("document.querySelectorAll('main img, main script, main a').length"), 0);
+  assert.strictEqual(await browser.value("document.documentElement.scrollWidth <= innerWidth"), true);
+  const file = await saved("save", "pasted cells-plan.csv").catch(() => "");
+  assert(file);
+}
+
 // Each control has a name for those who hear the page.
 async function tryNames() {
   await browser.ask("Accessibility.enable");
@@ -110,11 +155,87 @@ async function tryNames() {
   controls.forEach((node) => assert(node.name?.value, `a ${node.role.value} without a name`));
 }
 
+// The least contrast of a text with what it stands on, as WCAG 2 has it, and which text that is.
+const CONTRAST = `(() => {
+  const parsed = (colour) => colour.match(/[\\d.]+/g).map(Number);
+  const linear = (value) => value <= 0.03928 ? value / 12.92 : ((value + 0.055) / 1.055) ** 2.4;
+  const light = ([r, g, b]) => 0.2126 * linear(r / 255) + 0.7152 * linear(g / 255) + 0.0722 * linear(b / 255);
+  const above = (own) => own ? [own, ...above(own.parentElement)] : [];
+  const isText = (own) => own.getClientRects().length && [...own.childNodes].some((node) => node.nodeType === 3 && node.textContent.trim());
+  const found = [...document.querySelectorAll("body *:not(script):not(style):not(option)")].filter(isText).map((own) => {
+    const ground = parsed(getComputedStyle(above(own).find((one) => (parsed(getComputedStyle(one).backgroundColor)[3] ?? 1) > 0.99) || document.body).backgroundColor);
+    const opacity = above(own).reduce((product, one) => product * Number(getComputedStyle(one).opacity), 1);
+    const ink = parsed(getComputedStyle(own).color).map((value, k) => value * opacity + ground[k] * (1 - opacity));
+    const [most, least] = [light(ink), light(ground)].sort((one, other) => other - one);
+    return { ratio: (most + 0.05) / (least + 0.05), text: own.className + " " + own.textContent.slice(0, 30) };
+  });
+  return found.sort((one, other) => one.ratio - other.ratio)[0];
+})()`;
+
+// Each text is to be read, in a light and in a dark room, also in a month with an earlier plan and a past.
+async function tryContrast() {
+  await press("clear");
+  await browser.answered(() => browser.giveFiles([...["roster", "places", "tasks", "groups"].map((name) => `month_${name}`), "command_plan"].map((name) => (
+    path.join(folder, `${name}.csv`)))));
+  await browser.answered(() => browser.value("(() => { const past = document.getElementById('past'); past.value = '2027-03-12'; past.dispatchEvent(new Event('change')); })()"));
+  await browser.value("document.querySelectorAll('details').forEach((own) => { own.open = true; })");
+  for (const value of ["light", "dark"]) {
+    await browser.ask("Emulation.setEmulatedMedia", { features: [{ name: "prefers-color-scheme", value }] });
+    const { ratio, text } = await browser.value(CONTRAST);
+    assert(ratio >= 4.5, `${value}: ${ratio} of ${text}`);
+  }
+  await browser.ask("Emulation.setEmulatedMedia", { features: [] });
+}
+
+// Keys alone: a cell of the plan is reached by arrows, its choice opens and closes, and what has the focus is outlined.
+async function tryKeys() {
+  const key = async (name) => {
+    for (const type of ["keyDown", "keyUp"]) await browser.ask("Input.dispatchKeyEvent", { type, key: name, code: name, windowsVirtualKeyCode: { Enter: 13, Escape: 27, Tab: 9, ArrowRight: 39, ArrowDown: 40 }[name] });
+  };
+  await browser.value("document.querySelector('.month td[tabindex=\"0\"]').focus()");
+  for (const name of ["ArrowRight", "ArrowDown"]) await key(name);
+  assert.match(await browser.value("document.activeElement.getAttribute('aria-label')"), /^Nurse 02, 2027-03-02: /);
+  assert.strictEqual(await browser.value("getComputedStyle(document.activeElement).outlineStyle"), "solid");
+  await browser.value("document.getElementById('past').value = ''");
+  await browser.answered(() => press("plan"));
+  await browser.value("document.querySelector('.month td[tabindex=\"0\"]').focus()");
+  await key("Enter");
+  assert.strictEqual(await browser.value("document.getElementById('choice').open"), true);
+  await key("Escape");
+  await browser.until("!document.getElementById('choice').open");
+}
+
+// A real drag: the browser's own events, with a file of the disk.
+async function tryDrag() {
+  await press("clear");
+  const data = { items: [], files: [path.resolve(examples, "named_roster.csv")], dragOperationsMask: 1 };
+  await browser.answered(async () => {
+    for (const type of ["dragEnter", "dragOver", "drop"]) await browser.ask("Input.dispatchDragEvent", { type, x: 200, y: 200, data });
+  });
+  assert.strictEqual(await textOf("result-title"), "least hours: 12.00");
+}
+
+// A real paste: the browser's own commands copy cells and paste them.
+async function tryPaste() {
+  const act = async (command) => browser.ask("Input.dispatchKeyEvent", { type: "keyDown", key: "v", commands: [command] });
+  const box = "document.getElementById('text')";
+  await press("clear");
+  await browser.value(`${box}.value = "nurse\\tearly\\tlate\\tnight\\nAda\\t1\\t2\\t9\\nBen\\t2\\t7\\t9\\n"; ${box}.focus()`);
+  for (const command of ["selectAll", "copy"]) await act(command);
+  await press("clear");
+  await browser.value(`${box}.focus()`);
+  await browser.answered(() => act("paste"));
+  assert.strictEqual(await textOf("result-title"), "least cost: 4");
+}
+
 // A phone, a dark room and paper.
 async function tryLooks() {
   await browser.answered(() => press("example"));
   await browser.ask("Emulation.setDeviceMetricsOverride", { width: 390, height: 800, deviceScaleFactor: 2, mobile: true });
-  assert.strictEqual(await browser.value("document.documentElement.scrollWidth"), 390);
+  for (const width of [390, 320]) {
+    await browser.ask("Emulation.setDeviceMetricsOverride", { width, height: 800, deviceScaleFactor: 2, mobile: true });
+    assert.strictEqual(await browser.value("document.documentElement.scrollWidth"), width);
+  }
   await browser.ask("Emulation.clearDeviceMetricsOverride");
   const colour = () => browser.value("getComputedStyle(document.body).backgroundColor");
   const light = await colour();
@@ -140,7 +261,7 @@ async function tryPolicy() {
 
 try {
   await browser.open(`file://${path.resolve(page)}`);
-  for (const part of [tryPlan, tryDrop, tryAnswers, tryNames, tryGreat, tryRequest, tryLooks, tryPolicy]) await part();
+  for (const part of [tryPlan, tryDrop, tryAnswers, tryMonthFiles, tryNastyNames, tryNames, tryContrast, tryKeys, tryDrag, tryPaste, tryGreat, tryRequest, tryLooks, tryPolicy]) await part();
   console.log("page: plans, refusals, looks and policy in Chromium");
 } finally {
   await browser.end();

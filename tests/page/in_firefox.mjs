@@ -6,6 +6,8 @@ import fs from "node:fs";
 import net from "node:net";
 import os from "node:os";
 import path from "node:path";
+import { dropOf } from "./browser.mjs";
+import { monthFiles, tryMarks, tryMonth, trySick, tryShort } from "./ward.mjs";
 
 const [page, examples, great, heading, picture] = process.argv.slice(2);
 const PATIENCE = 300000;
@@ -83,17 +85,49 @@ class Firefox {
     return (await this.ask("WebDriver:ExecuteScript", { script: `return ${expression};`, args: [] })).value;
   }
 
+  async giveFiles(files) {
+    const { value } = await this.ask("WebDriver:FindElement", { using: "css selector", value: "#file" });
+    await this.ask("WebDriver:ElementSendKeys", { id: value[ELEMENT], text: files.map((file) => path.resolve(file)).join("\n") });
+  }
+
+  async press(id) {
+    return this.value(`document.getElementById("${id}").click()`);
+  }
+
+  async paste(text) {
+    const box = 'document.getElementById("text")';
+    await this.value(`(document.getElementById("clear").click(), ${box}.value = ${JSON.stringify(text)}, ${box}.dispatchEvent(new Event("input")))`);
+    await this.press("plan");
+  }
+
+  async dropTexts(files) {
+    await this.value(dropOf(files));
+  }
+
+  async until(expression) {
+    const begin = Date.now();
+    while (!(await this.value(expression))) {
+      if (Date.now() - begin > PATIENCE) throw new Error(`not within ${PATIENCE} ms: ${expression}`);
+      await pause(50);
+    }
+  }
+
   // Plans a file, and returns what the heading says.
   async planned(file) {
+    await this.press("clear");
+    await this.answered(() => this.giveFiles([file]));
+    return this.value("document.getElementById('result-title').textContent");
+  }
+
+  // Does something, and waits for the page's next answer.
+  async answered(work) {
     const before = await this.value("document.documentElement.dataset.done || '0'");
-    const { value } = await this.ask("WebDriver:FindElement", { using: "css selector", value: "#file" });
-    await this.ask("WebDriver:ElementSendKeys", { id: value[ELEMENT], text: path.resolve(file) });
+    await work();
     const begin = Date.now();
     while (await this.value("document.documentElement.dataset.done || '0'") === before) {
       if (Date.now() - begin > PATIENCE) throw new Error(`no answer within ${PATIENCE} ms`);
       await pause(50);
     }
-    return this.value("document.getElementById('result-title').textContent");
   }
 
   async end() {
@@ -104,6 +138,7 @@ class Firefox {
   }
 }
 
+const folder = fs.mkdtempSync(path.join(os.tmpdir(), "page-"));
 const firefox = new Firefox();
 await firefox.begin();
 try {
@@ -116,7 +151,13 @@ try {
   }
   assert.strictEqual(await firefox.planned(path.join(examples, "night_shifts.csv")), "There is no plan for all");
   assert.strictEqual(await firefox.planned(great), heading);
+  const wanted = monthFiles(folder);
+  await tryMonth(firefox, folder, wanted);
+  await trySick(firefox, folder, wanted);
+  await tryMarks(firefox);
+  await tryShort(firefox);
   console.log("page: plans in Firefox");
 } finally {
   await firefox.end();
+  fs.rmSync(folder, { recursive: true, force: true });
 }

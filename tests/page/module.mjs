@@ -2,8 +2,11 @@
 // TRIED.wasm is the module with a heap that counts and refuses: its heap is tried, and each growth of some problems is refused.
 import assert from "node:assert";
 import fs from "node:fs";
-import { Library } from "../../page/library.mjs";
+import "./shared.mjs";
 import { moduleOf } from "./page_parts.mjs";
+
+const { lacksOf } = await import("../../page/lacks.mjs");
+const { Library, NoMemory } = await import("../../page/library.mjs");
 
 const GREATEST = 1e12;
 const HEAP_STEPS = 20000;
@@ -14,72 +17,74 @@ function drawn(below) {
   return Math.floor(seed / 4294967296 * below);
 }
 
-// The least sum of a table of costs (null: no pair), by sets of objects; null where there is no assignment.
-function least(table) {
-  let best = new Map([[0, 0n]]);
-  for (const row of table) {
-    const next = new Map();
-    const pairs = [...best].flatMap(([set, sum]) => row.map((cost, k) => ({ cost, taken: set >> k & 1, key: set | 1 << k, sum })));
-    for (const { cost, taken, key, sum } of pairs) {
-      if (cost === null || taken) continue;
-      const whole = sum + BigInt(cost);
-      if (!next.has(key) || whole < next.get(key)) next.set(key, whole);
-    }
-    best = next;
+// The least sum of a plan of a problem, by all sets of its pairs; null where there is none.
+function least(problem) {
+  let best = null;
+  for (let set = 0; set < 2 ** problem.costs.length; set++) {
+    const chosen = problem.costs.map((_, k) => set >> k & 1);
+    if (!isPlan(problem, chosen)) continue;
+    const sum = sumOf(problem, chosen);
+    if (best === null || sum < best) best = sum;
   }
-  return best.size ? [...best.values()].reduce((one, other) => one < other ? one : other) : null;
+  return best;
+}
+
+function isPlan({ rows, columns, groupOf, ofRows, ofColumns }, chosen) {
+  const count = (list, number) => list.filter((one, k) => chosen[k] && one === number).length;
+  const isWithin = (list) => ({ least, most }, number) => count(list, number) >= least && count(list, number) <= most;
+  const groups = ofRows.flatMap((row, k) => chosen[k] ? [`${row} ${groupOf[ofColumns[k]]}`] : []);
+  return rows.every(isWithin(ofRows)) && columns.every(isWithin(ofColumns)) && new Set(groups).size === groups.length;
+}
+
+function sumOf({ costs }, chosen) {
+  return costs.reduce((sum, cost, k) => chosen[k] ? sum + BigInt(cost) : sum, 0n);
 }
 
 function drawnCost(range) {
   return range ? drawn(range) - (range >> 1) : (drawn(2) ? 1 : -1) * (GREATEST - drawn(5));
 }
 
-// A problem and its table. A sparse one may list no pair at all.
+// A problem of at most ten pairs. It may list no pair at all.
 function drawnProblem() {
-  const n = 1 + drawn(6);
-  const m = n + drawn(3);
-  const isSparse = drawn(2) === 1;
+  const [n, m, nGroups] = [1 + drawn(4), 1 + drawn(4), drawn(3)];
   const range = [3, 10, 1000, 0][drawn(4)];
-  const table = Array.from({ length: n }, () => Array.from({ length: m }, () => isSparse && drawn(3) === 0 ? null : drawnCost(range)));
-  return problemOf(table, isSparse, drawn(2) === 1);
-}
-
-function problemOf(table, isSparse, max) {
-  const pairs = table.flatMap((row, i) => row.map((cost, j) => ({ i: i + 1, j: j + 1, cost }))).filter(({ cost }) => cost !== null);
-  const lists = isSparse ? { persons: pairs.map(({ i }) => i), objects: pairs.map(({ j }) => j) } : {};
-  return { table, problem: { n: table.length, m: table[0].length, costs: pairs.map(({ cost }) => cost), max, ...lists } };
-}
-
-// Whether the persons of a Hall set list just its objects, which are fewer.
-function isHall(table, blocked, objects) {
-  const listed = new Set(blocked.flatMap((i) => table[i - 1].flatMap((cost, j) => cost === null ? [] : [j + 1])));
-  return objects.length < blocked.length && listed.size === objects.length && objects.every((j) => listed.has(j));
+  const bounds = (count) => Array.from({ length: count }, () => {
+    const low = drawn(2);
+    return { least: low, most: low + drawn(3) };
+  });
+  const pairs = Array.from({ length: n * m }, (_, k) => k).filter(() => drawn(4) > 0).slice(0, 10);
+  return {
+    rows: bounds(n), columns: bounds(m), nGroups, groupOf: Array.from({ length: m }, (_, k) => nGroups && drawn(2) ? drawn(nGroups) : nGroups + k),
+    ofRows: pairs.map((k) => Math.floor(k / m)), ofColumns: pairs.map((k) => k % m), costs: pairs.map(() => drawnCost(range)),
+  };
 }
 
 function tryOne(library) {
-  const { table, problem } = drawnProblem();
+  const problem = drawnProblem();
   const answer = library.solve(problem);
-  const sign = problem.max ? -1n : 1n;
-  const wanted = least(table.map((row) => row.map((cost) => cost === null || !problem.max ? cost : -cost)));
+  const wanted = least(problem);
   const text = JSON.stringify(problem);
-  assert.strictEqual(answer.code, wanted === null ? "HALL" : "BEST", text);
-  if (answer.code === "HALL") {
-    assert(isHall(table, answer.blocked, answer.assigned), text);
-    return answer.code;
+  assert.strictEqual(answer.code === "BEST", wanted !== null, text);
+  if (answer.code === "BEST") {
+    assert(isPlan(problem, answer.plan), text);
+    assert.strictEqual(sumOf(problem, answer.plan), wanted, text);
+  } else {
+    // Each shortage is one for the proved checker, and more may be had where it isn't.
+    const lacks = lacksOf(problem, library);
+    assert(lacks.every(({ wanted: most, had }) => had < most), text);
+    assert(!library.isShort(problem, false, [], []) && !library.isShort(problem, true, [], []), text);
   }
-  assert.strictEqual(answer.total, sign * wanted, text);
-  assert.strictEqual(new Set(answer.assigned).size, problem.n, text);
-  const sum = answer.assigned.reduce((whole, j, i) => whole + BigInt(table[i][j - 1]), 0n);
-  assert.strictEqual(sum, answer.total, text);
   return answer.code;
 }
 
 // Each fault of a problem's numbers.
 function tryFaults(library) {
-  const right = { n: 2, m: 3, persons: [1, 1, 2, 2], objects: [1, 2, 2, 3], costs: [4, 1, 2, 3], max: false };
+  const one = { least: 0, most: 1 };
+  const right = { rows: [one, one], columns: [one, one, one], nGroups: 0, groupOf: [0, 1, 2], ofRows: [0, 0, 1, 1], ofColumns: [0, 1, 1, 2], costs: [4, 1, 2, 3] };
   const changes = [
-    [{}, "BEST"], [{ n: 0 }, "SIZE"], [{ m: 0 }, "SIZE"], [{ costs: [4, 1, 2] }, "LENGTH"], [{ persons: [1, 1, 3, 2] }, "PERSON"],
-    [{ objects: [1, 2, 4, 3] }, "OBJECT"], [{ objects: [0, 2, 2, 3] }, "OBJECT"], [{ costs: [4, 1, GREATEST + 1, 3] }, "COST"]];
+    [{}, "BEST"], [{ rows: [] }, "SIZE"], [{ columns: [], groupOf: [] }, "SIZE"], [{ costs: [4, 1, 2] }, "BUFFER"], [{ ofColumns: [0, 1, 1] }, "LENGTH"], [{ ofRows: [0, 0, 2, 1] }, "ROW"],
+    [{ ofRows: [0, 1, 0, 1] }, "ORDER"], [{ ofColumns: [0, 1, 3, 2] }, "COLUMN"], [{ ofColumns: [-1, 1, 1, 2] }, "COLUMN"],
+    [{ rows: [one, { least: 2, most: 1 }] }, "ROW_COUNTS"], [{ costs: [4, 1, GREATEST + 1, 3] }, "COST"]];
   for (const [change, code] of changes) assert.strictEqual(library.solve({ ...right, ...change }).code, code, JSON.stringify(change));
 }
 
@@ -128,20 +133,24 @@ function tryHeap(library, steps) {
 // Each growth of a solving call refused in turn: it answers MEMORY, or as without, and gives all back.
 function tryRefusals(library) {
   let count = 0;
-  for (const [isSparse, m] of [[false, 5], [false, 8], [true, 6], [true, 9]]) {
-    const table = Array.from({ length: 5 }, (_, i) => Array.from({ length: m }, (__, j) => (i + 1) * (j + 2) * (j + 2) % 17));
-    const { problem } = problemOf(table, isSparse, false);
+  for (let round = 0; round < 4; round++) {
+    const problem = drawnProblem();
     const right = library.solve(problem);
-    const own = isSparse ? 7 : 5;
-    for (let which = own + 1; ; which++) {
+    // The page's own lists come first.
+    for (let which = 16; ; which++) {
       library.calls.refuse(which);
-      const answer = library.solve(problem);
+      let code = "MEMORY";
+      try {
+        ({ code } = library.solve(problem));
+      } catch (fault) {
+        assert(fault instanceof NoMemory, String(fault));
+      }
       const isLast = library.calls.growths() < which;
       library.calls.refuse(0);
       assert.strictEqual(library.calls.blocks(), 0);
       if (isLast) break;
       count++;
-      assert(answer.code === "MEMORY" || answer.code === right.code && answer.total === right.total, answer.code);
+      assert(code === "MEMORY" || code === right.code, code);
     }
   }
   return count;
@@ -151,8 +160,8 @@ const [page, howMany, tried] = process.argv.slice(2);
 const library = await Library.load(moduleOf(page));
 tryFaults(library);
 const codes = Array.from({ length: Number(howMany) }, () => tryOne(library));
-const halls = codes.filter((code) => code === "HALL").length;
-console.log(`page: version ${library.version()}, ${codes.length} problems as a plain search says, ${halls} of them without an assignment`);
+const halls = codes.filter((code) => code !== "BEST").length;
+console.log(`page: version ${library.version()}, ${codes.length} problems as a plain search says, ${halls} of them without a plan`);
 if (tried) {
   const other = await Library.load(fs.readFileSync(tried));
   tryHeap(other, HEAP_STEPS);

@@ -1,0 +1,166 @@
+// Each person's plan as an iCalendar file (RFC 5545), as the command writes it, and all of them in one zip archive.
+import { datesOf, isoOf } from "./dates.mjs";
+import { labelsOf } from "./days.mjs";
+import { isPrintable } from "./texts.mjs";
+
+const WIDEST = 75;
+// The UUID of the names of events, which is that of "urn:nushbaret:plan" in the space of addresses.
+const NAMESPACE = [0x6b, 0xa7, 0xb8, 0x11, 0x9d, 0xad, 0x11, 0xd1, 0x80, 0xb4, 0x00, 0xc0, 0x4f, 0xd4, 0x30, 0xc8];
+const FORBIDDEN = /[<>:"/\\|?*]/;
+const RESERVED = /^(?:con|prn|aux|nul|conin\$|conout\$|(?:com|lpt)[1-9])$/;
+const MOST_OCTETS = 200;
+const MINUTES = 24 * 60;
+const encoder = new TextEncoder();
+/** @typedef {import("./roster.mjs").Roster} Roster @typedef {{ name: string, bytes: Uint8Array }} File */
+
+/** @type {(bytes: Uint8Array) => Uint8Array} The sum SHA-1 of bytes. */
+function sha1(bytes) {
+  const padded = new Uint8Array(Math.ceil((bytes.length + 9) / 64) * 64);
+  padded.set(bytes);
+  padded[bytes.length] = 0x80;
+  const view = new DataView(padded.buffer);
+  view.setUint32(padded.length - 4, bytes.length * 8);
+  const turn = (/** @type {number} */ word, /** @type {number} */ count) => word << count | word >>> 32 - count;
+  let sum = [0x67452301, 0xefcdab89, 0x98badcfe, 0x10325476, 0xc3d2e1f0];
+  for (let block = 0; block < padded.length; block += 64) {
+    const words = Array.from({ length: 16 }, (_, k) => view.getInt32(block + 4 * k));
+    for (let k = 16; k < 80; k++) words.push(turn(words[k - 3] ^ words[k - 8] ^ words[k - 14] ^ words[k - 16], 1));
+    let [a, b, c, d, e] = sum;
+    words.forEach((word, k) => {
+      const mixed = k < 20 ? (b & c | ~b & d) + 0x5a827999 : k < 40 ? (b ^ c ^ d) + 0x6ed9eba1
+        : k < 60 ? (b & c | b & d | c & d) + 0x8f1bbcdc : (b ^ c ^ d) + 0xca62c1d6;
+      [a, b, c, d, e] = [turn(a, 5) + mixed + e + word | 0, a, turn(b, 30), c, d];
+    });
+    sum = [sum[0] + a | 0, sum[1] + b | 0, sum[2] + c | 0, sum[3] + d | 0, sum[4] + e | 0];
+  }
+  const found = new DataView(new ArrayBuffer(20));
+  sum.forEach((word, k) => found.setInt32(4 * k, word));
+  return new Uint8Array(found.buffer);
+}
+
+/** @type {(space: ArrayLike<number>, name: string) => Uint8Array} The UUID of a name, by its sum. */
+function uuid5(space, name) {
+  const found = sha1(Uint8Array.from([...Array.from(space), ...encoder.encode(name)])).slice(0, 16);
+  found[6] = found[6] & 15 | 0x50;
+  found[8] = found[8] & 63 | 128;
+  return found;
+}
+
+/** @type {(person: string, object: string, day: number) => string} */
+function uidOf(person, object, day) {
+  const digits = Array.from(uuid5(uuid5(NAMESPACE, "urn:nushbaret:plan"), `${person}\n${object}\n${isoOf(day)}`), (byte) => byte.toString(16).padStart(2, "0")).join("");
+  return digits.replace(/^(.{8})(.{4})(.{4})(.{4})/, "$1-$2-$3-$4-");
+}
+
+/** @type {(line: string) => string[]} A line in parts of at most 75 octets; each but the first begins with a blank. */
+function folded(line) {
+  const parts = [""];
+  let size = 0;
+  for (const letter of line) {
+    const own = encoder.encode(letter).length;
+    if (size + own > WIDEST) {
+      parts.push(" ");
+      size = 1;
+    }
+    parts[parts.length - 1] += letter;
+    size += own;
+  }
+  return parts;
+}
+
+/** @type {(text: string) => string} */
+function escapedText(text) {
+  return text.replace(/[\\;,]/g, "\\$&").replace(/\n/g, "\\n");
+}
+
+/** @type {(day: number, minutes?: number) => string} A day, or a time of it, as calendars write it. */
+function stampOf(day, minutes = -1) {
+  const own = isoOf(day + Math.floor(Math.max(0, minutes) / MINUTES)).replace(/-/g, "");
+  if (minutes < 0) return own;
+  const rest = minutes % MINUTES;
+  return `${own}T${String(Math.floor(rest / 60)).padStart(2, "0")}${String(rest % 60).padStart(2, "0")}00`;
+}
+
+/** @type {(stem: string) => string} The letters by which systems that ignore case compare names. */
+function keyOfName(stem) {
+  return stem.normalize("NFKC").toUpperCase().toLowerCase().normalize("NFKC");
+}
+
+/** @type {(names: string[]) => string[]} Names of files for names, without ends: they differ also where a system ignores case. */
+export function fileNames(names) {
+  /** @type {Set<string>} */
+  const taken = new Set();
+  return names.map((name) => {
+    const bare = Array.from(name, (letter) => FORBIDDEN.test(letter) || !isPrintable(letter) ? "_" : letter).join("").replace(/^[ .]+|[ .]+$/g, "");
+    const cut = new TextDecoder().decode(encoder.encode(bare).slice(0, MOST_OCTETS)).replace(/\ufffd+$/, "").replace(/[ .]+$/, "") || "_";
+    const stem = RESERVED.test(keyOfName(cut.split(".")[0].trim())) || /^[-~]/.test(cut) ? `_${cut}` : cut;
+    let own = stem;
+    for (let number = 2; taken.has(keyOfName(own)); number++) own = `${stem} ${number}`;
+    taken.add(keyOfName(own));
+    return own;
+  });
+}
+
+/** @type {(roster: Roster, plan: import("./plan.mjs").Plan, version: string) => { files: File[], why: string }} A calendar for each person; why there is none where groups are no dates. */
+export function calendarsOf(roster, plan, version) {
+  const { all, why } = roster.groups ? datesOf(roster.groups.names) : { all: null, why: "there are no groups" };
+  if (!all) return { files: [], why };
+  const labels = labelsOf(roster);
+  const first = Math.min(...all);
+  const stems = fileNames(roster.persons);
+  const files = roster.persons.map((person, number) => {
+    const events = plan.pairs.filter((pair) => pair.person === number).flatMap(({ object }) => {
+      const group = roster.groups?.ofObjects.get(object);
+      return group === undefined ? [] : [{ object, day: all[group], times: roster.groups?.times.get(object) }];
+    });
+    events.sort((one, other) => one.day - other.day || (one.times?.begin || 0) - (other.times?.begin || 0));
+    const lines = events.flatMap(({ object, day, times }) => [
+      "BEGIN:VEVENT", `UID:${uidOf(person, roster.objects[object], day)}`, `DTSTAMP:${stampOf(day, 0)}Z`,
+      ...times ? [`DTSTART:${stampOf(day, times.begin)}`, `DTEND:${stampOf(day, times.end)}`]
+        : [`DTSTART;VALUE=DATE:${stampOf(day)}`, `DTEND;VALUE=DATE:${stampOf(day + 1)}`],
+      `SUMMARY:${escapedText(labels[object])}`, "END:VEVENT"]);
+    // A calendar needs a component: this one says that no time is taken.
+    const none = ["BEGIN:VFREEBUSY", `UID:${uidOf(person, "", first)}`, `DTSTAMP:${stampOf(first, 0)}Z`, "END:VFREEBUSY"];
+    const whole = [
+      "BEGIN:VCALENDAR", "VERSION:2.0", `PRODID:-//Nushbaret//Nushbaret ${version}//EN`, "CALSCALE:GREGORIAN",
+      `X-WR-CALNAME:${escapedText(person)}`, ...lines.length ? lines : none, "END:VCALENDAR"];
+    return { name: `${stems[number]}.ics`, bytes: encoder.encode(whole.flatMap(folded).map((line) => `${line}\r\n`).join("")) };
+  });
+  return { files, why: "" };
+}
+
+/** @type {(bytes: Uint8Array) => number} The sum CRC-32 of bytes. */
+function crc32(bytes) {
+  let sum = -1;
+  for (const byte of bytes) {
+    sum ^= byte;
+    for (let bit = 0; bit < 8; bit++) sum = sum >>> 1 ^ (sum & 1 ? 0xedb88320 : 0);
+  }
+  return ~sum >>> 0;
+}
+
+/** @type {(files: File[]) => Blob} Files in one zip archive, as they are. */
+export function zipOf(files) {
+  /** @type {Uint8Array[][]} */
+  const [parts, entries] = [[], []];
+  let [place, length] = [0, 0];
+  for (const { name, bytes } of files) {
+    const own = encoder.encode(name);
+    // Version 2.0, names in UTF-8, no method, the first day of 1980; the sum and both sizes; the length of the name.
+    const common = new DataView(new ArrayBuffer(26));
+    [20, 0x800, 0, 0, 0x21].forEach((word, k) => common.setUint16(2 * k, word, true));
+    [crc32(bytes), bytes.length, bytes.length, own.length].forEach((word, k) => common.setUint32(10 + 4 * k, word, true));
+    const shared = new Uint8Array(common.buffer);
+    const rest = new DataView(new ArrayBuffer(14));
+    rest.setUint32(10, place, true);
+    parts.push(Uint8Array.of(0x50, 0x4b, 3, 4), shared, own, bytes);
+    entries.push(Uint8Array.of(0x50, 0x4b, 1, 2, 20, 0), shared, new Uint8Array(rest.buffer), own);
+    place += 30 + own.length + bytes.length;
+    length += 46 + own.length;
+  }
+  const end = new DataView(new ArrayBuffer(22));
+  end.setUint32(0, 0x06054b50, true);
+  [files.length, files.length].forEach((count, k) => end.setUint16(8 + 2 * k, count, true));
+  [length, place].forEach((word, k) => end.setUint32(12 + 4 * k, word, true));
+  return new Blob([...parts, ...entries, new Uint8Array(end.buffer)], { type: "application/zip" });
+}

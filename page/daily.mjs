@@ -1,0 +1,116 @@
+// Rosters by days: lines of a person, a day, a shift and a cost, and matrices with two title rows, the days over their shifts. Objects
+// are then called by shift and day, which are their kind and their group.
+import { datesOf, spellings } from "./dates.mjs";
+import { RosterFault, said } from "./faults.mjs";
+import { Pairs } from "./names.mjs";
+import { looksLikeNumber } from "./numbers.mjs";
+import { nameOf } from "./sheet.mjs";
+import { quoted } from "./texts.mjs";
+
+const COLUMNS = 4;
+/**
+ * @typedef {import("./sheet.mjs").Sheet} Sheet
+ * @typedef {import("./numbers.mjs").Costs} Costs
+ * @typedef {import("./takes.mjs").Groups} Groups
+ * @typedef {import("./roster.mjs").Read & { groups: Groups }} Daily
+ */
+
+/** @type {(cells: string[]) => boolean} */
+function areDates(cells) {
+  return datesOf([...new Set(cells)]).all !== null;
+}
+
+/** Objects by day and shift, as they come. */
+class Objects {
+  /** @param {string} title @param {import("./names.mjs").Names} names */
+  constructor(title, names) {
+    this.names = names;
+    /** @type {Groups} */
+    this.groups = { title, names: [], ofObjects: new Map(), times: new Map(), kinds: new Map(), of: "" };
+    /** @type {Map<string, number>} */
+    this.days = new Map();
+    /** @type {Map<string, number>} */
+    this.numbers = new Map();
+  }
+
+  /** @type {(day: string, shift: string, line: number, columns: number[]) => number} The number of an object, a new one where it is new. */
+  number(day, shift, line, columns) {
+    const { groups } = this;
+    const [own, kind] = [nameOf(day, line, columns[0]), nameOf(shift, line, columns[1])];
+    const group = this.days.get(spellings(own)[0]) ?? groups.names.push(own) - 1;
+    this.days.set(spellings(own)[0], group);
+    const key = `${group} ${kind}`;
+    const number = this.numbers.get(key) ?? this.names.number(`${kind} ${groups.names[group]}`, line, columns[1]);
+    this.numbers.set(key, number);
+    groups.ofObjects.set(number, group);
+    groups.kinds.set(number, kind);
+    return number;
+  }
+}
+
+/** @type {(sheet: Sheet) => boolean} Whether a sheet has lines of a person, a day, a shift and a cost. */
+export function areDailyLines(sheet) {
+  const { cells: title } = sheet.title();
+  if (title.length !== COLUMNS || !title.slice(0, 3).every(Boolean)) return false;
+  const rows = [...sheet.records()].map(({ cells }) => cells);
+  if (!rows.length || rows.some((cells) => cells.length < COLUMNS || !cells[1] || !cells[2])) return false;
+  const columns = [1, 2].map((column) => rows.map((cells) => cells[column]));
+  const numbers = columns.map((cells) => cells.some(looksLikeNumber));
+  const areFit = !numbers.every(Boolean) && columns.every((cells, k) => !numbers[k] || areDates(cells));
+  return areFit && rows.some((cells) => looksLikeNumber(cells[3]));
+}
+
+/** @type {(sheet: Sheet, costs: Costs, most: number) => Daily} Reads lines; the day stands third where dates stand there alone. */
+export function readDailyLines(sheet, costs, most) {
+  const { cells: title } = sheet.title();
+  const rows = [...sheet.body(COLUMNS)];
+  const [seconds, thirds] = [1, 2].map((column) => areDates(rows.map(({ cells }) => cells[column])));
+  const day = thirds && !seconds ? 2 : 1;
+  const titles = title.map((cell, place) => nameOf(cell, 1, place + 1));
+  const pairs = new Pairs(costs, most);
+  const objects = new Objects(titles[day], pairs.objects);
+  for (const { line, cells } of rows) {
+    const person = pairs.persons.number(cells[0], line, 1);
+    const object = objects.number(cells[day], cells[3 - day], line, [day + 1, 4 - day]);
+    pairs.refuseTwice(person, object, [cells[0], pairs.objects.list[object]], line);
+    pairs.take(person, object, cells[3], line, 4);
+  }
+  return { titles: [titles[0], titles[3 - day], titles[3]], pairs, groups: objects.groups };
+}
+
+/** @type {(sheet: Sheet) => { line: number, corner: string, days: string[], shifts: string[] } | null} The two title rows of a matrix; null where it has none. */
+export function headsOf(sheet) {
+  if (sheet.rows.length < 2) return null;
+  const { line, cells: below } = sheet.rows[1];
+  let width = below.length;
+  while (width && !below[width - 1]) width--;
+  const above = Array.from({ length: width }, (_, k) => sheet.rows[0].cells[k] || "");
+  const shifts = below.slice(1, width);
+  const hasWide = above.slice(2).some((cell, k) => !cell || cell === above[k + 1]);
+  if (!shifts.length || !hasWide || !above[1] || !shifts.every(Boolean) || shifts.some(looksLikeNumber)) return null;
+  /** @type {string[]} */
+  const days = [];
+  above.slice(1).forEach((cell) => days.push(cell || days[days.length - 1]));
+  return { line, corner: below[0] || above[0], days, shifts };
+}
+
+/** @type {(sheet: Sheet, costs: Costs, most: number) => Daily} Reads a matrix with two title rows. */
+export function readDailyMatrix(sheet, costs, most) {
+  const heads = headsOf(sheet);
+  if (!heads) throw new Error("a matrix without two title rows");
+  const pairs = new Pairs(costs, most);
+  const objects = new Objects("day", pairs.objects);
+  /** @type {number[]} */
+  const columns = [];
+  heads.shifts.forEach((shift, k) => {
+    const number = objects.number(heads.days[k], shift, heads.line, [k + 2, k + 2]);
+    if (columns.includes(number)) throw new RosterFault(said("shift twice", quoted(shift), quoted(heads.days[k])), heads.line, k + 2);
+    columns.push(number);
+  });
+  for (const { line, cells } of [...sheet.records()].slice(1)) {
+    if (cells.slice(columns.length + 1).some(Boolean)) throw new RosterFault(said("cells of two titles", cells.length, columns.length + 1), line);
+    pairs.takeRow(cells, columns, line);
+  }
+  if (!pairs.persons.list.length) throw new RosterFault(said("no line after two"), heads.line);
+  return { titles: [heads.corner ? nameOf(heads.corner, heads.line, 1) : "person", "shift", "cost"], pairs, groups: objects.groups };
+}

@@ -1,0 +1,116 @@
+// A plan as one sheet: who has what on which day, by letters, what each has in all, and each day's staff of how many.
+import { DAY_NAMES, datesOf, hasWeekday, isoOf, weekdayOf, weekendsAmong } from "./dates.mjs";
+import { costsOf, orderOf, pairKey } from "./earlier.mjs";
+import { countsOf } from "./gathered.mjs";
+import { shown } from "./numbers.mjs";
+import { hasBounds, ofObject, withoutGroup } from "./takes.mjs";
+
+// So many days, kinds and persons fit on a sheet.
+const [MOST_DAYS, MOST_KINDS, MOST_ROWS] = [62, 12, 400];
+const ALPHABET = "ABCDEFGHIJKLMNOPQRSTUVWXYZ";
+const SATURDAY = 5;
+/**
+ * @typedef {import("./roster.mjs").Roster} Roster
+ * @typedef {import("./plan.mjs").Plan} Plan
+ * @typedef {{ name: string, group: number, weekday: string, isWeekend: boolean, when: number | null, isPast: boolean }} Day
+ * @typedef {{ label: string, object: number, isFixed: boolean, isNew: boolean }} Entry
+ * @typedef {{ entries: Entry[], gone: string[], isOff: boolean }} Cell What a person has on a day, what it had in an earlier plan and has no more,
+ *   and whether nothing is allowed
+ * @typedef {{ had: number, wanted: number | null, object: number }} Staff
+ * @typedef {object} DaySheet
+ * @property {Day[]} days
+ * @property {Map<string, string>} letters
+ * @property {{ name: string, cells: Cell[], sums: string[] }[]} persons
+ * @property {{ title: string, meaning: string }[]} columns
+ * @property {{ kind: string, staff: (Staff | null)[] }[]} kinds
+ */
+
+/** @type {(roster: Roster) => string[]} The names of objects, without the name of their group where the rest still differs. */
+export function labelsOf({ objects, groups }) {
+  if (!groups) return objects;
+  const group = (/** @type {number} */ number) => groups.ofObjects.get(number) ?? -1;
+  const short = objects.map((name, number) => group(number) < 0 ? name : withoutGroup(name, groups.names[group(number)]));
+  const counts = countsOf(short.map((name, number) => `${group(number)} ${name}`));
+  return objects.map((name, number) => group(number) >= 0 && counts.get(`${group(number)} ${short[number]}`) === 1 ? short[number] : name);
+}
+
+/** @type {(roster: Roster, names: string[]) => Day[]} The days of a roster with groups, in order. */
+function daysOf(roster, names) {
+  const { all } = datesOf(names);
+  const weekends = weekendsAmong(names);
+  const past = new Set([...roster.past].map((object) => roster.groups?.ofObjects.get(object)));
+  const days = names.map((name, group) => ({
+    name, group, when: all && all[group], isPast: past.has(group), weekday: all && !hasWeekday(name) ? DAY_NAMES[weekdayOf(all[group])] : "",
+    isWeekend: all ? weekdayOf(all[group]) >= SATURDAY : weekends.has(name),
+  }));
+  return all ? days.sort((one, other) => all[one.group] - all[other.group]) : days;
+}
+
+/** @type {(kinds: string[]) => Map<string, string>} A letter for each kind, or the fewest first letters by which all differ. */
+export function lettersOf(kinds) {
+  for (const count of [1, 2, 3]) {
+    const short = kinds.map((kind) => Array.from(kind).slice(0, count).join("").trim());
+    if (new Set(short).size === kinds.length && short.every(Boolean)) return new Map(kinds.map((kind, k) => [kind, short[k]]));
+  }
+  return new Map(kinds.map((kind, k) => [kind, ALPHABET[k]]));
+}
+
+/** @type {(days: Day[], cells: Cell[]) => number} How many weekends have a shift: days of weekends side by side are one. */
+function weekendsIn(days, cells) {
+  let [count, isCounted] = [0, false];
+  days.forEach(({ isWeekend }, k) => {
+    isCounted = isCounted && isWeekend;
+    if (isWeekend && cells[k].entries.length && !isCounted) [count, isCounted] = [count + 1, true];
+  });
+  return count;
+}
+
+/** @type {(roster: Roster, plan: Plan, kept: import("./earlier.mjs").OldPlan | null) => DaySheet | null} The sheet of a plan; null where there are no groups, or too many days or kinds. */
+export function sheetOf(roster, plan, kept) {
+  const { groups, persons, objects } = roster;
+  if (!groups) return null;
+  const labels = labelsOf(roster);
+  const order = orderOf(roster).filter((object) => groups.ofObjects.has(object));
+  const kinds = [...new Set(order.map((object) => labels[object]))];
+  if (order.length < objects.length || groups.names.length > MOST_DAYS || kinds.length > MOST_KINDS || persons.length > MOST_ROWS) return null;
+  const days = daysOf(roster, groups.names);
+  const costs = costsOf(roster);
+  const cells = persons.map((_, person) => days.map(({ group }) => dayCell(roster, plan, kept, { labels, person, costs, own: order.filter((object) => groups.ofObjects.get(object) === group) })));
+  const letters = lettersOf(kinds);
+  const ofKinds = kinds.length > 1 && kinds.length <= 4 ? kinds : [];
+  const hasWeekends = days.some(({ isWeekend }) => isWeekend);
+  const columns = [
+    { title: "\u03a3", meaning: "all shifts" }, ...ofKinds.map((kind) => ({ title: letters.get(kind) || "", meaning: kind })),
+    ...hasWeekends ? [{ title: "we", meaning: "weekends with a shift" }] : [], { title: roster.titles[2], meaning: "" }];
+  const rows = persons.map((name, person) => {
+    const own = cells[person].flatMap(({ entries }) => entries);
+    const cost = plan.pairs.reduce((sum, pair) => pair.person === person ? sum + BigInt(pair.cost) : sum, 0n);
+    return { name, cells: cells[person], sums: [
+      String(own.length), ...ofKinds.map((kind) => String(own.filter(({ label }) => label === kind).length)),
+      ...hasWeekends ? [String(weekendsIn(days, cells[person]))] : [], shown(roster, cost)] };
+  });
+  const staff = kinds.map((kind) => ({ kind, staff: days.map(({ group }) => {
+    const object = order.find((one) => labels[one] === kind && groups.ofObjects.get(one) === group);
+    if (object === undefined) return null;
+    return { object, had: plan.pairs.filter((pair) => pair.object === object).length, wanted: hasBounds(roster) ? ofObject(roster, object).least : null };
+  }) }));
+  return { days, letters, persons: rows, columns, kinds: staff };
+}
+
+/**
+ * @type {(roster: Roster, plan: Plan, kept: import("./earlier.mjs").OldPlan | null, spot: { labels: string[], person: number, costs: Map<number, number>, own: number[] }) => Cell}
+ *   What a person has on a day, whose objects are its own.
+ */
+function dayCell(roster, plan, kept, { labels, person, costs, own }) {
+  const before = new Set((kept?.named || []).filter((pair) => pair.person === roster.persons[person]).map(({ object }) => object));
+  const entries = plan.pairs.filter((pair) => pair.person === person && own.includes(pair.object)).map(({ object, isFixed }) => ({
+    label: labels[object], object, isFixed: isFixed && !roster.past.has(object), isNew: kept !== null && !before.has(roster.objects[object]),
+  }));
+  const gone = own.filter((object) => before.has(roster.objects[object]) && !entries.some((entry) => entry.object === object)).map((object) => labels[object]);
+  return { entries, gone, isOff: !entries.length && !own.some((object) => costs.has(pairKey(roster, person, object))) };
+}
+
+/** @type {(day: Day) => string[]} A day in few letters: the day of the week and of the month, where it is a date. */
+export function shortDay({ name, when }) {
+  return when === null ? [name] : [DAY_NAMES[weekdayOf(when)].slice(0, 2), String(Number(isoOf(when).slice(8)))];
+}

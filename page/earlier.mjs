@@ -1,0 +1,234 @@
+// An earlier plan: its pairs by names, what changes from it, and the past, whose pairs stay as they were.
+import { datesOf } from "./dates.mjs";
+import { RosterFault, said } from "./faults.mjs";
+import { gathered, usesOf } from "./gathered.mjs";
+import { hintOf } from "./names.mjs";
+import { Costs, shown } from "./numbers.mjs";
+import { counted } from "./sentences.mjs";
+import { nameOf } from "./sheet.mjs";
+import { hasBounds, ofObject, ofPerson } from "./takes.mjs";
+import { joined, quoted } from "./texts.mjs";
+
+const [CHANGE, GOES, NOT_POSSIBLE] = ["change", "goes", "not possible"];
+export const MOST_SHOWN = 20;
+/**
+ * @typedef {import("./roster.mjs").Roster} Roster
+ * @typedef {import("./library.mjs").Bounds} Bounds
+ * @typedef {{ person: string, object: string, line: number, cost: string }} Named
+ * @typedef {{ person: number, object: number, cost: number }} Pair
+ * @typedef {{ named: Named[], known: Map<number, Pair>, gone: string[], forbidden: Set<number> }} OldPlan All its pairs by names; by their keys
+ *   those that the roster allows, and those of known names that it forbids; and the names that the roster doesn't have
+ * @typedef {{ roster: Roster, kept: OldPlan, fixed: Pair[], lines: string[] }} Past
+ */
+
+/** @type {(roster: Roster, person: number, object: number) => number} A number for a pair. */
+export function pairKey({ objects }, person, object) {
+  return person * objects.length + object;
+}
+
+/** @type {(roster: Roster) => Map<number, number>} The cost of each pair that is allowed, by its key. */
+export function costsOf(roster) {
+  return new Map(roster.costs.map((cost, k) => [pairKey(roster, roster.ofPersons[k], roster.ofObjects[k]), cost]));
+}
+
+/** @type {(numbers: number[], names: string[]) => string} The first twenty names of many. */
+function listed(numbers, names) {
+  const more = numbers.length - MOST_SHOWN;
+  return joined(numbers.slice(0, MOST_SHOWN).map((number) => names[number])) + (more > 0 ? ` and ${more} more` : "");
+}
+
+/** @type {(numbers: number[], word: string, names: string[]) => string} How many there are, and the first of their names. */
+export function named(numbers, word, names) {
+  return `${counted(numbers.length, word)} (${listed(numbers, names)})`;
+}
+
+/** @type {(sheet: import("./sheet.mjs").Sheet, roster: Roster) => Named[]} The pairs of a plan in lines, by names. */
+export function namedPairs(sheet, roster) {
+  const { line: first, cells: title } = sheet.title();
+  if (title.length < 2) throw new RosterFault(said("person and object"), first);
+  const { persons, objects, personNumbers, objectNumbers, groups } = roster;
+  if (personNumbers.has(title[0]) && objectNumbers.has(title[1])) throw new RosterFault(said("pair for a title", title[0], title[1]), first);
+  const change = title.indexOf(CHANGE, 3);
+  const hasCosts = title.length > 2 && (!groups || title[2] !== groups.title);
+  return [...sheet.body(title.length)].filter(({ cells }) => change < 0 || ![GOES, NOT_POSSIBLE].includes(cells[change])).map(({ line, cells }) => {
+    const [person, object] = [nameOf(cells[0], line, 1), nameOf(cells[1], line, 2)];
+    return {
+      person: persons[personNumbers.get(person) ?? -1] ?? person, object: objects[objectNumbers.get(object) ?? -1] ?? object, line,
+      cost: hasCosts ? cells[2] : "",
+    };
+  });
+}
+
+/** @type {(roster: Roster, numbered: { person: number, object: number, line: number }[]) => void} Refuses a name that stands more often than it may. */
+function refuseOften(roster, numbered) {
+  for (const [column, side] of /** @type {["person", "object"]} */ (["person", "object"]).entries()) {
+    const all = [...gathered(numbered, (pair) => pair[side])].map(([number, own]) => (
+      { number, lines: own.map(({ line }) => line), most: (column ? ofObject(roster, number) : ofPerson(roster, number)).most }));
+    const often = all.filter(({ lines, most }) => lines.length > most).sort((one, other) => one.lines[one.most] - other.lines[other.most]);
+    for (const { number, lines, most } of often) {
+      const name = quoted((column ? roster.objects : roster.persons)[number]);
+      const text = `${name} ${most === 1 ? said("a second time") : said("more times", most)}${most ? `, after line ${lines[0]}` : ""}`;
+      throw new RosterFault(text, lines[most], column + 1);
+    }
+  }
+}
+
+/** @type {(roster: Roster, named: Named[], byCounts: boolean) => OldPlan} An earlier plan as a roster has it now. */
+export function oldPlanOf(roster, named, byCounts) {
+  const gone = named.flatMap(({ person, object }) => [roster.personNumbers.has(person) ? [] : [person], roster.objectNumbers.has(object) ? [] : [object]]).flat();
+  const numbered = named.flatMap(({ person, object, line }) => {
+    const [one, other] = [roster.personNumbers.get(person), roster.objectNumbers.get(object)];
+    return one === undefined || other === undefined ? [] : [{ person: one, object: other, line }];
+  });
+  if (byCounts) refuseOften(roster, numbered);
+  const costs = costsOf(roster);
+  /** @type {OldPlan} */
+  const plan = { named, known: new Map(), gone: [...new Set(gone)], forbidden: new Set() };
+  /** @type {Map<number, number>} */
+  const lines = new Map();
+  for (const { person, object, line } of numbered) {
+    const key = pairKey(roster, person, object);
+    const before = lines.get(key);
+    if (before) throw new RosterFault(said("pair twice", roster.persons[person], roster.objects[object], before), line);
+    lines.set(key, line);
+    const cost = costs.get(key);
+    if (cost === undefined) plan.forbidden.add(key);
+    else plan.known.set(key, { person, object, cost });
+  }
+  return plan;
+}
+
+/** @type {(groups: import("./takes.mjs").Groups, name: string) => number[]} The groups before one: by date where all are dates, and else in the order of their file. */
+function groupsBefore({ title, names }, name) {
+  const days = datesOf([...names, name]).all;
+  if (days) return [...names.keys()].filter((group) => days[group] < days[names.length]);
+  if (names.includes(name)) return [...names.keys()].slice(0, names.indexOf(name));
+  throw new RosterFault(said("no past", title, quoted(name)) + hintOf(name, names));
+}
+
+/** @type {(roster: Roster, pair: Named) => number} What a pair costs in the plan's file, 0 where no number stands there. */
+function costInFile(roster, { cost, line }) {
+  if (!/^[+-]?[0-9.,][0-9., 'eE+-]*$/.test(cost)) return 0;
+  const costs = new Costs(roster.comma);
+  costs.take(cost, line, 3);
+  const { decimals, units } = costs.scaled();
+  if (decimals > roster.decimals) throw new RosterFault(said("many places", quoted(cost), roster.decimals, ""), line, 3);
+  return units[0] * 10 ** (roster.decimals - decimals);
+}
+
+/** @type {(roster: Roster, names: string[]) => Roster} The roster with persons that it doesn't have, who take none. */
+function withPersons(roster, names) {
+  const fresh = [...new Set(names)].filter((name) => !roster.personNumbers.has(name));
+  if (!fresh.length) return roster;
+  /** @type {[string, number][]} */
+  const numbers = fresh.map((name, k) => [name, roster.persons.length + k]);
+  const gone = new Set(numbers.map(([, number]) => number));
+  const own = { ...roster, persons: [...roster.persons, ...fresh], personNumbers: new Map([...roster.personNumbers, ...numbers]), gone };
+  return { ...own, takes: takesWith(roster, new Map([...gone].map((number) => [number, { least: 0, most: 0 }])), new Map()) };
+}
+
+/** @type {(roster: Roster, persons: Map<number, Bounds>, objects: Map<number, Bounds>) => import("./takes.mjs").Takes} What names take, with these in place of what they took. */
+function takesWith({ takes }, persons, objects) {
+  const areSums = takes === null || takes.areSums;
+  return { persons: new Map([...takes?.persons || [], ...persons]), objects: new Map([...takes?.objects || [], ...objects]), areSums };
+}
+
+/**
+ * @type {(roster: Roster, groups: import("./takes.mjs").Groups, kept: OldPlan, name: string) => Past}
+ *   The roster and the plan with a past, which is before a group. The plan's pairs there are allowed and given, at their cost in its file where the roster forbids them. Who has more of them than it takes may have so many. No least count of the past is left.
+ */
+export function withPast(roster, groups, kept, name) {
+  const earlier = groupsBefore(groups, name);
+  const past = new Set([...groups.ofObjects].filter(([, group]) => earlier.includes(group)).map(([object]) => object));
+  const ofPast = kept.named.filter(({ object }) => past.has(roster.objectNumbers.get(object) ?? -1));
+  const own = withPersons(roster, ofPast.map(({ person }) => person));
+  const costs = costsOf(own);
+  const pairs = ofPast.map((pair) => {
+    const [person, object] = [own.personNumbers.get(pair.person) ?? 0, own.objectNumbers.get(pair.object) ?? 0];
+    const cost = costs.get(pairKey(own, person, object));
+    return { person, object, cost: cost ?? costInFile(own, pair), isNew: cost === undefined };
+  });
+  const [had] = usesOf(pairs);
+  const passing = [...had].filter(([person, count]) => count > ofPerson(own, person).most).sort(([one], [other]) => one - other);
+  const added = pairs.filter(({ isNew }) => isNew);
+  const takes = takesWith(
+    own, new Map(passing.map(([person, most]) => [person, { ...ofPerson(own, person), most }])),
+    new Map([...past].map((object) => [object, { ...ofObject(own, object), least: 0 }])));
+  /** @type {Roster} */
+  const changed = {
+    ...own, past, ofPersons: [...own.ofPersons, ...added.map(({ person }) => person)], ofObjects: [...own.ofObjects, ...added.map(({ object }) => object)],
+    costs: [...own.costs, ...added.map(({ cost }) => cost)], isMatrix: own.isMatrix && !added.length, takes,
+  };
+  const lines = pastLines(own, groups, { earlier, name, count: pairs.length, added, passing: passing.filter(([person]) => !own.gone.has(person)) });
+  return { roster: changed, kept: { ...oldPlanOf(changed, kept.named, false), gone: kept.gone }, fixed: pairs, lines };
+}
+
+/**
+ * @type {(roster: Roster, groups: import("./takes.mjs").Groups, past: { earlier: number[], name: string, count: number, added: Pair[], passing: [number, number][] }) => string[]}
+ *   What is said of the past.
+ */
+function pastLines(roster, groups, { earlier, name, count, added, passing }) {
+  if (!earlier.length) return [`no ${groups.title} is before ${name}`];
+  const which = `${counted(earlier.length, groups.title)} before ${name} (${listed(earlier, groups.names)})`;
+  const forbidden = [...new Set(added.map(({ person }) => person))].map((person) => {
+    const own = added.filter((pair) => pair.person === person).map((pair) => `${roster.objects[pair.object]}, ${shown(roster, pair.cost)}`);
+    return `${roster.persons[person]} keeps what the roster doesn't allow now: ${own.join("; ")}`;
+  });
+  const more = passing.map(([person, had]) => (
+    `${roster.persons[person]} has ${counted(had, roster.titles[1])} in the past, more than the most of ${ofPerson(roster, person).most}: ${had} is the most`));
+  return [`${counted(count, "pair")} of ${which} ${count === 1 ? "stays" : "stay"}`, ...forbidden, ...more];
+}
+
+/** @type {(names: string[], word: string) => string[]} Names that come or go. */
+function moved(names, word) {
+  return names.length ? [`${joined(names)} ${word}${names.length === 1 ? "s" : ""}`] : [];
+}
+
+/**
+ * @type {(roster: Roster, pairs: Pair[], kept: OldPlan) => { comes: Pair[], goes: Pair[], lines: string[] }}
+ *   What changes from an earlier plan: how many pairs, whose, and what can't be any more.
+ */
+export function changesOf(roster, pairs, kept) {
+  const now = new Set(pairs.map(({ person, object }) => pairKey(roster, person, object)));
+  const [past] = usesOf(pairs.filter(({ object }) => roster.past.has(object)));
+  const isFull = (/** @type {number} */ person, /** @type {number} */ object) => (
+    ofPerson(roster, person).most <= (past.get(person) || 0) || ofObject(roster, object).most === 0);
+  const left = [...kept.known].filter(([key]) => !now.has(key)).map(([, pair]) => pair).sort((one, other) => one.person - other.person || one.object - other.object);
+  const goes = left.filter(({ person, object }) => !isFull(person, object));
+  const comes = pairs.filter(({ person, object }) => !kept.known.has(pairKey(roster, person, object)));
+  const of = (/** @type {number} */ person) => (/** @type {Pair} */ pair) => pair.person === person;
+  const names = (/** @type {Pair[]} */ those) => those.map(({ object }) => roster.objects[object]);
+  const persons = [...new Set([...goes, ...comes].map(({ person }) => person))].sort((one, other) => one - other);
+  const counts = [comes.length ? `${counted(comes.length, "pair")} come${comes.length === 1 ? "s" : ""}` : "",
+    goes.length ? `${comes.length ? goes.length : counted(goes.length, "pair")} go${goes.length === 1 ? "es" : ""}` : ""];
+  const own = persons.map((person) => (
+    `${roster.persons[person]}: ${[...moved(names(goes.filter(of(person))), "go").map((text) => text.replace(/gos$/, "goes")), ...moved(names(comes.filter(of(person))), "come")].join("; ")}`));
+  const lost = kept.named.flatMap(({ person, object }) => {
+    const [one, other] = [roster.personNumbers.get(person), roster.objectNumbers.get(object)];
+    if (one === undefined || other === undefined) return [{ person, object, why: "gone" }];
+    const key = pairKey(roster, one, other);
+    const why = kept.gone.includes(person) ? "gone" : isFull(one, other) ? "takes none" : kept.forbidden.has(key) ? "forbidden" : "";
+    return now.has(key) || !why ? [] : [{ person, object, why }];
+  });
+  const gone = [...gathered(lost, ({ person, why }) => `${person}\n${why}`).values()].map((own) => (
+    `${own[0].person}: ${joined(own.map(({ object }) => object))} ${NOT_POSSIBLE} now (${own[0].why})`));
+  return { comes, goes, lines: [counts.filter(Boolean).join(", ") || "no pair changes", ...own, ...gone] };
+}
+
+/** @type {(roster: Roster, pairs: Pair[]) => { isObject: boolean, number: number, had: number, least: number }[]} Who has fewer than it must. */
+export function missingOf(roster, pairs) {
+  if (!hasBounds(roster)) return [];
+  const [had, used] = usesOf(pairs);
+  const of = (/** @type {boolean} */ isObject, /** @type {number} */ number) => ({
+    isObject, number, had: (isObject ? used : had).get(number) || 0, least: (isObject ? ofObject(roster, number) : ofPerson(roster, number)).least,
+  });
+  const all = [...orderOf(roster).map((number) => of(true, number)), ...[...roster.persons.keys()].map((number) => of(false, number))];
+  return all.filter((one) => one.had < one.least);
+}
+
+/** @type {(roster: Roster) => number[]} The objects in the order of groups and of the roster, then those in none. */
+export function orderOf({ objects, groups }) {
+  const held = groups ? [...groups.ofObjects.keys()].sort((one, other) => (groups.ofObjects.get(one) ?? 0) - (groups.ofObjects.get(other) ?? 0)) : [];
+  const own = new Set(held);
+  return [...held, ...[...objects.keys()].filter((object) => !own.has(object))];
+}

@@ -1,0 +1,27 @@
+// Numbers and things by what they have in common.
+
+/**
+ * @template Item, Key
+ * @param {Iterable<Item>} items
+ * @param {(item: Item) => Key} keyOf
+ * @returns {Map<Key, Item[]>} The items of each key, in their order.
+ */
+export function gathered(items, keyOf) {
+  const all = new Map();
+  for (const item of items) {
+    const key = keyOf(item);
+    if (all.has(key)) all.get(key).push(item);
+    else all.set(key, [item]);
+  }
+  return all;
+}
+
+/** @type {<Item>(items: Item[]) => Map<Item, number>} How often each is there. */
+export function countsOf(items) {
+  return new Map([...gathered(items, (item) => item)].map(([item, own]) => [item, own.length]));
+}
+
+/** @type {(pairs: { person: number, object: number }[]) => Map<number, number>[]} How many each person has, and each object. */
+export function usesOf(pairs) {
+  return [countsOf(pairs.map(({ person }) => person)), countsOf(pairs.map(({ object }) => object))];
+}

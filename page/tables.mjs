@@ -1,0 +1,57 @@
+// The files that were read: what each is, which can be chosen, and their cells, which can be changed.
+import { button, byId, element } from "./elements.mjs";
+import { KINDS } from "./files.mjs";
+
+// Tables with more cells are changed in a spreadsheet.
+const MOST_EDITED = 6000;
+const WORDS = {
+  roster: "roster", places: "places: how many persons each takes", tasks: "tasks: how many each person takes",
+  groups: "groups: nobody takes two of one", plan: "earlier plan", rules: "rules (the command's)", unused: "not used",
+};
+/** @typedef {import("./answers.mjs").Shown} Shown @typedef {{ onKind: (table: Shown, kind: string) => void, onRows: (table: Shown, rows: string[][]) => void, onRemove: (table: Shown) => void }} Works */
+
+/** @type {(shown: Shown, rows: string[][], works: Works) => HTMLElement} The cells of a table, each to be changed. */
+function editor(shown, rows, works) {
+  const line = (/** @type {string[]} */ cells, /** @type {number} */ row) => element("tr", {}, ...cells.map((cell, column) => {
+    const input = /** @type {HTMLInputElement} */ (element("input", {
+      value: cell, size: String(Math.min(20, Math.max(3, cell.length))), "aria-label": row ? `${rows[row][0] || `line ${row + 1}`}, ${rows[0][column]}` : `title ${column + 1}` }));
+    input.addEventListener("change", () => {
+      rows[row][column] = input.value;
+      works.onRows(shown, rows);
+    });
+    return element(row ? "td" : "th", {}, input);
+  }));
+  const body = element("tbody", {}, ...rows.map(line));
+  const add = button("Add a line", () => {
+    rows.push(rows[0].map(() => ""));
+    body.append(line(rows[rows.length - 1], rows.length - 1));
+    /** @type {HTMLElement | null} */ (body.querySelector("tr:last-child input"))?.focus();
+  }, { "aria-label": `Add a line to ${shown.name}` });
+  const room = element("div", { class: "scroll edit", tabindex: "0", role: "region", "aria-label": `The cells of ${shown.name}` }, element("table", { lang: "" }, body));
+  return element("div", {}, room, element("p", {}, add, " An empty cell of a matrix forbids the pair; an emptied line is left out."));
+}
+
+/** @type {(shown: Shown, isEditable: boolean, works: Works) => HTMLElement} */
+function itemOf(shown, isEditable, works) {
+  const choice = /** @type {HTMLSelectElement} */ (element("select", { "aria-label": `What ${shown.name} is` }, ...KINDS.map((kind) => (
+    element("option", kind === shown.kind ? { value: kind, selected: "" } : { value: kind }, WORDS[/** @type {keyof typeof WORDS} */ (kind)])))));
+  choice.addEventListener("change", () => works.onKind(shown, choice.value));
+  const remove = button("Remove", () => works.onRemove(shown), { "aria-label": `Remove ${shown.name}` });
+  const item = element("li", {}, element("b", { lang: "" }, shown.name || "pasted cells"), ` ${shown.count} lines `, choice, " ", remove);
+  const { rows } = shown;
+  if (!isEditable || !rows || rows.length * (rows[0]?.length || 0) > MOST_EDITED) return item;
+  const details = element("details", {}, element("summary", {}, `Change the cells of ${shown.name || "the pasted cells"}`));
+  details.addEventListener("toggle", () => {
+    if (details.childElementCount === 1) details.append(editor(shown, rows.map((cells) => [...cells]), works));
+  });
+  item.append(details);
+  return item;
+}
+
+/** @type {(tables: Shown[], works: Works) => void} Lists the files on the page. */
+export function showTables(tables, works) {
+  const whole = (/** @type {Shown} */ shown) => tables.filter(({ place }) => place === shown.place).every(({ rows }) => rows);
+  byId("files", HTMLElement).replaceChildren(...tables.map((shown) => itemOf(shown, whole(shown), works)));
+  byId("read", HTMLElement).hidden = !tables.length;
+  byId("rules", HTMLElement).hidden = !tables.some(({ kind }) => kind === "rules");
+}

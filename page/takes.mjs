@@ -1,0 +1,204 @@
+// Counts and groups of a roster: files that say how many each name takes, and of which objects nobody takes two.
+import { spellings } from "./dates.mjs";
+import { RosterFault, said } from "./faults.mjs";
+import { MOST_PERSONS } from "./library.mjs";
+import { hintOf } from "./names.mjs";
+import { looksLikeNumber } from "./numbers.mjs";
+import { nameOf } from "./sheet.mjs";
+import { isPrintable, quoted } from "./texts.mjs";
+
+const [DAY, FROM, TO, KIND] = [24 * 60, "from", "to", "kind"];
+export const PRICED = ["wanted", "price"];
+/**
+ * @typedef {import("./library.mjs").Bounds} Bounds
+ * @typedef {import("./roster.mjs").Roster} Roster
+ * @typedef {import("./sheet.mjs").Sheet} Sheet
+ * @typedef {{ bounds: Map<number, Bounds>, areRanges: boolean, title: string }} Counts How many names take, and whether any line has two numbers
+ * @typedef {{ begin: number, end: number }} Times Minutes after midnight
+ * @typedef {{ persons: Map<number, Bounds>, objects: Map<number, Bounds>, areSums: boolean }} Takes What isn't named takes at most one; an
+ *   object exactly one, unless `areSums`: then the side whose sum is smaller takes all
+ * @typedef {object} Groups Groups of objects of which nobody takes two
+ * @property {string} title
+ * @property {string[]} names
+ * @property {Map<number, number>} ofObjects The group of each object that is in one
+ * @property {Map<number, Times>} times
+ * @property {Map<number, string>} kinds
+ * @property {string} of What the objects are titled in their file
+ */
+
+/** @type {(roster: Roster, cell: string, line: number, column: number, isPerson: boolean) => number} The number of a person or an object that the roster must have. */
+export function known(roster, cell, line, column, isPerson) {
+  const name = nameOf(cell, line, column);
+  const numbers = isPerson ? roster.personNumbers : roster.objectNumbers;
+  const found = numbers.get(name);
+  if (found !== undefined) return found;
+  throw new RosterFault(said("unknown", isPerson ? "person" : "object", quoted(name)) + hintOf(name, numbers.keys()), line, column);
+}
+
+/** @type {(cell: string, line: number, column: number) => number} */
+function countIn(cell, line, column) {
+  if (/^[0-9]{1,9}$/.test(cell) && Number(cell) <= MOST_PERSONS) return Number(cell);
+  throw new RosterFault(said("no count", quoted(cell), MOST_PERSONS), line, column);
+}
+
+/** @type {(cells: string[], limit: number, line: number) => Bounds} At least and at most so many: one number is both, and an empty one of two is 0 or the limit. */
+function boundsIn(cells, limit, line) {
+  if (!cells.some(Boolean)) throw new RosterFault(said("no number"), line, 2);
+  const least = cells[0] ? countIn(cells[0], line, 2) : 0;
+  if (cells.length === 1) return { least, most: least };
+  const most = cells[1] ? countIn(cells[1], line, 3) : Math.max(limit, least);
+  if (least > most) throw new RosterFault(said("least and most", least, most), line, 3);
+  return { least, most };
+}
+
+/** @type {(sheet: Sheet, width: number) => number} The first column that has groups of persons, which rules are about: the fourth, or the third where it has words. */
+function firstTeam(sheet, width) {
+  const thirds = sheet.rows.slice(1).flatMap(({ cells }) => cells[2] ? [cells[2]] : []);
+  return width < 3 ? width : thirds.length && !thirds.some(looksLikeNumber) ? 2 : 3;
+}
+
+/** @type {(cells: string[], width: number, first: number, line: number) => string[]} A line's name and its one number or two. */
+function countCells(cells, width, first, line) {
+  if (first < width) {
+    if (cells.slice(width).some(Boolean)) throw new RosterFault(said("cells of a title", cells.length, width), line);
+    return [...cells, ...new Array(width).fill("")].slice(0, first);
+  }
+  if (cells.slice(Math.max(width, 3)).some(Boolean)) throw new RosterFault(said("cells of counts", cells.length), line);
+  return cells.length > 2 && (width > 2 || cells[2] !== "") ? cells.slice(0, 3) : [...cells, ""].slice(0, 2);
+}
+
+/** @type {(sheet: Sheet, roster: Roster, ofObjects: boolean) => Counts} Reads how many each object, or each person, takes. */
+export function readCounts(sheet, roster, ofObjects) {
+  const { line: first, cells: title } = sheet.title();
+  if (title.length < 2) throw new RosterFault(said("name and count"), first);
+  if (looksLikeNumber(title[1])) throw new RosterFault(said("no title", quoted(title[1])), first, 2);
+  if (ofObjects && title.slice(1).some((cell) => PRICED.includes(cell.toLowerCase()))) throw new RosterFault(said("wanted"));
+  const limit = (ofObjects ? roster.persons : roster.objects).length;
+  const team = ofObjects ? title.length : firstTeam(sheet, title.length);
+  const kinds = new Set(ofObjects ? roster.groups?.kinds.values() : []);
+  /** @type {Map<number, Bounds>} */
+  const bounds = new Map();
+  /** @type {Map<string, Bounds>} */
+  const ofKinds = new Map();
+  let areRanges = false;
+  for (const { line, cells: all } of sheet.records()) {
+    const cells = countCells(all, title.length, team, line);
+    const isKind = kinds.has(cells[0]) && !roster.objectNumbers.has(cells[0]) && !ofKinds.has(cells[0]);
+    const number = isKind ? -1 : known(roster, cells[0], line, 1, !ofObjects);
+    if (bounds.has(number)) throw new RosterFault(said("name twice", quoted(cells[0])), line, 1);
+    const own = boundsIn(cells.slice(1), limit, line);
+    if (isKind) ofKinds.set(cells[0], own);
+    else bounds.set(number, own);
+    areRanges = areRanges || cells.length === 3;
+  }
+  roster.groups?.kinds.forEach((kind, number) => {
+    const own = ofKinds.get(kind);
+    if (own && !bounds.has(number)) bounds.set(number, own);
+  });
+  return { bounds, areRanges, title: title[0] };
+}
+
+/** @type {(title: string[], line: number) => number[]} Which columns have times, none where no title says so. */
+function columnsOfTimes(title, line) {
+  const places = [FROM, TO].map((word) => [...title.keys()].filter((place) => place > 1 && title[place].toLowerCase() === word));
+  if (!places.flat().length) return [];
+  [[FROM, TO], [TO, FROM]].forEach(([word, other], k) => {
+    const count = places[k].length;
+    if (count > 1) throw new RosterFault(said("times", count, quoted(word), quoted(other)), line);
+    if (!count) throw new RosterFault(said("one time", quoted(other), quoted(word)), line);
+  });
+  return places.flat();
+}
+
+/** @type {(cell: string, line: number, column: number, most: number) => number} A time of day in minutes, at most so many. */
+function minutesIn(cell, line, column, most) {
+  const found = /^([0-9]{1,2}):([0-9]{2})(?::00)?$/.exec(cell);
+  const minutes = found ? Number(found[1]) * 60 + Number(found[2]) : 0;
+  if (found && Number(found[2]) < 60 && minutes <= most) return minutes;
+  throw new RosterFault(said("no time", quoted(cell)), line, column);
+}
+
+/** @type {(sheet: Sheet, roster: Roster) => Groups} Reads groups of objects of which nobody takes two. */
+export function readGroups(sheet, roster) {
+  const { line: first, cells: title } = sheet.title();
+  if (title.length < 2) throw new RosterFault(said("object and group"), first);
+  if (roster.objectNumbers.has(title[0])) throw new RosterFault(said("object for a title", quoted(title[0])), first, 1);
+  const times = columnsOfTimes(title, first);
+  const kinds = [...title.keys()].filter((place) => place > 1 && title[place].toLowerCase() === KIND);
+  if (kinds.length > 1) throw new RosterFault(said("kinds", kinds.length, quoted(KIND)), first, kinds[1] + 1);
+  /** @type {Groups} */
+  const groups = { title: title[1] && nameOf(title[1], first, 2), names: [], ofObjects: new Map(), times: new Map(), kinds: new Map(), of: title[0] };
+  /** @type {Map<string, number>} */
+  const numbers = new Map();
+  /** @type {Map<number, number>} */
+  const lines = new Map();
+  for (const { line, cells } of sheet.body(title.length)) {
+    const object = known(roster, cells[0], line, 1, false);
+    const kind = kinds.length && cells[kinds[0]] ? nameOf(cells[kinds[0]], line, kinds[0] + 1) : "";
+    const [begin, end] = times.some((place) => cells[place])
+      ? times.map((place, k) => minutesIn(cells[place], line, place + 1, k ? DAY : DAY - 1)) : [];
+    const name = nameOf(cells[1], line, 2);
+    const before = lines.get(object);
+    if (before) throw new RosterFault(said("object twice", quoted(cells[0]), groups.names[groups.ofObjects.get(object) ?? 0], before), line, 1);
+    lines.set(object, line);
+    const group = numbers.get(spellings(name)[0]) ?? groups.names.push(name) - 1;
+    numbers.set(spellings(name)[0], group);
+    groups.ofObjects.set(object, group);
+    if (begin !== undefined) groups.times.set(object, { begin, end: end > begin ? end : end + DAY });
+    if (kind) groups.kinds.set(object, kind);
+  }
+  if (!lines.size) throw new RosterFault(said("no line"), first);
+  return groups;
+}
+
+/** @type {(title: string, ours: string, others: string[]) => string} A title of the roster; where it has none, the first of other files' that is a name. */
+function titled(title, ours, others) {
+  const named = others.find((other) => other && isPrintable(other) && !looksLikeNumber(other));
+  return title === ours && named ? named : title;
+}
+
+/** @type {(roster: Roster, tasks: Counts | null, places: Counts | null, groups: Groups | null) => Roster} The roster with counts and groups. */
+export function withTakes(roster, tasks, places, groups) {
+  const areSums = !tasks?.areRanges && !places?.areRanges;
+  const [persons, objects] = [tasks, places].map((counts) => new Map(
+    [...counts?.bounds || []].map(([number, own]) => [number, areSums ? { least: 0, most: own.most } : own])));
+  const titles = [
+    titled(roster.titles[0], "person", tasks ? [tasks.title] : []),
+    titled(roster.titles[1], "object", [places, groups].flatMap((own) => own ? ["title" in own && "bounds" in own ? own.title : own.of] : [])),
+    roster.titles[2]];
+  return { ...roster, titles, takes: tasks || places ? { persons, objects, areSums } : null, groups: groups || roster.groups };
+}
+
+/** @type {(roster: Roster) => boolean} */
+export function hasBounds({ takes }) {
+  return takes !== null && !takes.areSums;
+}
+
+/** @type {(roster: Roster, person: number) => Bounds} How many objects a person takes. */
+export function ofPerson({ takes }, person) {
+  return takes?.persons.get(person) || { least: 0, most: 1 };
+}
+
+/** @type {(roster: Roster, object: number) => Bounds} How many persons an object takes. */
+export function ofObject(roster, object) {
+  return roster.takes?.objects.get(object) || { least: hasBounds(roster) ? 1 : 0, most: 1 };
+}
+
+/** @type {(roster: Roster, counts: Counts, isObjects: boolean, named: (numbers: number[], word: string, names: string[]) => string) => string[]} What is said of names without a line in a file of counts; nothing where all have one. */
+export function forgotten(roster, { bounds }, isObjects, named) {
+  const names = isObjects ? roster.objects : roster.persons;
+  const numbers = [...names.keys()].filter((number) => !bounds.has(number));
+  const bound = !hasBounds(roster) ? "" : isObjects ? "exactly " : "at most ";
+  const takes = numbers.length === 1 ? "takes" : "each takes";
+  return numbers.length ? [`no line for ${named(numbers, roster.titles[isObjects ? 1 : 0], names)}: ${takes} ${bound}one`] : [];
+}
+
+/** @type {(name: string, group: string) => string} A name without its group's at its begin or end. */
+export function withoutGroup(name, group) {
+  const rests = [name.startsWith(group) ? name.slice(group.length) : "", name.endsWith(group) ? name.slice(0, -group.length) : ""];
+  for (const rest of rests) {
+    const own = rest.replace(/^[ \-_/,.:]+|[ \-_/,.:]+$/g, "");
+    if (own && own !== rest) return own;
+  }
+  return name;
+}
