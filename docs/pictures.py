@@ -1,6 +1,6 @@
 #!/usr/bin/env python3
-"""Makes the picture of a week's page that README.md shows: docs/pictures.py [PICTURE]. Needs Chromium, and the library
-(c/build.sh, or an installed nushbaret)."""
+"""Makes the pictures of a week's and a month's page that README.md and docs/RULES.md show: docs/pictures.py [FOLDER].
+Needs Chromium, SciPy, and the library (c/build.sh, or an installed nushbaret)."""
 import os
 import pathlib
 import re
@@ -10,12 +10,15 @@ import sys
 import tempfile
 
 TOP = pathlib.Path(__file__).resolve().parents[1]
-PICTURE = TOP / "docs/pictures/week.png"
+PICTURES = TOP / "docs/pictures"
 BROWSERS = ("chromium", "chromium-browser", "google-chrome")
 WEEK = ["week.csv", "--places", "week_places.csv", "--tasks", "week_tasks.csv", "--groups", "week_days.csv"]
-WIDTH = 990
+MONTH = ["month.csv", "--places", "month_places.csv", "--tasks", "month_tasks.csv", "--groups", "month_days.csv",
+         "--rules", "month_rules.csv"]
+# Each picture's words of the command, its width, and the part of the page down to whose end it goes.
+PAGES = {"week": (WEEK, 990, "html"), "month": (MONTH, 1100, ".sheet")}
 POLICY = re.compile('<meta http-equiv="Content-Security-Policy"[^>]*>')
-MEASURE = "<script>document.title = document.documentElement.getBoundingClientRect().height</script></body>"
+MEASURE = "<script>document.title = document.querySelector('{part}').getBoundingClientRect().bottom</script></body>"
 
 
 def run(page, *words):
@@ -29,24 +32,25 @@ def run(page, *words):
                           check=True).stdout.decode()
 
 
-def height(page):
-    """How high a page is, measured by a script that pages themselves can't have."""
+def height(page, width, part):
+    """How high a page is to a part's end, measured by a script that pages themselves can't have."""
     copy = page.with_name("measured.html")
-    copy.write_text(POLICY.sub("", page.read_text("utf-8")).replace("</body>", MEASURE), "utf-8")
-    title = re.search("<title[^>]*>(.*?)</title>", run(copy, f"--window-size={WIDTH},600", "--dump-dom"))
-    return round(float(title[1])) + 30
+    text = POLICY.sub("", page.read_text("utf-8"))
+    copy.write_text(text.replace("</body>", MEASURE.replace("{part}", part)), "utf-8")
+    title = re.search("<title[^>]*>(.*?)</title>", run(copy, f"--window-size={width},600", "--dump-dom"))
+    return round(float(title[1])) + (30 if part == "html" else 10)
 
 
 def main():
-    picture = pathlib.Path(sys.argv[1]) if len(sys.argv) > 1 else PICTURE
+    pictures = pathlib.Path(sys.argv[1]) if len(sys.argv) > 1 else PICTURES
+    path = os.pathsep.join(filter(None, (str(TOP / "python"), os.environ.get("PYTHONPATH"))))
     with tempfile.TemporaryDirectory() as folder:
-        page = pathlib.Path(folder) / "week.html"
-        environment = {**os.environ, "PYTHONPATH": os.pathsep.join(filter(None,
-                                                                          (str(TOP / "python"),
-                                                                           os.environ.get("PYTHONPATH"))))}
-        subprocess.run([sys.executable, "-m", "nushbaret", *WEEK, "--html", str(page)], cwd=TOP / "examples",
-                       env=environment, stdout=subprocess.DEVNULL, check=True)
-        run(page, f"--window-size={WIDTH},{height(page)}", f"--screenshot={picture.resolve()}")
+        for name, (words, width, part) in PAGES.items():
+            page = pathlib.Path(folder) / f"{name}.html"
+            subprocess.run([sys.executable, "-m", "nushbaret", *words, "--html", str(page)], cwd=TOP / "examples",
+                           env={**os.environ, "PYTHONPATH": path}, stdout=subprocess.DEVNULL, check=True)
+            run(page, f"--window-size={width},{height(page, width, part)}",
+                f"--screenshot={(pictures / (name + '.png')).resolve()}")
 
 
 if __name__ == "__main__":

@@ -13,7 +13,7 @@ c/nushbaret.h 1
 crates/program_tests/src/command.rt 2
 crates/release_version/must-fail/another_version.edit 1
 crates/release_version/src/lib.rt 2
-docs/SCRIPTS.md 1
+docs/PROGRAM.md 1
 python/nushbaret/lap/library.py 1
 python/pyproject.toml 1'
 

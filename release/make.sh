@@ -20,7 +20,7 @@ machines='x86_64 aarch64'
 library_glibc=2.17
 windows=$top/c/out/windows
 page=$top/page/out/nushbaret.html
-most_of_page=500000
+most_of_page=600000
 
 # choose MACHINE: sets what differs between machines; there is no program where `program` is empty.
 choose() {
@@ -90,7 +90,7 @@ needs_only() {
 # Whether the page is there, and is of this version.
 look_at_the_page() {
     [ -e "$page" ] || stop "${page#"$top"/} isn't there: run page/build.sh first"
-    grep -q "<p>Nushbaret $version\." "$page" || stop "the page isn't of version $version: run page/build.sh"
+    grep -q "id=\"version\">$version<" "$page" || stop "the page isn't of version $version: run page/build.sh"
     [ "$(stat -c %s "$page")" -le "$most_of_page" ] || stop "the page has more than $most_of_page bytes"
 }
 

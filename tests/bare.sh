@@ -1,7 +1,7 @@
 #!/usr/bin/env bash
-# Whether README's two commands do all the setting up that a bare Debian 12 needs: ./try and tests/quick.sh, without --install
-# and with it, over a clone of what is committed here, in a root of its own that debootstrap makes and this script removes. Needs to
-# be root, debootstrap, git, unshare, 3 GB of disk and a mirror of Debian, which may be named: tests/bare.sh [MIRROR]
+# Whether README is enough in a bare Debian 12: ./try and tests/quick.sh, without --install and with it, and each `$` line after the
+# packages that README names, over a clone of what is committed here, in a root of its own that debootstrap makes and this script
+# removes. Needs to be root, debootstrap, git, unshare, 3 GB of disk and a mirror of Debian, which may be named: tests/bare.sh [MIRROR]
 set -euo pipefail
 cd "$(dirname "$0")/.."
 root=$(mktemp -d)
@@ -37,6 +37,7 @@ ends 1 '[0-9]+ passed, 0 failed, [1-9][0-9]* skipped' tests/quick.sh
 ends 0 '[0-9]+ passed, 0 failed, [1-9][0-9]* skipped' 'tests/quick.sh --without-missing'
 ends 0 'the same as a page: \./out/week\.html' './try --install'
 ends 0 'Eve: office, 0\.75' './try examples/named_roster.csv'
+ends 0 '' 'apt-get install -y python3-venv gcc libc6-dev > /dev/null && tests/pages.py README.md release/auction_cli'
 ends 0 '[0-9]+ passed, 0 failed' 'tests/quick.sh --install'
 echo "bare: $([ "$failed" = 0 ] && echo 'as wanted' || echo "$failed not as wanted")"
 [ "$failed" = 0 ]

@@ -1,10 +1,11 @@
 #!/usr/bin/env bash
 # The roster page: tests/page.sh [PAGE.html], the built one if none is named, or else that of release/.
 #
-# Its reader and its answers agree with the command's on a table of rosters, on examples/ and on 300 drawn ones; its module agrees
-# with a plain search, and where its trial is built its heap is tried; in Chromium the page plans, refuses and prints, from a
-# file on disk, and asks nobody for anything; in Firefox it plans. Its scripts are typed. Needs python3, the library of c/out and
-# node, and says what it left out where tsc, chromium or firefox-esr isn't there.
+# Its reader and its answers agree with the command's on a table of rosters, on examples/, on 300 drawn ones, on 500 drawn wards
+# with counts, days, shortages and earlier plans, and on 10 drawn months (PAGE_MONTHS sets how many) of 28 nurses and 93 shifts; its
+# module agrees with a plain search, and where its trial is built its heap is tried; in Chromium and in Firefox a planner's month is
+# read, planned and changed, from a file on disk, and nobody is asked for anything. Its scripts are typed. Needs python3, the
+# library of c/out and node, and says what it left out where tsc, chromium or firefox-esr isn't there.
 set -euo pipefail
 cd "$(dirname "$0")/.."
 export PYTHONPATH=$PWD/python PYTHONDONTWRITEBYTECODE=1
@@ -18,7 +19,7 @@ work=$(mktemp -d)
 trap 'rm -rf "$work"' EXIT
 examples=(examples/named_roster.csv examples/night_shifts.csv examples/week.csv)
 
-tests/page/read_rosters.py tests/page/rosters.json 300 "${examples[@]}" > "$work/read.json"
+tests/page/read_rosters.py tests/page/rosters.json 300 "${PAGE_MONTHS:-10}" "${examples[@]}" > "$work/read.json"
 node tests/page/reader.mjs "$work/read.json" "$page"
 tried=()
 [ "$page" != page/out/nushbaret.html ] || tried=(page/out/tried.wasm)

@@ -1,19 +1,20 @@
 #!/usr/bin/env python3
-"""Whether the pages are true and plain: tests/pages.py [--text] [PROGRAM].
+"""Whether the pages are true and plain: tests/pages.py [--text] [PAGE.md] [PROGRAM].
 
-Runs each `$` line of the pages in RUN with the built program on the path (rt run in crates/auction_cli) and the
-Python package over the library that c/build.sh made, and compares what it prints, on both streams, with what stands
-below it; a line `..` stands for any lines. Lines that use a release run over the files of release/; where it has
-none yet, or Python can't make a virtual environment, they are shown as not run. With --text it runs nothing, and
+Runs each `$` line of a page, or of those in RUN, with the built program on the path (rt run in crates/auction_cli)
+and the Python package over the library that c/build.sh made, and compares what it prints, on both streams, with what
+stands below it; a line `..` stands for any lines. Lines that use a release run over the files of release/; where it
+has none yet, or Python can't make a virtual environment, they are shown as not run. With --text it runs nothing, and
 needs no program.
 
 Then it looks at the text of all pages: links and names of files that lead nowhere, lines of more than 100 characters,
-sentences of more than 35 words, and words that docs/CONTRIBUTING.md lists to avoid. Tables, code and quoted output are
-exempt; they count where the words of a page are too many. It asks docs/definitions.py for a definition, and each public
-definition has a comment. The doc comments of crates, the comments of their specs and of all scripts and programs, and
-all texts of Python avoid the same words. And it looks for each block below `# Example` in the
-documentation of calls, and for each block that docs/CALLING.md shows other crates, among the lines of crates/calling,
-which the gate proves. Prints what is wrong, and ends with status 1 then.
+sentences of more than 35 words, and the words of AVOIDED. Each claim of docs/PROVED.md links to its contract, and the
+file that a link leads to has what the link names. Tables, code and quoted output are exempt; they count where the
+words of a page, or of all, are too many. It asks docs/definitions.py for a definition, and each public definition has
+a comment. The doc comments of crates, the comments of their specs and of all scripts and programs, and all texts of
+Python avoid the same words. And it looks for each block below `# Example` in the documentation of calls, and for each
+block that docs/CALLING.md shows other crates, among the lines of crates/calling, which the gate proves. Prints what
+is wrong, and ends with status 1 then.
 """
 import glob
 import importlib.util
@@ -27,17 +28,17 @@ import tokenize
 
 TOP = os.path.dirname(os.path.dirname(os.path.abspath(__file__)))
 PROGRAM = os.path.join(TOP, "crates/auction_cli/out/auction_cli")
-RUN = ["README.md", "docs/MODELLING.md", "docs/SCRIPTS.md"]
+RUN = ["README.md", "docs/MODELLING.md", "docs/PROGRAM.md"]
 # A command that uses a release, or the environment that it was installed in.
 RELEASED = re.compile(r"\./try\b|\brelease/|\bplanner\b|\blocal/")
 # The most words of each page; the list of changes may have any number.
-MOST_OF_PAGE = {"README.md": 1400, "SECURITY.md": 245, "bench/README.md": 1130,
-                "examples/README.md": 160,
-                "docs/ARCHITECTURE.md": 1415, "docs/BEYOND.md": 600, "docs/CALLING.md": 605,
-                "docs/CONTRIBUTING.md": 1060,
-                "docs/DECISIONS.md": 1530, "docs/FORMATS.md": 1965, "docs/MODELLING.md": 1040, "docs/PROOFS.md": 1280,
-                "docs/PROVED.md": 3675, "docs/PYTHON.md": 1565, "docs/ROSTERS.md": 1765,
-                "docs/RULES.md": 1400, "docs/SCRIPTS.md": 720, "docs/TESTING.md": 655}
+MOST_OF_PAGE = {"README.md": 1400, "SECURITY.md": 240, "bench/README.md": 880, "docs/ARCHITECTURE.md": 1175,
+                "docs/BEYOND.md": 570, "docs/CALLING.md": 600, "docs/CONTRIBUTING.md": 885,
+                "docs/DECISIONS.md": 1185, "docs/FORMATS.md": 1270, "docs/MODELLING.md": 880,
+                "docs/PROGRAM.md": 1080, "docs/PROOFS.md": 1245, "docs/PROVED.md": 3495, "docs/PYTHON.md": 1435,
+                "docs/ROSTERS.md": 1740, "docs/RULES.md": 1390, "docs/TESTING.md": 590, "examples/README.md": 160}
+# The most words of all these pages together.
+MOST_OF_ALL = 20000
 UNCOUNTED = ("CHANGELOG.md",)
 # The sources whose comments avoid the same words, the beginning of these comments, and code in them.
 COMMENTS = {"crates/*/src/**/*.rt": re.compile(r"(?:.*\s)?\s*//"), "crates/*/specs/**/*.antt": re.compile(r"\s*--"),
@@ -55,13 +56,26 @@ EXAMPLES = "crates/calling/src"
 SHOWN = ("docs/CALLING.md", "## Another crate in Rattle")
 WIDEST = 100
 LONGEST = 35
-# The page that lists the words to avoid, in a block whose first line begins with `avoid`.
-WORDS = "docs/CONTRIBUTING.md"
+# Words to avoid, in backticks, each line with what to write; `such (except 'such as')` spares what stands in quotes.
+AVOIDED = """
+`tell, tells, told, telling`            report, show, print, say
+`such (except 'such as')`               this, these, so
+`thereof, therein, thereby, hence`      its, in it, so
+`whom, whoever, whichever, whatsoever`  who; rephrase
+`anew, in vain, lest, nor`              again; without effect; or; and .. not
+`beside, behind`                        next to, compared with; after
+`wants, want of`                        needs, prefers; lack of
+`but for`                               except for
+"""
 # A sentence ends here; a new one begins with a capital letter, a number, a name of code or a bracket.
 END = re.compile(r"(?<!\be\.g)(?<!\bi\.e)(?<!\bvs)[.!?][)\"'*]*\s+(?=[\"'(*\[]*[A-Z0-9`])")
 CODE = re.compile(r"`[^`]*`")
 ITEM = re.compile(r"\A\s*(?:[-*]|\d+\.) ")
 LINK = re.compile(r"\]\(([^)\s]+)\)")
+# A link to the contract of a call, or to a definition.
+CONTRACT = re.compile(r"\[`([\w:]+)`\]\(([^)\s]+\.(?:rt|antt))\)")
+# The page of claims, and the heading below which they name no contract.
+CLAIMS = ("docs/PROVED.md", "## What no contract says")
 FILE = re.compile(r"`((?:\.ci|bench|c|crates|docs|examples|page|programs|release|tests)/[\w./-]+)`")
 # This is no file of a fresh clone: what a build makes, and what release/make.sh does.
 MADE = re.compile(r"/out(/|$)|/NAME|^release/(auction_cli|nushbaret.html|SOURCE|SHA256SUMS)$")
@@ -180,6 +194,26 @@ def look_for_links(page, faults):
                 faults.append(f"{page}:{number}: there is no {name}")
 
 
+def look_for_contracts(page, faults):
+    """Looks in the file that a link leads to for the function or the definition that the link names."""
+    for number, line in enumerate(lines_of(page), 1):
+        for name, target in CONTRACT.findall(line):
+            there = os.path.normpath(os.path.join(os.path.dirname(page), target))
+            declared = re.compile(rf"\b(?:fn|pub)\b.*\b{name.split('::')[-1]}\b")
+            if is_there(page, target) and not any(map(declared.search, lines_of(there))):
+                faults.append(f"{page}:{number}: {there} has no {name}")
+
+
+def look_for_claims(faults):
+    """Looks for claims on crates without a link to a contract."""
+    page, end = CLAIMS
+    lines = lines_of(page)
+    first = next(place for place, line in enumerate(lines, 1) if line.startswith("## `"))
+    for number, text in paragraphs(page):
+        if first < number < lines.index(end) and ITEM.match(text) and not CONTRACT.search(text):
+            faults.append(f"{page}:{number}: this claim names no contract")
+
+
 def look_for_wide_lines(page, faults):
     for number, line in enumerate(lines_of(page), 1):
         if len(line) > WIDEST and not is_code(line) and not line.startswith("|"):
@@ -207,16 +241,11 @@ def sentences(text):
 
 
 def avoided():
-    """What finds a word to avoid. `such (except 'such as')` in the list spares what stands in quotes."""
-    lines = lines_of(WORDS)
-    start = next(place for place, line in enumerate(lines) if line.startswith("    avoid "))
+    """What finds a word to avoid."""
     parts = []
-    for line in lines[start + 1:]:
-        if not is_code(line):
-            break
-        for entry in re.split(r"[,;] ", re.split(r"\s{2,}", line.strip())[0]):
-            word, _, spared = entry.partition(" (except '")
-            parts.append(re.escape(word) + (f"(?!{re.escape(spared[len(word):-2])})" if spared else ""))
+    for entry in (entry for words in re.findall("`(.*)`", AVOIDED) for entry in words.split(", ")):
+        word, _, spared = entry.partition(" (except '")
+        parts.append(re.escape(word) + (f"(?!{re.escape(spared[len(word):-2])})" if spared else ""))
     return re.compile(rf"\b({'|'.join(parts)})\b".replace("\\ ", r"\s+"), re.IGNORECASE)
 
 
@@ -335,21 +364,25 @@ def look_at_examples(faults):
 
 
 def count_words(faults):
-    """Compares the words of each page with the most that it may have."""
-    for page in pages():
-        count = len(" ".join(lines_of(page)).split())
-        if page not in UNCOUNTED and page not in MOST_OF_PAGE:
+    """Compares the words of each page, and of all together, with the most that they may have."""
+    counts = {page: len(" ".join(lines_of(page)).split()) for page in pages() if page not in UNCOUNTED}
+    for page, count in counts.items():
+        if page not in MOST_OF_PAGE:
             faults.append(f"{page}: no number of words in MOST_OF_PAGE")
-        elif count > MOST_OF_PAGE.get(page, count):
+        elif count > MOST_OF_PAGE[page]:
             faults.append(f"{page}: {count} words, at most {MOST_OF_PAGE[page]}")
+    if sum(counts.values()) > MOST_OF_ALL:
+        faults.append(f"all pages: {sum(counts.values())} words, at most {MOST_OF_ALL}")
 
 
 def look_at_text(faults):
     words_to_avoid = avoided()
     for page in pages():
         look_for_links(page, faults)
+        look_for_contracts(page, faults)
         look_for_wide_lines(page, faults)
         look_at_sentences(page, words_to_avoid, faults)
+    look_for_claims(faults)
     count_words(faults)
     look_at_comments(words_to_avoid, faults)
     look_at_scripts(words_to_avoid, faults)
@@ -361,10 +394,11 @@ def main():
     words = [word for word in sys.argv[1:] if word != "--text"]
     faults = []
     if "--text" not in sys.argv:
-        program = os.path.abspath(words[0] if words else PROGRAM)
+        chosen = [word for word in words if word.endswith(".md")]
+        program = os.path.abspath(next((word for word in words if word not in chosen), PROGRAM))
         if not os.access(program, os.X_OK):
             sys.exit(f"tests/pages.py: no program at {program}")
-        for page in RUN:
+        for page in chosen or RUN:
             run_page(page, program, faults)
     look_at_text(faults)
     for line in faults:

@@ -1,5 +1,5 @@
 #!/usr/bin/env bash
-# Whether the solver decides each problem where its search finds nothing: the tests of crates/exact_tests over a copy of the
+# Whether the solver decides each problem where its search finds nothing: the tests of crates/list_tests over a copy of the
 # crates in which the search is lost at once, so that the proved one answers, and a dense problem of SIZE persons, 200 if left
 # out. They run without a proof (`rt try`). Needs the kit: tests/without_search.sh [SIZE]
 set -euo pipefail
@@ -8,11 +8,11 @@ size=${1:-200}
 work=$(mktemp -d)
 trap 'rm -rf "$work"' EXIT
 . "$top/programs/over_crates.sh"
-copy_crates "$top" "$work" exact_tests
+copy_crates "$top" "$work" list_tests
 solver=$work/crates/list_solver/src/solver.rt
 sed -i 's/    judge(alloc, lists, standing, budget, ended)/    let _ = ended;\n    judge(alloc, lists, standing, budget, Ended::Lost)/' "$solver"
 grep -q 'Ended::Lost' "$solver" || { echo "the search is as it was"; exit 1; }
-cat >> "$work/crates/exact_tests/src/larger.rt" << END
+cat >> "$work/crates/list_tests/src/exact/larger.rt" << END
 
 #[test]
 fn a_dense_problem(rt: HostRuntime) -> Result<(), Fail> {
@@ -30,6 +30,6 @@ fn a_dense_problem(rt: HostRuntime) -> Result<(), Fail> {
     Ok(())
 }
 END
-cd "$work/crates/exact_tests"
+cd "$work/crates/list_tests"
 rt try --test --seconds 900 > "$work/log" 2>&1 || { grep -v ' ok$' "$work/log"; exit 1; }
 echo "without a search: $(grep -c ' ok$' "$work/log") tests"
