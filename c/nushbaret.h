@@ -66,7 +66,7 @@
 
    IN PIECES
 
-   A budget is a number of looks at pairs, 0 for no limit. A `_from` call that spends it returns NUSHBARET_STOPPED; the same
+   A budget is a number of arc scans (looks at a pair), 0 for no limit. A `_from` call that spends it returns NUSHBARET_STOPPED; the same
    call, with what it wrote to objects, prices and record, goes on from there. first counts only where record->stage is 0,
    prices only where it isn't. The passes over all pairs with which a call begins come on top of its budget: give it ten
    or more times the number of pairs, since many short calls may take longer than one. Set the record to 0 before the
@@ -154,7 +154,7 @@ enum nushbaret_code {
 };
 
 /* Where a search stands that a budget stopped. All 0: it begins. What the fields mean is the library's own affair, and may
-   change with its version; `looks` counts the looks at pairs. */
+   change with its version; `arc_scans` counts the arc scans: looks at a pair. */
 struct nushbaret_record {
     uint32_t stage;
     uint32_t shift;
@@ -163,7 +163,7 @@ struct nushbaret_record {
     uint64_t passes;
     uint32_t dummy_bids;
     uint32_t flags;
-    uint64_t looks;
+    uint64_t arc_scans;
 };
 
 /* What a call reports in addition to its lists. */
@@ -285,7 +285,7 @@ int32_t nushbaret_next(uint32_t sense, size_t n, size_t m,
     const int64_t *costs, size_t costs_count,
     const uint32_t *objects, size_t objects_count,
     const int64_t *prices, size_t prices_count,
-    uint64_t looks,
+    uint64_t arc_scans,
     uint32_t *other, size_t other_count,
     int64_t *margin,
     struct nushbaret_info *info);
@@ -673,7 +673,7 @@ int32_t nushbaret_counts(uint32_t sense,
     uint8_t *column_marks, size_t column_marks_count,
     struct nushbaret_counts_info *info);
 
-/* The same, from what record says, with a budget in looks at pairs, 0 for none. After NUSHBARET_COUNTS_STOPPED call it again
+/* The same, from what record says, with a budget in arc scans, 0 for none. After NUSHBARET_COUNTS_STOPPED call it again
    with the same problem, plan, numbers and record. Whatever these hold, an answer is as good. */
 int32_t nushbaret_counts_from(uint32_t sense,
     const uint32_t *of_rows, size_t of_rows_count,

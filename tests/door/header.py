@@ -12,10 +12,10 @@ CALLS = TOP / "crates/nushbaret/src"
 LENT = TOP / "crates/c_calls/src"
 LISTS = LENT / "lists"
 SOLVER = TOP / "crates/list_solver/src"
-ROWS = TOP / "crates/lent_rows/src/info.rt"
+ROWS = TOP / "crates/c_rows/src/info.rt"
 DOUBLES = LENT / "doubles"
-COUNTS = TOP / "crates/lent_counts/src"
-PLANS = TOP / "crates/lent_plans/src"
+COUNTS = TOP / "crates/c_counts/src"
+PLANS = TOP / "crates/c_plans/src"
 SEARCH = TOP / "crates/count_search/src"
 HEADER = re.sub(r"/\*.*?\*/", "", (TOP / "c/nushbaret.h").read_text(), flags=re.S)
 NUMBERS = {"u8": "uint8_t", "u32": "uint32_t", "u64": "uint64_t", "usize": "size_t", "i32": "int32_t",

@@ -1,7 +1,7 @@
 //! What a person of the auction offers under a table of prices, and why its bids keep slackness.
 #![tactic(auto)]
 
-mod blocks;
+mod lanes;
 mod law;
 mod offers;
 mod scan;

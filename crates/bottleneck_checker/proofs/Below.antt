@@ -20,7 +20,7 @@ use Rattle.cost_lists.proofs.Owns.{turned_range}
 use Rattle.exact_checker.specs.Faults.{IsBetter}
 use Rattle.exact_checker.specs.Under.{IsUnder}
 use Rattle.bottleneck_checker.specs.Bottleneck.{AreShort}
-use Rattle.bottleneck_checker.specs.declared.short.TheConstants.{DEAR, LOWEST}
+use Rattle.bottleneck_checker.specs.declared.short.TheConstants.{EXPENSIVE, LOWEST}
 use Rattle.bottleneck_checker.specs.inside.Marks.{AreFewer, AreSet, NoneBelow}
 
 -- what stands at a number of a list that was set
@@ -44,7 +44,7 @@ module _ (l : ListedCosts) (chosen named : List Bool) (worst : ℤ) (values pric
     (limits : AreInLimits l) (range : IsCost worst)
     (values_were : values_before ≡ replicate (length l.rows) LOWEST) (prices_were : prices_before ≡ replicate l.m (pos 0))
     (values_long : length values ≡ length l.rows) (prices_long : length prices ≡ l.m)
-    (values_are : AreSet values_before chosen worst values) (prices_are : AreSet prices_before named DEAR prices) where
+    (values_are : AreSet values_before chosen worst values) (prices_are : AreSet prices_before named EXPENSIVE prices) where
   value_or : (i : ℕ) → IsNumber (length l.rows) i → (IsMarked chosen i × (numbered values i (pos 0) ≡ worst)) ⊎ (numbered values i (pos 0) ≡ LOWEST)
   value_or i number =
       let some = number.first in
@@ -54,19 +54,19 @@ module _ (l : ListedCosts) (chosen named : List Bool) (worst : ℤ) (values pric
         | inr none ↦ inr (set_beside values_before chosen worst values i (length l.rows) LOWEST values_are values_were values_long some (omega arith) none)
       ]
 
-  price_or : (j : ℕ) → IsNumber l.m j → (IsMarked named j × (price_of prices j ≡ DEAR)) ⊎ (price_of prices j ≡ pos 0)
+  price_or : (j : ℕ) → IsNumber l.m j → (IsMarked named j × (price_of prices j ≡ EXPENSIVE)) ⊎ (price_of prices j ≡ pos 0)
   price_or j number =
       let some = number.first in
       let last = number.last in
       elim (marked_or_not (numbered named j false)) [
-        | inl mark ↦ inl (mark, set_there prices_before named DEAR prices j prices_are some (omega arith) mark)
-        | inr none ↦ inr (set_beside prices_before named DEAR prices j l.m (pos 0) prices_are prices_were prices_long some (omega arith) none)
+        | inl mark ↦ inl (mark, set_there prices_before named EXPENSIVE prices j prices_are some (omega arith) mark)
+        | inr none ↦ inr (set_beside prices_before named EXPENSIVE prices j l.m (pos 0) prices_are prices_were prices_long some (omega arith) none)
       ]
 
   pub prices_in : All IsPriceInLimits prices
   prices_in = All-from_get_or IsPriceInLimits prices (pos 0) (λ k lt.
       elim (price_or (suc k) (record { first = omega arith; last = omega arith })) [
-        | inl dear ↦ let e = dear.1 in record { least = omega (arith, ints); greatest = omega (arith, ints) }
+        | inl expensive ↦ let e = expensive.1 in record { least = omega (arith, ints); greatest = omega (arith, ints) }
         | inr free ↦ record { least = omega (arith, ints, free); greatest = omega (arith, ints, free) }
       ])
 
@@ -89,7 +89,7 @@ module _ (l : ListedCosts) (chosen named : List Bool) (worst : ℤ) (values pric
       let some = number.first in
       let last = number.last in
       elim (price_or k (object i k c at)) [
-        | inl dear ↦ dear.0
+        | inl expensive ↦ expensive.0
         | inr free ↦
             let value = set_there values_before chosen worst values i values_are some (omega arith) mark in
             absurd (none i k (record { cost = c; listed = at; under = omega (arith, ints, free, value, below) }))
@@ -104,18 +104,18 @@ module _ (l : ListedCosts) (chosen named : List Bool) (worst : ℤ) (values pric
       let under = u.under in
       elim (value_or i number) [
         | inr low ↦ elim (price_or k (object i k u.cost u.listed)) [
-          | inl dear ↦ let e = dear.1 in omega (arith, ints, low)
+          | inl expensive ↦ let e = expensive.1 in omega (arith, ints, low)
           | inr free ↦ omega (arith, ints, low, free)
         ]
         | inl marked ↦
             let value = marked.1 in
             elim (price_or k (object i k u.cost u.listed)) [
-              | inl dear ↦ let e = dear.1 in omega (arith, ints)
+              | inl expensive ↦ let e = expensive.1 in omega (arith, ints)
               | inr free ↦
                   let mark = none i k u.cost marked.0 u.listed (omega (arith, ints, free)) in
                   let some = (object i k u.cost u.listed).first in
                   let last = (object i k u.cost u.listed).last in
-                  let dear = set_there prices_before named DEAR prices k prices_are some (omega arith) mark in
+                  let expensive = set_there prices_before named EXPENSIVE prices k prices_are some (omega arith) mark in
                   omega (arith, ints, free)
             ]
       ]

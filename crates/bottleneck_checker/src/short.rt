@@ -15,7 +15,7 @@ use std::alloc::{AllocError, Global};
 pub const LOWEST: Cost = i64::MIN;
 
 /// The price of objects that aren't looked at: with it no cost is below another one.
-pub const DEAR: Price = 3 * GREATEST_COST;
+pub const EXPENSIVE: Price = 3 * GREATEST_COST;
 
 // Sets what is marked to a value.
 fn set_marked(list: &mut [i64], marks: &[bool], value: i64)
@@ -42,7 +42,7 @@ fn are_fewer(lists: &CostLists<'_>, persons: &[Person], objects: &[Object]) -> b
 }
 
 // Whether no marked person lists an object without a mark at a turned cost below the worst one. At first
-// values and prices are those of what has no mark; a dear object is below nobody's value.
+// values and prices are those of what has no mark; a expensive object is below nobody's value.
 fn none_below(
     values: &mut [Cost],
     prices: &mut [Price],
@@ -61,7 +61,7 @@ fn none_below(
     // This call shows the prover that costs are in range.
     let _persons = lists.persons();
     set_marked(values, chosen, worst);
-    set_marked(prices, named, DEAR);
+    set_marked(prices, named, EXPENSIVE);
     match first_under_value(lists, values, prices) {
         None => true,
         Some(_) => false,

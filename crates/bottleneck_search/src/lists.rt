@@ -1,5 +1,5 @@
 // Pairs as rows: those up to a threshold, and matchings of them.
-use search_base::{Looks, NOBODY};
+use search_base::{ArcScans, NOBODY};
 use sparse_search::{Known, Matching, Pair, SparseProblem};
 use std::alloc::{AllocError, Global};
 
@@ -92,15 +92,15 @@ pub fn count_listed(problem: SparseProblem<'_>, objects: &[u32]) -> usize {
     count
 }
 
-/// A greatest matching from these objects, as far as the looks allow, and what is known about it.
+/// A greatest matching from these objects, as far as the arc scans allow, and what is known about it.
 pub fn matched(
     alloc: Global,
     problem: SparseProblem<'_>,
     first: &[u32],
     is_fresh: bool,
-    looks: &mut Looks,
+    arc_scans: &mut ArcScans,
 ) -> Result<(Matching, Known), AllocError> {
-    let mut matching = Matching::begin(alloc, problem, first, looks)?;
-    let known = matching.grow(problem, is_fresh, looks)?;
+    let mut matching = Matching::begin(alloc, problem, first, arc_scans)?;
+    let known = matching.grow(problem, is_fresh, arc_scans)?;
     Ok((matching, known))
 }

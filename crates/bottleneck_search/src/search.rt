@@ -5,12 +5,12 @@ use super::bounds::Bound;
 use super::found::{Found, made_of, places_of, set_of, write_objects};
 use super::lists::{Listed, count_listed, matched, up_to, worst_of};
 use super::rows::Rows;
-use super::steps::{ALL, Stage, Standing, Table};
+use super::steps::{ALL, SearchState, Stage, Table};
 use super::thresholds::{costs_between, count_below, sample_above};
 use assign_core::Cost;
 use cost_lists::{CostLists, Object, Source};
 use list_solver::{Grouped, HallSet, Record};
-use search_base::Looks;
+use search_base::ArcScans;
 use sparse_search::{Known, Matching, SparseProblem, hall_set};
 use std::alloc::{AllocError, Global};
 
@@ -21,10 +21,10 @@ struct Search<'a> {
     table: Table<'a>,
     n: usize,
     bound: Bound,
-    standing: Standing,
+    state: SearchState,
     kept: Vec<u32>,
     is_fresh: bool,
-    looks: Looks,
+    arc_scans: ArcScans,
 }
 
 // All pairs up to a threshold, and a plan of them.
@@ -55,10 +55,10 @@ fn short_of(
 }
 
 impl<'a> Search<'a> {
-    // The looks of a matching without which the search can't go on.
-    fn unlimited(&self) -> Looks {
-        Looks {
-            done: self.looks.done,
+    // The arc scans of a matching without which the search can't go on.
+    fn unlimited(&self) -> ArcScans {
+        ArcScans {
+            done: self.arc_scans.done,
             limit: u64::MAX,
         }
     }
@@ -76,15 +76,15 @@ impl<'a> Search<'a> {
         } else {
             plan
         };
-        let mut looks = self.looks;
-        let ended = matched(self.alloc, problem, first, self.is_fresh, &mut looks)?;
-        self.looks = looks;
+        let mut arc_scans = self.arc_scans;
+        let ended = matched(self.alloc, problem, first, self.is_fresh, &mut arc_scans)?;
+        self.arc_scans = arc_scans;
         self.is_fresh = false;
         Ok(ended)
     }
 
     fn stop(&mut self, stage: Stage, matching: Matching) -> Found {
-        self.standing.stage = stage;
+        self.state.stage = stage;
         self.kept = matching.objects;
         Found::Stopped
     }
@@ -102,7 +102,7 @@ impl<'a> Search<'a> {
             }
             Known::Blocked(_) => {
                 self.kept = matching.objects;
-                self.standing = Standing {
+                self.state = SearchState {
                     stage: Stage::Low,
                     low: self.bound.cost.saturating_sub(1),
                     high: ALL,
@@ -119,8 +119,8 @@ impl<'a> Search<'a> {
         let (matching, known) = self.match_on(listed.problem(), &[])?;
         match known {
             Known::Full => {
-                self.standing.stage = Stage::High;
-                self.standing.high = worst_of(listed.problem(), matching.objects.as_slice());
+                self.state.stage = Stage::High;
+                self.state.high = worst_of(listed.problem(), matching.objects.as_slice());
                 let plan = matching.objects;
                 Ok(Some(Step::On(Held { listed, plan })))
             }
@@ -129,7 +129,7 @@ impl<'a> Search<'a> {
                     let set = short_of(self.alloc, listed.problem(), matching, person)?;
                     return Ok(Some(Step::End(Found::Short(set))));
                 }
-                self.standing.low = self.standing.low.max(most);
+                self.state.low = self.state.low.max(most);
                 self.kept = matching.objects;
                 Ok(None)
             }
@@ -148,7 +148,7 @@ impl<'a> Search<'a> {
             .checked_div(whole)
             .unwrap_or(0);
         for _ in 0..sample.len() {
-            let Some(most) = sample_above(sample.as_slice(), share, self.standing.low) else {
+            let Some(most) = sample_above(sample.as_slice(), share, self.state.low) else {
                 break;
             };
             if let Some(step) = self.try_up_to(most)? {
@@ -164,18 +164,18 @@ impl<'a> Search<'a> {
 
     // The plan up to the threshold that a record names.
     fn return_to_high(&mut self) -> Result<Option<Held>, AllocError> {
-        let listed = self.table.up_to(self.alloc, self.n, self.standing.high)?;
-        let mut looks = self.unlimited();
+        let listed = self.table.up_to(self.alloc, self.n, self.state.high)?;
+        let mut arc_scans = self.unlimited();
         let kept = self.kept.as_slice();
-        let (matching, known) = matched(self.alloc, listed.problem(), kept, false, &mut looks)?;
+        let (matching, known) = matched(self.alloc, listed.problem(), kept, false, &mut arc_scans)?;
         match known {
             Known::Full => {
-                self.standing.high = worst_of(listed.problem(), matching.objects.as_slice());
+                self.state.high = worst_of(listed.problem(), matching.objects.as_slice());
                 let plan = matching.objects;
                 Ok(Some(Held { listed, plan }))
             }
             _ => {
-                self.standing.stage = Stage::Low;
+                self.state.stage = Stage::Low;
                 Ok(None)
             }
         }
@@ -184,7 +184,7 @@ impl<'a> Search<'a> {
     // Looks for the least threshold up to which there is a plan, by halves.
     fn halve(&mut self, held: Held) -> Result<Step, AllocError> {
         let mut held = held;
-        let (low, high) = (self.standing.low, self.standing.high);
+        let (low, high) = (self.state.low, self.state.high);
         let found = costs_between(self.alloc, held.listed.pairs.as_slice(), low, high)?;
         let costs = found.as_slice();
         let (mut first, mut last) = (0usize, costs.len().saturating_sub(1));
@@ -198,15 +198,15 @@ impl<'a> Search<'a> {
             let (matching, known) = self.match_on(part.problem(), held.plan.as_slice())?;
             match known {
                 Known::Full => {
-                    self.standing.high = worst_of(part.problem(), matching.objects.as_slice());
-                    last = count_below(costs, self.standing.high).min(middle);
+                    self.state.high = worst_of(part.problem(), matching.objects.as_slice());
+                    last = count_below(costs, self.state.high).min(middle);
                     held = Held {
                         listed: part,
                         plan: matching.objects,
                     };
                 }
                 Known::Blocked(_) => {
-                    self.standing.low = most;
+                    self.state.low = most;
                     first = middle.wrapping_add(1);
                     self.kept = matching.objects;
                 }
@@ -220,7 +220,7 @@ impl<'a> Search<'a> {
     // the record was wrong.
     fn prove(&mut self, held: Held) -> Result<Step, AllocError> {
         let Held { listed, plan } = held;
-        if self.standing.high <= self.bound.cost {
+        if self.state.high <= self.bound.cost {
             let short = self
                 .bound
                 .shown_by(self.alloc, self.n, self.table.objects())?;
@@ -229,16 +229,16 @@ impl<'a> Search<'a> {
         let better = up_to(
             self.alloc,
             listed.problem(),
-            self.standing.high.saturating_sub(1),
+            self.state.high.saturating_sub(1),
         )?;
-        self.looks = self.unlimited();
+        self.arc_scans = self.unlimited();
         let (matching, known) = self.match_on(better.problem(), plan.as_slice())?;
         if let Known::Blocked(person) = known {
             let short = short_of(self.alloc, better.problem(), matching, person)?;
             return Ok(Step::End(made_of(plan, short)));
         }
-        self.standing.low = Cost::MIN;
-        self.standing.high = worst_of(better.problem(), matching.objects.as_slice());
+        self.state.low = Cost::MIN;
+        self.state.high = worst_of(better.problem(), matching.objects.as_slice());
         Ok(Step::On(Held {
             listed: better,
             plan: matching.objects,
@@ -261,12 +261,12 @@ impl<'a> Search<'a> {
     }
 
     fn run(&mut self) -> Result<Found, AllocError> {
-        if self.standing.stage == Stage::High {
+        if self.state.stage == Stage::High {
             if let Some(held) = self.return_to_high()? {
                 return self.finish(held);
             }
         }
-        if self.standing.stage != Stage::Low {
+        if self.state.stage != Stage::Low {
             if let Some(found) = self.try_bound()? {
                 return Ok(found);
             }
@@ -291,13 +291,13 @@ fn search_in(
     let limit = if budget == 0 {
         u64::MAX
     } else {
-        record.looks.saturating_add(budget)
+        record.arc_scans.saturating_add(budget)
     };
     let n = objects.len();
-    let standing = Standing::of(*record);
+    let state = SearchState::of(*record);
     let mut kept = Vec::from_slice(alloc, objects)?;
     places_of(kept.as_mut_slice());
-    if standing.stage == Stage::Begin {
+    if state.stage == Stage::Begin {
         kept.clear();
     }
     let mut search = Search {
@@ -305,24 +305,24 @@ fn search_in(
         table,
         n,
         bound: table.bound(alloc, n)?,
-        standing,
+        state,
         kept,
         is_fresh: true,
-        looks: Looks {
-            done: record.looks,
+        arc_scans: ArcScans {
+            done: record.arc_scans,
             limit,
         },
     };
     let found = search.run()?;
     if let Found::Stopped = found {
         write_objects(objects, search.kept.as_slice());
-        *record = search.standing.record(search.looks.done);
+        *record = search.state.record(search.arc_scans.done);
     }
     Ok(found)
 }
 
 /// Searches for a plan whose worst pair is as good as possible, or for a Hall set, and stops after about
-/// `budget` looks at pairs (0: it doesn't). The objects and the record say where an earlier call stopped;
+/// `budget` arc scans (0: it doesn't). The objects and the record say where an earlier call stopped;
 /// objects are read only where the record's stage isn't 0, and written only at `Stopped`.
 ///
 /// # Errors

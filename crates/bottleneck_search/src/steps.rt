@@ -81,7 +81,7 @@ pub enum Stage {
 
 /// Up to the low threshold there is no plan; up to the high one there is, if one is known.
 #[derive(Clone, Copy)]
-pub struct Standing {
+pub struct SearchState {
     pub stage: Stage,
     pub low: Cost,
     pub high: Cost,
@@ -90,24 +90,24 @@ pub struct Standing {
 // A threshold and this are no number below 0.
 const SHIFT: Cost = 1 << 62;
 
-impl Standing {
+impl SearchState {
     /// Where a record says that the search stands.
-    pub fn of(record: Record) -> Standing {
+    pub fn of(record: Record) -> SearchState {
         let stage = match record.stage {
             1 => Stage::Bound,
             2 => Stage::Low,
             3 => Stage::High,
             _ => Stage::Begin,
         };
-        Standing {
+        SearchState {
             stage,
             low: record.slackness,
             high: Cost::try_from(record.bids).unwrap_or(0).wrapping_sub(SHIFT),
         }
     }
 
-    /// The record of this standing after so many looks.
-    pub fn record(self, looks: u64) -> Record {
+    /// The record of this state after so many arc scans.
+    pub fn record(self, arc_scans: u64) -> Record {
         let stage = match self.stage {
             Stage::Begin => 0,
             Stage::Bound => 1,
@@ -122,7 +122,7 @@ impl Standing {
             passes: 0,
             dummy_bids: 0,
             flags: 0,
-            looks,
+            arc_scans,
         }
     }
 }

@@ -1,4 +1,4 @@
-pub mod Given
+pub mod Input
 pub mod Faults
 pub mod Answers
 pub mod Ends

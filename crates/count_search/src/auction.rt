@@ -7,7 +7,7 @@ use super::slots::{Slot, Slots};
 use super::state::State;
 use super::tournament::Tournament;
 use super::values::{FAR, ONE_LESS, add_count, count_at, price_at, set_count, set_price};
-use search_base::{Looks, place_at};
+use search_base::{ArcScans, place_at};
 use std::alloc::{AllocError, Global};
 
 /// By what the prices of a phase go.
@@ -32,7 +32,7 @@ pub struct Auction {
     pub terms: Terms,
     pub bids: u64,
     pub is_failed: bool,
-    pub looks: Looks,
+    pub arc_scans: ArcScans,
     pub slots: Vec<Slots>,
     /// Slots that nobody holds, and their price.
     pub free: Vec<u32>,
@@ -78,7 +78,7 @@ impl Auction {
         alloc: Global,
         sizes: Sizes,
         terms: Terms,
-        looks: Looks,
+        arc_scans: ArcScans,
         groups: Groups,
     ) -> Result<Auction, AllocError> {
         let count = sizes.columns.saturating_add(1);
@@ -88,7 +88,7 @@ impl Auction {
             terms,
             bids: 0,
             is_failed: false,
-            looks,
+            arc_scans,
             slots: many_slots(alloc, count)?,
             free: vec![in alloc; 0u32; count]?,
             first_prices: vec![in alloc; 0i64; count]?,

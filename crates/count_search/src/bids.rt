@@ -22,7 +22,7 @@ impl Auction {
     ) -> Result<(), AllocError> {
         let pairs = problem.row(row);
         self.bids = self.bids.wrapping_add(1);
-        self.looks.add(pairs.columns.len());
+        self.arc_scans.add(pairs.columns.len());
         let closed = self.groups.closed(state, pairs);
         let mut two = two_best_open(pairs, closed, state.prices.as_slice(), self.terms.scale);
         let outside = state.outside();
@@ -120,7 +120,7 @@ impl Auction {
         let pairs = problem.row(row);
         let hands = self.hands_of(row);
         self.bids = self.bids.wrapping_add(u64::from(hands));
-        self.looks.add(pairs.columns.len());
+        self.arc_scans.add(pairs.columns.len());
         self.offers.clear();
         if state.is_grouped {
             self.offer_grouped(state, pairs)?;

@@ -10,7 +10,7 @@ use super::repair::{PathEnd, Repair, answer_all};
 use super::shortage::{Lack, Marks, find_shortage};
 use super::state::State;
 use super::values::{count_at, set_byte, sum_of, unsigned};
-use search_base::{Looks, place_at};
+use search_base::{ArcScans, place_at};
 use std::alloc::{AllocError, Global};
 
 /// What a search writes.
@@ -117,7 +117,7 @@ struct Run<'a, 'b> {
     problem: &'a Problem<'b>,
     state: State,
     marks: Marks,
-    looks: Looks,
+    arc_scans: ArcScans,
     record: Record,
     budget: u64,
 }
@@ -131,9 +131,9 @@ enum Bids {
 
 // A repair from a plan goes up to so many looks at each pair, and at each pair for each hand of its row;
 // then the auction begins.
-const WARM_LOOKS: u64 = 4;
+const WARM_ARC_SCANS: u64 = 4;
 
-const WARM_LOOKS_OF_A_HAND: u64 = 2;
+const WARM_ARC_SCANS_OF_A_HAND: u64 = 2;
 
 impl Run<'_, '_> {
     // The auction, and its cut, with a shortage if it shows one.
@@ -146,16 +146,16 @@ impl Run<'_, '_> {
             self.problem,
             &self.state,
             layout,
-            self.looks,
+            self.arc_scans,
         )?;
         if self.record.stage == AUCTION {
             self.resume(&mut auction, layout, answer)?;
         } else {
             auction.begin_phase(&mut self.state, layout, first_slackness(layout));
         }
-        auction.looks.limit = self.limit_from(auction.looks.done);
+        auction.arc_scans.limit = self.limit_from(auction.arc_scans.done);
         let ended = auction.run(self.problem, &mut self.state, layout)?;
-        self.looks = auction.looks;
+        self.arc_scans = auction.arc_scans;
         self.end_bids(answer, &auction, layout, ended)
     }
 
@@ -176,7 +176,7 @@ impl Run<'_, '_> {
         )
     }
 
-    // Where the looks end that begin here.
+    // Where the arc scans end that begin here.
     fn limit_from(&self, done: u64) -> u64 {
         if self.budget == 0 {
             u64::MAX
@@ -234,29 +234,34 @@ impl Run<'_, '_> {
 
     // Answers and shortest paths. None if a repair from a plan takes too long.
     fn repair(&mut self, answer: &mut Answer<'_>) -> Result<Option<Found>, AllocError> {
-        answer_all(self.alloc, self.problem, &mut self.state, &mut self.looks)?;
-        self.looks.limit = self.limit_from(self.looks.done);
-        let mut repair = Repair::new(self.alloc, self.problem, &self.state, self.looks)?;
-        let found = self.serve_all(answer, &mut repair)?;
-        self.looks = repair.looks;
+        answer_all(
+            self.alloc,
+            self.problem,
+            &mut self.state,
+            &mut self.arc_scans,
+        )?;
+        self.arc_scans.limit = self.limit_from(self.arc_scans.done);
+        let mut repair = Repair::new(self.alloc, self.problem, &self.state, self.arc_scans)?;
+        let found = self.augment_all(answer, &mut repair)?;
+        self.arc_scans = repair.arc_scans;
         Ok(found)
     }
 
-    fn serve_all(
+    fn augment_all(
         &mut self,
         answer: &mut Answer<'_>,
         repair: &mut Repair,
     ) -> Result<Option<Found>, AllocError> {
         for _path in 0..u64::MAX {
-            match repair.serve(self.problem, &mut self.state)? {
-                PathEnd::Served => self.record.paths = self.record.paths.wrapping_add(1),
+            match repair.augment(self.problem, &mut self.state)? {
+                PathEnd::Assigned => self.record.paths = self.record.paths.wrapping_add(1),
                 PathEnd::Balanced => return Ok(Some(Found::Plan)),
                 PathEnd::Blocked => return Ok(Some(found_of(self.mark_blocked(repair)))),
             }
-            if self.record.stage == WARM && repair.looks.done >= self.record.until {
+            if self.record.stage == WARM && repair.arc_scans.done >= self.record.until {
                 return Ok(None);
             }
-            if repair.looks.is_spent() {
+            if repair.arc_scans.is_spent() {
                 self.keep_repair(answer);
                 return Ok(Some(Found::Stopped));
             }
@@ -291,15 +296,15 @@ impl Run<'_, '_> {
         lack
     }
 
-    // The looks of a repair from a plan.
-    fn most_warm_looks(&self) -> u64 {
+    // The arc scans of a repair from a plan.
+    fn most_warm_arc_scans(&self) -> u64 {
         let pairs = self.problem.columns.len() as u64;
-        let mut most = pairs.saturating_mul(WARM_LOOKS);
+        let mut most = pairs.saturating_mul(WARM_ARC_SCANS);
         for row in 0..place_at(self.problem.row_count()) {
             let listed = self.problem.row(row).columns.len() as u64;
             let hands = u64::from(self.state.most_of(row));
-            let looks = listed.saturating_mul(hands);
-            most = most.saturating_add(looks.saturating_mul(WARM_LOOKS_OF_A_HAND));
+            let arc_scans = listed.saturating_mul(hands);
+            most = most.saturating_add(arc_scans.saturating_mul(WARM_ARC_SCANS_OF_A_HAND));
         }
         most
     }
@@ -309,8 +314,8 @@ impl Run<'_, '_> {
         self.state.take_numbers(answer.column_numbers);
         self.state.take_plan(self.problem, answer.plan);
         if self.record.stage == WARM && self.record.until == 0 {
-            let most = self.most_warm_looks();
-            self.record.until = self.looks.done.saturating_add(most);
+            let most = self.most_warm_arc_scans();
+            self.record.until = self.arc_scans.done.saturating_add(most);
         }
         let found = self.repair(answer)?;
         if found.is_none() {
@@ -365,8 +370,8 @@ fn search_whole(
         problem,
         state,
         marks,
-        looks: Looks {
-            done: record.looks,
+        arc_scans: ArcScans {
+            done: record.arc_scans,
             limit: u64::MAX,
         },
         record: *record,
@@ -376,7 +381,7 @@ fn search_whole(
         Some(lack) => found_of(lack),
         None => run.run(answer)?,
     };
-    run.record.looks = run.looks.done;
+    run.record.arc_scans = run.arc_scans.done;
     *record = run.record;
     run.write(answer, found)?;
     Ok(found)
@@ -448,7 +453,7 @@ fn search_grouped(
 /// number is above 0 only at a least count, below 0 only at a greatest one. Nothing of it is proved: a
 /// checker judges it.
 ///
-/// It stops after about `budget` looks at pairs (0: it doesn't), at the end of a row's bids or of a
+/// It stops after about `budget` arc scans (0: it doesn't), at the end of a row's bids or of a
 /// shortest path; a call that goes on reads the lists a few times before it counts. Until a call ends with
 /// another word than `Stopped`, the next one gets the same problem, the answer's lists and the record as
 /// they are. `Record::warm()` begins from the numbers and the plan of the answer's lists.

@@ -4,7 +4,7 @@ use super::problem::{Problem, Row};
 use super::repair::Holder;
 use super::state::State;
 use super::values::FAR;
-use search_base::{Looks, NOBODY, place_at};
+use search_base::{ArcScans, NOBODY, place_at};
 
 /// The row leaves a pair, or takes one more (`NOBODY`), and takes another, or none (`NOBODY`).
 #[derive(Clone, Copy)]
@@ -47,7 +47,7 @@ pub struct Scan<'a, 'b> {
     pub problem: &'a Problem<'b>,
     pub state: &'a State,
     pub groups: &'a mut Groups,
-    pub looks: &'a mut Looks,
+    pub arc_scans: &'a mut ArcScans,
 }
 
 #[inline(always)]
@@ -83,7 +83,7 @@ fn fill_open(table: &mut [Edge], row: Row<'_>, bytes: &[u8], holder: Holder, cos
 impl Scan<'_, '_> {
     fn fill_row(&mut self, table: &mut [Edge], holder: Holder) {
         let row = self.problem.row(holder.row);
-        self.looks.add(row.columns.len());
+        self.arc_scans.add(row.columns.len());
         let cost = self.problem.cost_of(holder.pair);
         let held = self.state.held_of(holder.row);
         let own = u32::from(holder.pair != NOBODY);

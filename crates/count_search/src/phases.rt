@@ -5,7 +5,7 @@ use super::layout::Layout;
 use super::problem::Problem;
 use super::state::State;
 use super::values::{clear_bytes, clear_counts, count_at, set_count};
-use search_base::{Looks, place_at};
+use search_base::{ArcScans, place_at};
 use std::alloc::{AllocError, Global};
 
 // The numbers come from measurements; no answer depends on them.
@@ -44,7 +44,7 @@ pub enum Ended {
     Settled,
     /// It went on for too long, or a row was offered too little.
     War,
-    /// The looks are spent.
+    /// The arc scans are spent.
     Spent,
 }
 
@@ -55,10 +55,10 @@ impl Auction {
         problem: &Problem<'_>,
         state: &State,
         layout: Layout,
-        looks: Looks,
+        arc_scans: ArcScans,
     ) -> Result<Auction, AllocError> {
         let groups = Groups::of(alloc, problem, state)?;
-        Auction::new(alloc, layout.sizes, layout.terms, looks, groups)
+        Auction::new(alloc, layout.sizes, layout.terms, arc_scans, groups)
     }
 
     // How many slots of a column, and of staying out, the dummy row may hold.
@@ -126,7 +126,7 @@ impl Auction {
         self.wait_all(state);
     }
 
-    /// Bids until nobody waits, the looks are spent, or the bids are too many.
+    /// Bids until nobody waits, the arc scans are spent, or the bids are too many.
     pub fn run_phase(
         &mut self,
         problem: &Problem<'_>,
@@ -136,7 +136,7 @@ impl Auction {
             if self.is_failed {
                 return Ok(Ended::War);
             }
-            if self.looks.is_spent() {
+            if self.arc_scans.is_spent() {
                 return Ok(Ended::Spent);
             }
             let Some(place) = self.queue.pop() else {

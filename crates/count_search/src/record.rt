@@ -17,9 +17,9 @@ pub struct Record {
     pub bids: u64,
     /// The highest price of the phase.
     pub limit: u64,
-    /// The looks at pairs of all calls.
-    pub looks: u64,
-    /// The looks up to which a repair from a plan goes.
+    /// The arc scans of all calls.
+    pub arc_scans: u64,
+    /// The arc scans up to which a repair from a plan goes.
     pub until: u64,
     /// How many shortest paths were taken.
     pub paths: u64,
@@ -42,7 +42,7 @@ impl Record {
             outside: 0,
             bids: 0,
             limit: 0,
-            looks: 0,
+            arc_scans: 0,
             until: 0,
             paths: 0,
         }

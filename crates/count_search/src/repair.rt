@@ -10,7 +10,7 @@ use super::state::State;
 use super::values::{
     FAR, byte_at, count_at, price_at, set_byte, set_count, set_price, short, signed,
 };
-use search_base::{Heap, Looks, NOBODY, Reached, place_at};
+use search_base::{ArcScans, Heap, NOBODY, Reached, place_at};
 use std::alloc::{AllocError, Global};
 
 /// A row that takes a column, and the place of the pair.
@@ -25,7 +25,7 @@ pub struct Holder {
 #[derive(Drop)]
 pub struct Repair {
     alloc: Global,
-    pub looks: Looks,
+    pub arc_scans: ArcScans,
     groups: Groups,
     pub holders: Vec<Vec<Holder>>,
     // The edges of each column, where tables are kept.
@@ -51,7 +51,7 @@ pub enum PathEnd {
     /// Nothing was too much.
     Balanced,
     /// One more column has what it lacked.
-    Served,
+    Assigned,
     /// What is too much can go nowhere.
     Blocked,
 }
@@ -93,7 +93,7 @@ pub fn answer_all(
     alloc: Global,
     problem: &Problem<'_>,
     state: &mut State,
-    looks: &mut Looks,
+    arc_scans: &mut ArcScans,
 ) -> Result<u64, AllocError> {
     let mut answers = Answers::new(alloc, problem)?;
     let mut changed = 0u64;
@@ -103,7 +103,7 @@ pub fn answer_all(
             changed = changed.wrapping_add(1);
         }
     }
-    looks.add(problem.columns.len());
+    arc_scans.add(problem.columns.len());
     Ok(changed)
 }
 
@@ -113,13 +113,13 @@ impl Repair {
         alloc: Global,
         problem: &Problem<'_>,
         state: &State,
-        looks: Looks,
+        arc_scans: ArcScans,
     ) -> Result<Repair, AllocError> {
         let columns = state.outside();
         let nodes = columns.saturating_add(1);
         let mut repair = Repair {
             alloc,
-            looks,
+            arc_scans,
             groups: Groups::of(alloc, problem, state)?,
             holders: no_holders(alloc, columns)?,
             tables: no_tables(alloc, nodes)?,
@@ -297,7 +297,7 @@ impl Repair {
             problem,
             state,
             groups: &mut self.groups,
-            looks: &mut self.looks,
+            arc_scans: &mut self.arc_scans,
         };
         match self.holders.get(node) {
             Some(holders) => scan.fill_from(table.as_mut_slice(), holders.as_slice()),
@@ -402,7 +402,7 @@ impl Repair {
         base: i64,
     ) -> Result<(), AllocError> {
         let row = problem.row(holder.row);
-        self.looks.add(row.columns.len());
+        self.arc_scans.add(row.columns.len());
         let from = problem.cost_of(holder.pair);
         self.groups.set(holder.pair, 0);
         for (k, (column, cost)) in row.columns.iter().zip(row.costs).enumerate() {
@@ -435,7 +435,7 @@ impl Repair {
         let node = reached.object as usize;
         let base = reached.distance.wrapping_sub(state.price(node));
         if self.has_tables {
-            self.looks.add(self.edges.len());
+            self.arc_scans.add(self.edges.len());
             self.renew_table(problem, state, node)?;
             self.relax_table(state, node, base)?;
         } else if node == state.outside() {
@@ -474,7 +474,7 @@ impl Repair {
     }
 
     /// One shortest path from what is too much to what lacks.
-    pub fn serve(
+    pub fn augment(
         &mut self,
         problem: &Problem<'_>,
         state: &mut State,
@@ -488,7 +488,7 @@ impl Repair {
         }
         self.raise_prices(state);
         self.take_path(problem, state)?;
-        Ok(PathEnd::Served)
+        Ok(PathEnd::Assigned)
     }
 
     fn take_path(&mut self, problem: &Problem<'_>, state: &mut State) -> Result<(), AllocError> {

@@ -46,7 +46,7 @@ impl Auction {
             let out = price_at(rows, row as usize);
             self.resume_row(problem, state, row, short(out))?;
         }
-        self.looks.add(problem.columns.len());
+        self.arc_scans.add(problem.columns.len());
         self.dummy_hands = self.dummies;
         let dummy = self.dummy();
         if self.dummies > 0 {

@@ -103,7 +103,7 @@ impl Marks {
         more > 0
     }
 
-    // Marks the dear columns, or the cheap ones.
+    // Marks the expensive columns, or the cheap ones.
     fn mark_from(&mut self, prices: &[i64], price: i64, lack: Lack) {
         for (mark, own) in self.columns.as_mut_slice().iter_mut().zip(prices) {
             *mark = u8::from((*own >= price) == lack.is_rows());
@@ -174,7 +174,7 @@ fn widest(steps: &mut [Step]) -> Option<i64> {
 // So many steps are tried.
 const MOST_STEPS: usize = 4;
 
-/// A war of bids without end parts the columns: those at war are dear, and those that nobody gets to are
+/// A war of bids without end parts the columns: those at war are expensive, and those that nobody gets to are
 /// cheap. Tries the widest steps of the prices.
 pub fn find_shortage(
     alloc: Global,

@@ -5,7 +5,7 @@ use super::matrix::Matrix;
 use super::reading::Reading;
 use super::record::{Ended, Record};
 use super::rows::two_best;
-use search_base::{Looks, NOBODY, place_at};
+use search_base::{ArcScans, NOBODY, place_at};
 use std::alloc::{AllocError, Global};
 use std::collections::VecDeque;
 
@@ -20,7 +20,10 @@ const BIDS_A_PERSON: u64 = 50;
 // How often in a phase dummies take cheap objects.
 const CROWDINGS: usize = 8;
 
-fn unserved_persons(alloc: Global, market: &Market<'_, i64>) -> Result<VecDeque<u32>, AllocError> {
+fn unassigned_persons(
+    alloc: Global,
+    market: &Market<'_, i64>,
+) -> Result<VecDeque<u32>, AllocError> {
     let mut queue = VecDeque::new(alloc);
     for (k, object) in market.objects.iter().enumerate() {
         if *object == NOBODY {
@@ -53,21 +56,21 @@ fn bid_in_turn<R: Reading<i64>>(
     matrix: &Matrix<'_, i64, R>,
     market: &mut Market<'_, i64>,
     record: &mut Record,
-    looks: &mut Looks,
+    arc_scans: &mut ArcScans,
 ) -> Result<Ended, AllocError> {
     let most = (matrix.persons as u64).saturating_mul(BIDS_A_PERSON);
-    let mut queue = unserved_persons(alloc, market)?;
+    let mut queue = unassigned_persons(alloc, market)?;
     for _ in record.bids..most {
         let Some(person) = queue.pop_front() else {
-            return Ok(Ended::Served);
+            return Ok(Ended::Assigned);
         };
         let loser = bid(matrix, market, person, record.slackness);
         record.bids = record.bids.saturating_add(1);
-        looks.add(matrix.objects);
+        arc_scans.add(matrix.objects);
         if loser != NOBODY {
             queue.push_back(loser)?;
         }
-        if looks.is_spent() {
+        if arc_scans.is_spent() {
             return Ok(Ended::Stopped);
         }
     }
@@ -82,7 +85,7 @@ fn crowd_price(alloc: Global, market: &Market<'_, i64>) -> Result<i64, AllocErro
     Ok(prices.get(more).copied().unwrap_or(0))
 }
 
-fn has_dear_unowned(market: &Market<'_, i64>, limit: i64) -> bool {
+fn has_overpriced_unowned(market: &Market<'_, i64>, limit: i64) -> bool {
     for (price, owner) in market.prices.iter().zip(&market.owners) {
         if *owner == NOBODY && *price > limit {
             return true;
@@ -99,14 +102,14 @@ fn crowd_out(
     slackness: i64,
 ) -> Result<bool, AllocError> {
     let price = crowd_price(alloc, market)?;
-    let dear = price.saturating_add(slackness);
-    if !has_dear_unowned(market, dear) {
+    let overpriced = price.saturating_add(slackness);
+    if !has_overpriced_unowned(market, overpriced) {
         return Ok(false);
     }
     for k in 0..market.prices.len() {
         let object = place_at(k);
         if market.price(object) < price {
-            market.set_price(object, dear);
+            market.set_price(object, overpriced);
             let owner = market.owner(object);
             if owner != NOBODY {
                 market.release(owner);
@@ -122,19 +125,19 @@ fn phase<R: Reading<i64>>(
     matrix: &Matrix<'_, i64, R>,
     market: &mut Market<'_, i64>,
     record: &mut Record,
-    looks: &mut Looks,
+    arc_scans: &mut ArcScans,
 ) -> Result<Ended, AllocError> {
     for _ in 0..CROWDINGS {
-        match bid_in_turn(alloc, matrix, market, record, looks)? {
-            Ended::Served => {}
+        match bid_in_turn(alloc, matrix, market, record, arc_scans)? {
+            Ended::Assigned => {}
             ended => return Ok(ended),
         }
         let is_square = matrix.persons == matrix.objects;
         if is_square || !crowd_out(alloc, market, record.slackness)? {
-            return Ok(Ended::Served);
+            return Ok(Ended::Assigned);
         }
     }
-    bid_in_turn(alloc, matrix, market, record, looks)
+    bid_in_turn(alloc, matrix, market, record, arc_scans)
 }
 
 // Phases of falling slackness, down to 1 in the unit of the prices.
@@ -143,19 +146,19 @@ pub fn auction<R: Reading<i64>>(
     matrix: &Matrix<'_, i64, R>,
     market: &mut Market<'_, i64>,
     record: &mut Record,
-    looks: &mut Looks,
+    arc_scans: &mut ArcScans,
 ) -> Result<Ended, AllocError> {
     for _ in 0..PHASES {
-        match phase(alloc, matrix, market, record, looks)? {
-            Ended::Served => {}
+        match phase(alloc, matrix, market, record, arc_scans)? {
+            Ended::Assigned => {}
             ended => return Ok(ended),
         }
         if record.slackness <= 1 {
-            return Ok(Ended::Served);
+            return Ok(Ended::Assigned);
         }
         record.slackness = (record.slackness / DIVISOR).max(1);
         record.bids = 0;
         market.release_all();
     }
-    Ok(Ended::Served)
+    Ok(Ended::Assigned)
 }

@@ -7,7 +7,7 @@ use super::matrix::Matrix;
 use super::number::Number;
 use super::reading::Reading;
 use super::rows::{two_best, unowned_below};
-use search_base::{Looks, NOBODY, place_at};
+use search_base::{ArcScans, NOBODY, place_at};
 
 // A chain without slackness, of persons who lose their objects in turn, has at most this part of all
 // persons as bids. A longer one is a war of a few, which a search ends sooner.
@@ -49,7 +49,7 @@ pub fn give_unowned<K: Number, R: Reading<K>>(
 }
 
 // Gives each person an unowned object whose least cost is the person's, if there is one, where prices
-// are these least costs, negated: the column reduction of Jonker and Volgenant. Returns the looks at
+// are these least costs, negated: the column reduction of Jonker and Volgenant. Returns the arc scans at
 // pairs.
 pub fn give_least<K: Number, R: Reading<K>>(
     matrix: &Matrix<'_, K, R>,
@@ -127,28 +127,28 @@ fn bid_all<K: Number, R: Reading<K>>(
     most.saturating_sub(left)
 }
 
-// As many bids as the looks allow.
-fn bids_within<K: Number, R: Reading<K>>(matrix: &Matrix<'_, K, R>, looks: &Looks) -> usize {
-    looks.left() as usize / matrix.objects.max(1)
+// As many bids as the arc scans allow.
+fn bids_within<K: Number, R: Reading<K>>(matrix: &Matrix<'_, K, R>, arc_scans: &ArcScans) -> usize {
+    arc_scans.left() as usize / matrix.objects.max(1)
 }
 
 // The bids of a call.
 #[derive(Clone, Copy)]
 pub struct Bids {
     pub made: usize,
-    // Whether the looks ended them.
+    // Whether the arc scans ended them.
     pub are_cut: bool,
 }
 
-// At most so many bids of a slackness, as far as the looks allow; a chain without slackness has few.
+// At most so many bids of a slackness, as far as the arc scans allow; a chain without slackness has few.
 pub fn bid_within<K: Number, R: Reading<K>>(
     matrix: &Matrix<'_, K, R>,
     market: &mut Market<'_, K>,
     slackness: K,
     most: usize,
-    looks: &mut Looks,
+    arc_scans: &mut ArcScans,
 ) -> Bids {
-    let allowed = most.min(bids_within(matrix, looks));
+    let allowed = most.min(bids_within(matrix, arc_scans));
     let has_slackness = K::zero().is_below(slackness);
     let chain = if has_slackness {
         allowed
@@ -156,19 +156,19 @@ pub fn bid_within<K: Number, R: Reading<K>>(
         longest_chain(matrix.persons)
     };
     let made = bid_all(matrix, market, slackness, allowed, chain);
-    looks.add(made.saturating_mul(matrix.objects));
+    arc_scans.add(made.saturating_mul(matrix.objects));
     Bids {
         made,
         are_cut: made == allowed && made < most,
     }
 }
 
-// At most so many bids without slackness, as far as the looks allow. Returns their number.
+// At most so many bids without slackness, as far as the arc scans allow. Returns their number.
 pub fn bid_without_slackness<K: Number, R: Reading<K>>(
     matrix: &Matrix<'_, K, R>,
     market: &mut Market<'_, K>,
     most: usize,
-    looks: &mut Looks,
+    arc_scans: &mut ArcScans,
 ) -> usize {
-    bid_within(matrix, market, K::zero(), most, looks).made
+    bid_within(matrix, market, K::zero(), most, arc_scans).made
 }

@@ -76,7 +76,7 @@ fn cheapest_of<R: Reading<i64>>(reading: &R, row: &[i64], from: usize) -> u32 {
     cheapest_with_part(cheapest, reading, first, 0).object
 }
 
-// Gives each person its cheapest object, if nobody before it has this one. Returns the looks at
+// Gives each person its cheapest object, if nobody before it has this one. Returns the arc scans at
 // pairs.
 pub fn take_cheapest<R: Reading<i64>>(
     matrix: &Matrix<'_, i64, R>,

@@ -6,14 +6,14 @@ use super::prices::{begin_at_zero, reduce};
 use super::pricing::{Better, better_pairs, merge, pairs_around};
 use super::reading::Reading;
 use super::record::{Ended, Record};
-use search_base::Looks;
+use search_base::ArcScans;
 use sparse_search::{Pair, SparseProblem};
 use std::alloc::{AllocError, Global};
 
 // The most passes.
 const PASSES: u64 = 20;
 
-// The looks that a core may take whatever the budget is, as passes over all pairs: it is forgotten
+// The arc scans that a core may take whatever the budget is, as passes over all pairs: it is forgotten
 // where a call stops.
 const PASSES_A_CORE: u64 = 8;
 
@@ -101,22 +101,22 @@ fn multiply(prices: &mut [i64], factor: i64) {
     }
 }
 
-// The most looks of a step that takes at least so many, or 0 if there is no bound.
-fn left_for(looks: Looks, least: u64) -> u64 {
-    if looks.limit == u64::MAX {
+// The most arc scans of a step that takes at least so many, or 0 if there is no bound.
+fn left_for(arc_scans: ArcScans, least: u64) -> u64 {
+    if arc_scans.limit == u64::MAX {
         0
     } else {
-        looks.left().max(least)
+        arc_scans.left().max(least)
     }
 }
 
-// Solves a core from the prices and objects of the market. `Long` if it takes too many looks.
+// Solves a core from the prices and objects of the market. `Long` if it takes too many arc scans.
 fn solve_core<R: Reading<i64>>(
     alloc: Global,
     matrix: &Matrix<'_, i64, R>,
     market: &mut Market<'_, i64>,
     core: &Core,
-    looks: &mut Looks,
+    arc_scans: &mut ArcScans,
 ) -> Result<Ended, AllocError> {
     let unit = unit_of(&matrix.reading, core.pairs.as_slice());
     let pairs = in_unit(alloc, &matrix.reading, core.pairs.as_slice(), unit)?;
@@ -129,12 +129,12 @@ fn solve_core<R: Reading<i64>>(
     begin_at_zero(market.prices);
     divide(market.prices, unit.factor);
     let most = left_for(
-        *looks,
+        *arc_scans,
         (matrix.pairs() as u64).saturating_mul(PASSES_A_CORE),
     );
     let (prices, objects) = (&mut *market.prices, &mut *market.objects);
     let outcome = sparse_search::search(alloc, problem, prices, objects, &mut record, most)?;
-    looks.done = looks.done.saturating_add(record.looks);
+    arc_scans.done = arc_scans.done.saturating_add(record.arc_scans);
     let is_stopped = matches!(outcome, sparse_search::Outcome::Stopped);
     let is_best = matches!(outcome, sparse_search::Outcome::Best);
     if is_stopped {
@@ -142,7 +142,11 @@ fn solve_core<R: Reading<i64>>(
     }
     multiply(market.prices, unit.factor);
     market.enter_objects();
-    Ok(if is_best { Ended::Served } else { Ended::Long })
+    Ok(if is_best {
+        Ended::Assigned
+    } else {
+        Ended::Long
+    })
 }
 
 // Adds better pairs to a core. Where most persons have some, it gets those that are cheapest by
@@ -152,14 +156,14 @@ fn grow<R: Reading<i64>>(
     matrix: &Matrix<'_, i64, R>,
     core: &Core,
     better: &Better,
-    looks: &mut Looks,
+    arc_scans: &mut ArcScans,
 ) -> Result<Core, AllocError> {
     let grown = merge(alloc, core, &better.core, matrix.persons)?;
     if !has_over(matrix, better, MOST) || matrix.persons < matrix.objects {
         return Ok(grown);
     }
     let others = pick_by_means(alloc, matrix)?;
-    looks.add(matrix.pairs());
+    arc_scans.add(matrix.pairs());
     merge(alloc, &grown, &others, matrix.persons)
 }
 
@@ -169,7 +173,7 @@ fn has_over<R: Reading<i64>>(matrix: &Matrix<'_, i64, R>, better: &Better, part:
 }
 
 // How cores end, where not much fewer persons have better pairs than before. Searches over a copy, if
-// they can follow, are faster for many persons, and an auction for most; few are served at the prices
+// they can follow, are faster for many persons, and an auction for most; few are assigned at the prices
 // of the core.
 fn end_of_cores<R: Reading<i64>>(
     matrix: &Matrix<'_, i64, R>,
@@ -200,7 +204,7 @@ fn solve_from<R: Reading<i64>>(
     matrix: &Matrix<'_, i64, R>,
     market: &mut Market<'_, i64>,
     record: &mut Record,
-    looks: &mut Looks,
+    arc_scans: &mut ArcScans,
     first: Core,
     may_copy: bool,
 ) -> Result<Ended, AllocError> {
@@ -208,24 +212,24 @@ fn solve_from<R: Reading<i64>>(
     let mut before = 0u64;
     for _ in 0..PASSES {
         record.passes = record.passes.saturating_add(1);
-        match solve_core(alloc, matrix, market, &core, looks)? {
-            Ended::Served => {}
+        match solve_core(alloc, matrix, market, &core, arc_scans)? {
+            Ended::Assigned => {}
             ended => return Ok(ended),
         }
-        if looks.left() < matrix.pairs() as u64 {
+        if arc_scans.left() < matrix.pairs() as u64 {
             return Ok(Ended::Stopped);
         }
         let better = better_pairs(alloc, matrix, market)?;
-        looks.add(matrix.pairs());
+        arc_scans.add(matrix.pairs());
         if better.persons == 0 {
-            return Ok(Ended::Served);
+            return Ok(Ended::Assigned);
         }
         record.slackness = better.mean_gain();
         if let Some(ended) = end_of_cores(matrix, &better, before, may_copy) {
             return Ok(ended);
         }
         before = better.persons;
-        core = grow(alloc, matrix, &core, &better, looks)?;
+        core = grow(alloc, matrix, &core, &better, arc_scans)?;
     }
     Ok(Ended::Long)
 }
@@ -236,12 +240,12 @@ pub fn solve_by_cores<R: Reading<i64>>(
     matrix: &Matrix<'_, i64, R>,
     market: &mut Market<'_, i64>,
     record: &mut Record,
-    looks: &mut Looks,
+    arc_scans: &mut ArcScans,
     may_copy: bool,
 ) -> Result<Ended, AllocError> {
     let core = pick_by_prices(alloc, matrix, market)?;
-    looks.add(matrix.pairs());
-    solve_from(alloc, matrix, market, record, looks, core, may_copy)
+    arc_scans.add(matrix.pairs());
+    solve_from(alloc, matrix, market, record, arc_scans, core, may_copy)
 }
 
 // Goes on from a core that an earlier call solved, and of which only prices and objects are left:
@@ -251,19 +255,19 @@ pub fn resume_cores<R: Reading<i64>>(
     matrix: &Matrix<'_, i64, R>,
     market: &mut Market<'_, i64>,
     record: &mut Record,
-    looks: &mut Looks,
+    arc_scans: &mut ArcScans,
 ) -> Result<Ended, AllocError> {
-    if market.unserved() > 0 || record.passes > PASSES {
+    if market.unassigned() > 0 || record.passes > PASSES {
         return Ok(Ended::Blocked);
     }
     let around = pairs_around(alloc, matrix, market)?;
-    looks.add(matrix.pairs());
+    arc_scans.add(matrix.pairs());
     record.slackness = around.mean_gain();
     if around.persons == 0 {
-        return Ok(Ended::Served);
+        return Ok(Ended::Assigned);
     }
     if record.passes > 1 && has_over(matrix, &around, MOST) {
         return Ok(Ended::Long);
     }
-    solve_from(alloc, matrix, market, record, looks, around.core, false)
+    solve_from(alloc, matrix, market, record, arc_scans, around.core, false)
 }

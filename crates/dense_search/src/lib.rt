@@ -6,12 +6,12 @@
 mod auction;
 mod bids;
 mod cheapest;
+mod copied;
 mod cores;
-mod full;
+mod full_search;
 mod gather;
 mod market;
 mod matrix;
-mod middle;
 mod narrow;
 mod number;
 mod paths;

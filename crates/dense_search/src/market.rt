@@ -102,7 +102,7 @@ impl<'a, K: Number> Market<'a, K> {
     }
 
     // The number of persons without an object.
-    pub fn unserved(&self) -> usize {
+    pub fn unassigned(&self) -> usize {
         self.objects
             .iter()
             .filter(|object| **object == NOBODY)
@@ -121,7 +121,7 @@ impl<'a, K: Number> Market<'a, K> {
     }
 
     // Whether an unowned object is dearer than the cheapest one.
-    pub fn has_dear_unowned(&self) -> bool {
+    pub fn has_overpriced_unowned(&self) -> bool {
         let least = self.least_price();
         for (price, owner) in self.prices.iter().zip(&self.owners) {
             if *owner == NOBODY && least.is_below(*price) {

@@ -1,5 +1,5 @@
 // Searches for all persons without an object, as far as their pace promises an early end.
-use super::full::FullSearch;
+use super::full_search::FullSearch;
 use super::market::Market;
 use super::matrix::Matrix;
 use super::number::Number;
@@ -7,10 +7,10 @@ use super::reading::Reading;
 use super::record::Ended;
 use super::settling::lower_prices;
 use super::shortest::Search;
-use search_base::{Looks, NOBODY, Pace, place_at};
+use search_base::{ArcScans, NOBODY, Pace, place_at};
 use std::alloc::{AllocError, Global};
 
-// The looks that searches may take, and how they are foretold.
+// The arc scans that searches may take, and how they are foretold.
 #[derive(Clone, Copy)]
 pub struct Allowance {
     pub most: u64,
@@ -32,77 +32,77 @@ impl Allowance {
     }
 }
 
-// Serves each person without an object, as long as the searches keep to the allowance. At least
+// Assigns each person without an object, as long as the searches keep to the allowance. At least
 // one search ends, so that calls of any budget get on.
-pub fn serve_all<K: Number, R: Reading<K>>(
+pub fn augment_all<K: Number, R: Reading<K>>(
     alloc: Global,
     matrix: &Matrix<'_, K, R>,
     market: &mut Market<'_, K>,
     allowed: Allowance,
-    looks: &mut Looks,
+    arc_scans: &mut ArcScans,
 ) -> Result<Ended, AllocError> {
-    let mut left = market.unserved();
+    let mut left = market.unassigned();
     let few = if allowed.is_growing { 0 } else { left / 16 };
     if left == 0 {
-        return Ok(Ended::Served);
+        return Ok(Ended::Assigned);
     }
     let mut search = Search::new(alloc, market)?;
-    let first = looks.done;
+    let first = arc_scans.done;
     let spare = matrix.objects.saturating_sub(matrix.persons);
-    let mut pace = Pace::begin(left, *looks, allowed.most);
+    let mut pace = Pace::begin(left, *arc_scans, allowed.most);
     for k in 0..matrix.persons {
         let person = place_at(k);
         if market.object(person) == NOBODY {
-            if !search.serve(matrix, market, person, looks)? {
+            if !search.augment(matrix, market, person, arc_scans)? {
                 return Ok(Ended::Blocked);
             }
             left = left.saturating_sub(1);
             if left == 0 {
-                return Ok(Ended::Served);
+                return Ok(Ended::Assigned);
             }
             if search.is_beyond {
                 return Ok(Ended::Blocked);
             }
-            let is_over = looks.since(first) > allowed.most;
+            let is_over = arc_scans.since(first) > allowed.most;
             let searches = allowed.searches_for(left, spare);
-            if left > few && (is_over || !pace.goes_on(*looks, searches)) {
+            if left > few && (is_over || !pace.goes_on(*arc_scans, searches)) {
                 return Ok(Ended::Long);
             }
-            if looks.is_spent() {
+            if arc_scans.is_spent() {
                 return Ok(Ended::Stopped);
             }
         }
     }
-    Ok(Ended::Served)
+    Ok(Ended::Assigned)
 }
 
-// Serves each person without an object by scans of whole rows, as long as the looks allow.
-pub fn serve_by_rows<K: Number, R: Reading<K>>(
+// Assigns each person without an object by scans of whole rows, as long as the arc scans allow.
+pub fn augment_by_rows<K: Number, R: Reading<K>>(
     alloc: Global,
     matrix: &Matrix<'_, K, R>,
     market: &mut Market<'_, K>,
     most: u64,
-    looks: &mut Looks,
+    arc_scans: &mut ArcScans,
 ) -> Result<Ended, AllocError> {
     let mut search = FullSearch::new(alloc);
-    let mut left = market.unserved();
-    let mut pace = Pace::begin(left, *looks, most);
+    let mut left = market.unassigned();
+    let mut pace = Pace::begin(left, *arc_scans, most);
     for k in 0..matrix.persons {
         let person = place_at(k);
         if market.object(person) == NOBODY {
-            if looks.is_spent() {
+            if arc_scans.is_spent() {
                 return Ok(Ended::Stopped);
             }
-            if search.is_beyond || !search.serve(matrix, market, person, looks)? {
+            if search.is_beyond || !search.augment(matrix, market, person, arc_scans)? {
                 return Ok(Ended::Blocked);
             }
             left = left.saturating_sub(1);
-            if left > 0 && !pace.goes_on(*looks, left) {
+            if left > 0 && !pace.goes_on(*arc_scans, left) {
                 return Ok(Ended::Long);
             }
         }
     }
-    Ok(Ended::Served)
+    Ok(Ended::Assigned)
 }
 
 // Brings the prices of unowned objects down to the least one.
@@ -110,19 +110,19 @@ pub fn lower_unowned<R: Reading<i64>>(
     alloc: Global,
     matrix: &Matrix<'_, i64, R>,
     market: &mut Market<'_, i64>,
-    looks: &mut Looks,
+    arc_scans: &mut ArcScans,
 ) -> Result<Ended, AllocError> {
-    if market.has_dear_unowned() {
-        looks.add(lower_prices(alloc, matrix, market)?);
+    if market.has_overpriced_unowned() {
+        arc_scans.add(lower_prices(alloc, matrix, market)?);
     }
     let mut search = Search::new(alloc, market)?;
     for _ in 0..matrix.objects {
-        if !search.lower_one(matrix, market, looks)? {
-            return Ok(Ended::Served);
+        if !search.lower_one(matrix, market, arc_scans)? {
+            return Ok(Ended::Assigned);
         }
-        if looks.is_spent() {
+        if arc_scans.is_spent() {
             return Ok(Ended::Stopped);
         }
     }
-    Ok(Ended::Served)
+    Ok(Ended::Assigned)
 }

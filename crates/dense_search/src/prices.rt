@@ -36,7 +36,7 @@ fn least_of_columns<K: Number, R: Reading<K>>(matrix: &Matrix<'_, K, R>, prices:
 
 // Prices without first prices. With more objects than persons they are equal: bids and searches
 // raise only prices of owned objects, and these stay owned, so unowned objects stay cheapest.
-// Returns the looks at pairs.
+// Returns the arc scans.
 pub fn begin<K: Number, R: Reading<K>>(matrix: &Matrix<'_, K, R>, prices: &mut [K]) -> usize {
     if matrix.persons < matrix.objects {
         fill(prices, K::zero());

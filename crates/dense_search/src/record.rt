@@ -57,8 +57,8 @@ pub struct Record {
     pub passes: u64,
     /// How often an end didn't hold or didn't come, so that searches went on from there.
     pub restarts: u32,
-    /// The looks at pairs of all calls.
-    pub looks: u64,
+    /// The arc scans of all calls.
+    pub arc_scans: u64,
 }
 
 impl Record {
@@ -71,7 +71,7 @@ impl Record {
             bids: 0,
             passes: 0,
             restarts: 0,
-            looks: 0,
+            arc_scans: 0,
         }
     }
 
@@ -83,15 +83,15 @@ impl Record {
         }
     }
 
-    // What is left of so many looks of searches, which count in all calls of a stage.
+    // What is left of so many arc scans of searches, which count in all calls of a stage.
     pub fn left_of(&self, most: u64, pairs: usize) -> u64 {
         most.saturating_sub(self.passes.saturating_mul(pairs as u64))
     }
 
-    // Counts the passes over all pairs that these looks of searches were, if the next call goes on with
+    // Counts the passes over all pairs that these arc scans of searches were, if the next call goes on with
     // them.
-    pub fn count_passes(&mut self, ended: Ended, looks: u64, pairs: usize) {
-        let passes = looks / (pairs as u64).max(1);
+    pub fn count_passes(&mut self, ended: Ended, arc_scans: u64, pairs: usize) {
+        let passes = arc_scans / (pairs as u64).max(1);
         self.passes = match ended {
             Ended::Stopped => self.passes.saturating_add(passes.saturating_add(1)),
             _ => 0,
@@ -122,7 +122,7 @@ impl Record {
 pub enum Outcome {
     /// Each person has an object, at exact prices.
     Best,
-    /// The budget of looks is spent, and the record says where to go on.
+    /// The budget of arc scans is spent, and the record says where to go on.
     Stopped,
     /// The lists don't fit one another, or sums left the range: nothing was found.
     Lost,
@@ -132,12 +132,12 @@ pub enum Outcome {
 #[derive(Clone, Copy)]
 pub enum Ended {
     // Each person has an object.
-    Served,
+    Assigned,
     // It takes too long; another stage is to go on.
     Long,
-    // Some persons have a better object than their own: searches serve them.
+    // Some persons have a better object than their own: searches assign them.
     Near,
-    // The budget of looks is spent.
+    // The budget of arc scans is spent.
     Stopped,
     // A person reached no object: sums left the range.
     Blocked,

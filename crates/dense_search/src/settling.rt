@@ -26,7 +26,7 @@ fn settle<R: Reading<i64>>(matrix: &Matrix<'_, i64, R>, market: &mut Market<'_, 
     }
 }
 
-// Settles all persons. Returns the looks at pairs.
+// Settles all persons. Returns the arc scans.
 pub fn settle_all<R: Reading<i64>>(
     matrix: &Matrix<'_, i64, R>,
     market: &mut Market<'_, i64>,
@@ -35,7 +35,7 @@ pub fn settle_all<R: Reading<i64>>(
 }
 
 // Settles all persons, unless more than `most` find no object, or three quarters of the first ones.
-// Returns the looks at pairs, and whether all are settled.
+// Returns the arc scans, and whether all are settled.
 pub fn settle_up_to<R: Reading<i64>>(
     matrix: &Matrix<'_, i64, R>,
     market: &mut Market<'_, i64>,
@@ -50,14 +50,14 @@ fn settle_while<R: Reading<i64>>(
     most: usize,
     first: usize,
 ) -> (usize, bool) {
-    let mut unserved = 0usize;
+    let mut unassigned = 0usize;
     for k in 0..matrix.persons {
         let person = place_at(k);
         settle(matrix, market, person);
         if market.object(person) == NOBODY {
-            unserved = unserved.wrapping_add(1);
+            unassigned = unassigned.wrapping_add(1);
         }
-        if unserved > most || (k == first && unserved > first / 4 * 3) {
+        if unassigned > most || (k == first && unassigned > first / 4 * 3) {
             return (k.saturating_mul(matrix.objects), false);
         }
     }
@@ -73,7 +73,7 @@ fn raise_bounds<R: Reading<i64>>(reading: &R, row: &[i64], value: i64, bounds: &
 }
 
 // Lowers the prices of unowned objects as far as nobody prefers them, and not below the least
-// price. Returns the looks at pairs.
+// price. Returns the arc scans.
 pub fn lower_prices<R: Reading<i64>>(
     alloc: Global,
     matrix: &Matrix<'_, i64, R>,

@@ -6,7 +6,7 @@ use super::number::Number;
 use super::reading::Reading;
 use super::rows::{BLOCK, is_any_below};
 use super::tree::{Label, Scanned, Tree};
-use search_base::{Looks, NOBODY, put};
+use search_base::{ArcScans, NOBODY, put};
 use std::alloc::{AllocError, Global};
 
 // The prices of objects, or what is far where an object is passed, and the paths.
@@ -121,14 +121,14 @@ impl<K: Number> Search<K> {
         matrix: &Matrix<'_, K, R>,
         market: &Market<'_, K>,
         one: Scanned<K>,
-        looks: &mut Looks,
+        arc_scans: &mut ArcScans,
     ) -> Result<(), AllocError> {
         let hidden = self.tree.passed.len();
         let row = matrix.row(one.person);
         let keys = self.keys.as_slice();
         scan_row(&mut self.tree, market, &matrix.reading, row, keys, one)?;
         self.hide(hidden);
-        looks.add(row.len());
+        arc_scans.add(row.len());
         Ok(())
     }
 
@@ -167,14 +167,14 @@ impl<K: Number> Search<K> {
         &mut self,
         matrix: &Matrix<'_, K, R>,
         market: &Market<'_, K>,
-        looks: &mut Looks,
+        arc_scans: &mut ArcScans,
     ) -> Result<(), AllocError> {
         for turn in 0..matrix.objects {
             if !self.goes_on(turn)? {
                 return Ok(());
             }
             let one = self.owner_in(matrix, market, turn);
-            self.scan(matrix, market, one, looks)?;
+            self.scan(matrix, market, one, arc_scans)?;
         }
         Ok(())
     }
@@ -211,12 +211,12 @@ impl<K: Number> Search<K> {
     }
 
     // Gives one more person an object, if it reaches an unowned one.
-    pub fn serve<R: Reading<K>>(
+    pub fn augment<R: Reading<K>>(
         &mut self,
         matrix: &Matrix<'_, K, R>,
         market: &mut Market<'_, K>,
         person: u32,
-        looks: &mut Looks,
+        arc_scans: &mut ArcScans,
     ) -> Result<bool, AllocError> {
         self.look_at_unowned(matrix, market, person)?;
         self.scan(
@@ -226,9 +226,9 @@ impl<K: Number> Search<K> {
                 person,
                 base: K::zero(),
             },
-            looks,
+            arc_scans,
         )?;
-        self.follow(matrix, market, looks)?;
+        self.follow(matrix, market, arc_scans)?;
         Ok(self.finish(market))
     }
 
@@ -239,7 +239,7 @@ impl<K: Number> Search<K> {
         &mut self,
         matrix: &Matrix<'_, K, R>,
         market: &mut Market<'_, K>,
-        looks: &mut Looks,
+        arc_scans: &mut ArcScans,
     ) -> Result<bool, AllocError> {
         self.tree.floor = market.least_price();
         for k in 0..self.keys.len() {
@@ -251,12 +251,12 @@ impl<K: Number> Search<K> {
                 self.tree.reach(market, k, came)?;
             }
         }
-        looks.add(self.keys.len());
+        arc_scans.add(self.keys.len());
         if self.tree.end == NOBODY {
             self.tree.clear();
             return Ok(false);
         }
-        self.follow(matrix, market, looks)?;
+        self.follow(matrix, market, arc_scans)?;
         Ok(self.finish(market))
     }
 }

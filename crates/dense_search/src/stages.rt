@@ -2,18 +2,18 @@
 use super::auction::auction;
 use super::bids::{bid_within, bid_without_slackness, give_least};
 use super::cheapest::take_cheapest;
+use super::copied::{search_copy, search_market};
 use super::cores::{resume_cores, solve_by_cores};
 use super::market::Market;
 use super::matrix::{DenseProblem, Matrix};
-use super::middle::{search_copy, search_market};
 use super::narrow::{are_narrow, narrow_costs, narrow_prices, widen};
-use super::paths::{Allowance, lower_unowned, serve_all, serve_by_rows};
+use super::paths::{Allowance, augment_all, augment_by_rows, lower_unowned};
 use super::prices::{begin, begin_at_zero, cut, magnify, reduce};
 use super::reading::{AsCosts, AsGains, Reading};
 use super::record::{Ended, Outcome, Record, SHIFT, Stage};
 use super::settling::{settle_all, settle_up_to};
 use assign_core::Sense;
-use search_base::Looks;
+use search_base::ArcScans;
 use std::alloc::{AllocError, Global};
 
 /// The most persons and the most objects.
@@ -30,7 +30,7 @@ const MORE_CALLS: u64 = 16;
 // So often searches go on from an end that doesn't hold. Then the search begins with nothing.
 const MOST_RESTARTS: u32 = 1;
 
-// Searches alone serve problems with fewer pairs.
+// Searches alone solve problems with fewer pairs.
 const SMALL: usize = 1 << 14;
 
 // Problems with no more pairs are searched where they are: a copy takes longer than it saves.
@@ -42,22 +42,22 @@ const MOST_NARROW: usize = 1 << 21;
 // Problems with more pairs aren't copied where a core isn't enough.
 const MOST_COPIED: usize = 1 << 24;
 
-// Problems with fewer pairs are mostly served by searches.
+// Problems with fewer pairs are mostly assigned by searches.
 const MIDDLE: usize = 1 << 19;
 
 // A call copies if its budget allows so many passes over all pairs, since a copy takes as long as one
 // or two.
 const COPY_PASSES: u64 = 2;
 
-// A core's work apart from its passes, in looks at pairs a person; and the passes.
-const CORE_LOOKS: u64 = 4000;
+// A core's work apart from its passes, in arc scans a person; and the passes.
+const CORE_ARC_SCANS: u64 = 4000;
 
 const CORE_PASSES: u64 = 2;
 
-// From first prices so many persons are served by searches alone.
-const FEW_UNSERVED: usize = 8;
+// From first prices so many persons are assigned by searches alone.
+const FEW_UNASSIGNED: usize = 8;
 
-// The looks of searches after a core, as passes over all pairs.
+// The arc scans of searches after a core, as passes over all pairs.
 const RETRY_PASSES: u64 = 64;
 
 // The first slackness of the auction is this part of what a person would gain on average.
@@ -68,12 +68,12 @@ fn first_bids<R: Reading<i64>>(matrix: &Matrix<'_, i64, R>) -> usize {
     if matrix.pairs() < MIDDLE { 2 } else { 1 }
 }
 
-// The looks after which a core is as fast as searches.
-fn looks_of_core<R: Reading<i64>>(matrix: &Matrix<'_, i64, R>) -> u64 {
+// The arc scans after which a core is as fast as searches.
+fn arc_scans_of_core<R: Reading<i64>>(matrix: &Matrix<'_, i64, R>) -> u64 {
     if matrix.pairs() < SMALL {
         return u64::MAX;
     }
-    let persons = (matrix.persons as u64).saturating_mul(CORE_LOOKS);
+    let persons = (matrix.persons as u64).saturating_mul(CORE_ARC_SCANS);
     let passes = (matrix.pairs() as u64).saturating_mul(CORE_PASSES);
     persons.saturating_add(passes)
 }
@@ -88,9 +88,9 @@ fn is_middle<R: Reading<i64>>(matrix: &Matrix<'_, i64, R>) -> bool {
 // for more. Without a plan some are left whose best object somebody else took.
 fn most_left<R: Reading<i64>>(matrix: &Matrix<'_, i64, R>, has_plan: bool) -> usize {
     if matrix.persons < matrix.objects {
-        FEW_UNSERVED
+        FEW_UNASSIGNED
     } else if has_plan && matrix.pairs() < MIDDLE {
-        (matrix.persons / 32).max(FEW_UNSERVED)
+        (matrix.persons / 32).max(FEW_UNASSIGNED)
     } else {
         matrix.persons / 2
     }
@@ -104,9 +104,9 @@ enum Step {
 }
 
 // What follows on an end of a stage.
-fn after(ended: Ended, served: Step, long: Stage) -> Step {
+fn after(ended: Ended, assigned: Step, long: Stage) -> Step {
     match ended {
-        Ended::Served => served,
+        Ended::Assigned => assigned,
         Ended::Long => Step::To(long),
         Ended::Near => Step::To(Stage::Retry),
         Ended::Stopped => Step::End(Outcome::Stopped),
@@ -158,7 +158,7 @@ fn swap_objects(some: &mut [u32], others: &mut [u32]) {
 struct Work<'a> {
     market: Market<'a, i64>,
     record: Record,
-    looks: Looks,
+    arc_scans: ArcScans,
     // Whether this call went on from what another one left, so that an end is to be confirmed.
     is_resumed: bool,
     // Where the first searches ended, while a core is solved; then where the core ended.
@@ -168,12 +168,12 @@ struct Work<'a> {
 }
 
 impl<'a> Work<'a> {
-    // First bids of each person without an object, as far as the looks allow. Returns whether more
+    // First bids of each person without an object, as far as the arc scans allow. Returns whether more
     // are to come.
     fn bid_first<R: Reading<i64>>(&mut self, matrix: &Matrix<'_, i64, R>) -> bool {
         let all = matrix.persons.saturating_mul(first_bids(matrix)) as u64;
         let left = all.saturating_sub(self.record.bids) as usize;
-        let bids = bid_within(matrix, &mut self.market, 0, left, &mut self.looks);
+        let bids = bid_within(matrix, &mut self.market, 0, left, &mut self.arc_scans);
         self.record.bids = self.record.bids.saturating_add(bids.made as u64);
         bids.made > 0 && bids.are_cut
     }
@@ -189,12 +189,12 @@ impl<'a> Work<'a> {
             }
         }
         self.market.release_all();
-        let looks = begin(matrix, self.market.prices);
-        self.looks.add(looks);
+        let arc_scans = begin(matrix, self.market.prices);
+        self.arc_scans.add(arc_scans);
         if matrix.persons == matrix.objects {
-            self.looks.add(give_least(matrix, &mut self.market));
+            self.arc_scans.add(give_least(matrix, &mut self.market));
         } else if matrix.persons < matrix.objects / 8 {
-            self.looks.add(take_cheapest(matrix, &mut self.market));
+            self.arc_scans.add(take_cheapest(matrix, &mut self.market));
         }
         Ok(self.begin_paths())
     }
@@ -221,7 +221,7 @@ impl<'a> Work<'a> {
             return Ok(None);
         };
         match ended {
-            Ended::Served => Ok(Some(self.lower(alloc, matrix)?)),
+            Ended::Assigned => Ok(Some(self.lower(alloc, matrix)?)),
             Ended::Stopped => Ok(Some(Step::End(Outcome::Stopped))),
             Ended::Long | Ended::Near | Ended::Blocked => {
                 self.record = before;
@@ -237,8 +237,8 @@ impl<'a> Work<'a> {
         matrix: &Matrix<'_, i64, R>,
     ) -> Result<Option<Ended>, AllocError> {
         if matrix.pairs() <= MOST_IN_PLACE {
-            let (record, looks) = (&mut self.record, &mut self.looks);
-            let ended = search_market(alloc, matrix, &mut self.market, record, looks)?;
+            let (record, arc_scans) = (&mut self.record, &mut self.arc_scans);
+            let ended = search_market(alloc, matrix, &mut self.market, record, arc_scans)?;
             self.market.enter_objects();
             return Ok(Some(ended));
         }
@@ -257,12 +257,12 @@ impl<'a> Work<'a> {
         matrix: &Matrix<'_, i32, AsCosts>,
     ) -> Result<Ended, AllocError> {
         let mut prices = narrow_prices(alloc, self.market.prices)?;
-        let (mut record, mut looks) = (self.record, self.looks);
+        let (mut record, mut arc_scans) = (self.record, self.arc_scans);
         let objects = &mut *self.market.objects;
         let slice = prices.as_mut_slice();
-        let ended = search_copy(alloc, matrix, slice, objects, &mut record, &mut looks)?;
+        let ended = search_copy(alloc, matrix, slice, objects, &mut record, &mut arc_scans)?;
         self.record = record;
-        self.looks = looks;
+        self.arc_scans = arc_scans;
         widen(prices.as_slice(), self.market.prices);
         self.market.enter_objects();
         Ok(ended)
@@ -293,22 +293,22 @@ impl<'a> Work<'a> {
         }
         begin_at_zero(self.market.prices);
         cut(self.market.prices);
-        let most = most_left(matrix, self.market.unserved() < matrix.persons);
-        let (looks, are_settled) = settle_up_to(matrix, &mut self.market, most);
-        self.looks.add(looks);
+        let most = most_left(matrix, self.market.unassigned() < matrix.persons);
+        let (arc_scans, are_settled) = settle_up_to(matrix, &mut self.market, most);
+        self.arc_scans.add(arc_scans);
         if !are_settled {
             return Ok(Step::To(Stage::Cold));
         }
         self.go_on_warm(alloc, matrix)
     }
 
-    // Searches for few persons. More are served over a copy, or by a core.
+    // Searches for few persons. More are assigned over a copy, or by a core.
     fn go_on_warm<R: Reading<i64>>(
         &mut self,
         alloc: Global,
         matrix: &Matrix<'_, i64, R>,
     ) -> Result<Step, AllocError> {
-        if self.market.unserved() <= FEW_UNSERVED {
+        if self.market.unassigned() <= FEW_UNASSIGNED {
             return Ok(self.begin_paths());
         }
         if !is_middle(matrix) {
@@ -326,34 +326,40 @@ impl<'a> Work<'a> {
     }
 
     // Searches for all persons from the bids, as far as a core isn't as fast.
-    fn serve_first<R: Reading<i64>>(
+    fn augment_first<R: Reading<i64>>(
         &mut self,
         alloc: Global,
         matrix: &Matrix<'_, i64, R>,
     ) -> Result<Ended, AllocError> {
-        let (before, pairs) = (self.looks.done, matrix.pairs());
+        let (before, pairs) = (self.arc_scans.done, matrix.pairs());
         let allowed = Allowance {
-            most: self.record.left_of(looks_of_core(matrix), pairs),
+            most: self.record.left_of(arc_scans_of_core(matrix), pairs),
             is_growing: true,
         };
-        let ended = serve_all(alloc, matrix, &mut self.market, allowed, &mut self.looks)?;
-        let taken = self.looks.since(before);
+        let ended = augment_all(
+            alloc,
+            matrix,
+            &mut self.market,
+            allowed,
+            &mut self.arc_scans,
+        )?;
+        let taken = self.arc_scans.since(before);
         self.record.count_passes(ended, taken, pairs);
         Ok(ended)
     }
 
     // Searches for all persons from the prices of a core, by scans of whole rows, since they reach most
     // objects.
-    fn serve_again<R: Reading<i64>>(
+    fn augment_again<R: Reading<i64>>(
         &mut self,
         alloc: Global,
         matrix: &Matrix<'_, i64, R>,
     ) -> Result<Ended, AllocError> {
-        let (before, pairs) = (self.looks.done, matrix.pairs());
+        let (before, pairs) = (self.arc_scans.done, matrix.pairs());
         let all = (pairs as u64).saturating_mul(RETRY_PASSES);
         let most = self.record.left_of(all, pairs);
-        let ended = serve_by_rows(alloc, matrix, &mut self.market, most, &mut self.looks)?;
-        let taken = self.looks.since(before);
+        let ended = augment_by_rows(alloc, matrix, &mut self.market, most, &mut self.arc_scans)?;
+        let taken = self.arc_scans.since(before);
         self.record.count_passes(ended, taken, pairs);
         Ok(ended)
     }
@@ -366,10 +372,10 @@ impl<'a> Work<'a> {
         matrix: &Matrix<'_, i64, R>,
     ) -> Result<Step, AllocError> {
         let is_square = matrix.persons == matrix.objects;
-        if is_square || !self.market.has_dear_unowned() {
+        if is_square || !self.market.has_overpriced_unowned() {
             return Ok(Step::End(Outcome::Best));
         }
-        let ended = lower_unowned(alloc, matrix, &mut self.market, &mut self.looks)?;
+        let ended = lower_unowned(alloc, matrix, &mut self.market, &mut self.arc_scans)?;
         if let Ended::Stopped = ended {
             self.record.stage = Stage::Finish;
             self.record.passes = 1;
@@ -385,7 +391,7 @@ impl<'a> Work<'a> {
         long: Stage,
     ) -> Result<Step, AllocError> {
         match ended {
-            Ended::Served => self.lower(alloc, matrix),
+            Ended::Assigned => self.lower(alloc, matrix),
             ended => Ok(after(ended, Step::End(Outcome::Best), long)),
         }
     }
@@ -398,7 +404,7 @@ impl<'a> Work<'a> {
         if self.bid_first(matrix) {
             return Ok(Step::End(Outcome::Stopped));
         }
-        let ended = self.serve_first(alloc, matrix)?;
+        let ended = self.augment_first(alloc, matrix)?;
         if let Ended::Long = ended {
             self.kept = Some(Kept::of(alloc, &self.market)?);
         }
@@ -415,8 +421,8 @@ impl<'a> Work<'a> {
         }
         let may_copy = self.may_copy_later(matrix);
         let record = &mut self.record;
-        let looks = &mut self.looks;
-        let ended = solve_by_cores(alloc, matrix, &mut self.market, record, looks, may_copy)?;
+        let arc_scans = &mut self.arc_scans;
+        let ended = solve_by_cores(alloc, matrix, &mut self.market, record, arc_scans, may_copy)?;
         if let Ended::Long = ended {
             self.record.passes = 0;
         }
@@ -440,16 +446,16 @@ impl<'a> Work<'a> {
         alloc: Global,
         matrix: &Matrix<'_, i64, R>,
     ) -> Result<Step, AllocError> {
-        let (record, looks) = (&mut self.record, &mut self.looks);
-        let ended = resume_cores(alloc, matrix, &mut self.market, record, looks)?;
+        let (record, arc_scans) = (&mut self.record, &mut self.arc_scans);
+        let ended = resume_cores(alloc, matrix, &mut self.market, record, arc_scans)?;
         match ended {
             Ended::Stopped => {}
             Ended::Near => self.leave_core(),
-            Ended::Served | Ended::Long | Ended::Blocked => self.record.passes = 0,
+            Ended::Assigned | Ended::Long | Ended::Blocked => self.record.passes = 0,
         }
         Ok(match ended {
-            Ended::Served => {
-                self.is_resumed = self.market.has_dear_unowned();
+            Ended::Assigned => {
+                self.is_resumed = self.market.has_overpriced_unowned();
                 Step::End(Outcome::Best)
             }
             Ended::Long => Step::To(Stage::Auction),
@@ -488,9 +494,9 @@ impl<'a> Work<'a> {
             }
         }
         if !self.swap_kept() && self.record.passes == 0 {
-            self.looks.add(settle_all(matrix, &mut self.market));
+            self.arc_scans.add(settle_all(matrix, &mut self.market));
         }
-        let ended = self.serve_again(alloc, matrix)?;
+        let ended = self.augment_again(alloc, matrix)?;
         match ended {
             Ended::Long => {
                 let _ = self.swap_kept();
@@ -500,7 +506,7 @@ impl<'a> Work<'a> {
                 self.market.enter_objects();
                 return Ok(Step::To(Stage::Finish));
             }
-            Ended::Served | Ended::Near | Ended::Stopped => {}
+            Ended::Assigned | Ended::Near | Ended::Stopped => {}
         }
         self.after_searches(alloc, matrix, ended, Stage::Auction)
     }
@@ -521,15 +527,15 @@ impl<'a> Work<'a> {
         }
         let matrix = &matrix.magnified(self.record.shift);
         let record = &mut self.record;
-        let ended = auction(alloc, matrix, &mut self.market, record, &mut self.looks)?;
+        let ended = auction(alloc, matrix, &mut self.market, record, &mut self.arc_scans)?;
         Ok(after(ended, Step::To(Stage::Finish), Stage::Finish))
     }
 
     // Who keeps or takes a best object, in the unit of the prices, and bids of the others.
     fn begin_finish<R: Reading<i64>>(&mut self, matrix: &Matrix<'_, i64, R>) {
-        self.looks.add(settle_all(matrix, &mut self.market));
-        let unserved = self.market.unserved();
-        let _ = bid_without_slackness(matrix, &mut self.market, unserved, &mut self.looks);
+        self.arc_scans.add(settle_all(matrix, &mut self.market));
+        let unassigned = self.market.unassigned();
+        let _ = bid_without_slackness(matrix, &mut self.market, unassigned, &mut self.arc_scans);
         self.record.passes = 1;
     }
 
@@ -547,15 +553,21 @@ impl<'a> Work<'a> {
             most: u64::MAX,
             is_growing: false,
         };
-        let ended = serve_all(alloc, matrix, &mut self.market, allowed, &mut self.looks)?;
-        let Ended::Served = ended else {
+        let ended = augment_all(
+            alloc,
+            matrix,
+            &mut self.market,
+            allowed,
+            &mut self.arc_scans,
+        )?;
+        let Ended::Assigned = ended else {
             return Ok(after(ended, Step::End(Outcome::Best), Stage::Finish));
         };
-        let ended = lower_unowned(alloc, matrix, &mut self.market, &mut self.looks)?;
+        let ended = lower_unowned(alloc, matrix, &mut self.market, &mut self.arc_scans)?;
         Ok(after(ended, Step::End(Outcome::Best), Stage::Finish))
     }
 
-    // Whether searches took more calls than there can be if each serves a person or lowers a price: the
+    // Whether searches took more calls than there can be if each assigns a person or lowers a price: the
     // objects don't fit their prices then.
     fn are_astray<R: Reading<i64>>(&self, matrix: &Matrix<'_, i64, R>) -> bool {
         let places = (matrix.persons as u64).saturating_add(matrix.objects as u64);
@@ -612,8 +624,8 @@ impl<'a> Work<'a> {
         }
         self.is_resumed = false;
         self.market.enter_objects();
-        self.looks.add(settle_all(matrix, &mut self.market));
-        self.market.unserved() == 0 && !self.market.has_dear_unowned()
+        self.arc_scans.add(settle_all(matrix, &mut self.market));
+        self.market.unassigned() == 0 && !self.market.has_overpriced_unowned()
     }
 
     // After an end that doesn't hold, or none, searches go on from there. If that comes once more, the
@@ -634,7 +646,7 @@ impl<'a> Work<'a> {
             Stage::Core => (matrix.pairs() as u64).saturating_mul(CORE_PASSES),
             _ => 1,
         };
-        self.looks.left() < least
+        self.arc_scans.left() < least
     }
 
     // Stage by stage up to an end.
@@ -679,7 +691,7 @@ fn run_as<R: Reading<i64>>(
     let limit = if budget == 0 {
         u64::MAX
     } else {
-        record.looks.saturating_add(budget)
+        record.arc_scans.saturating_add(budget)
     };
     if record.is_begun() {
         cut(prices);
@@ -690,14 +702,14 @@ fn run_as<R: Reading<i64>>(
         is_resumed: record.is_begun(),
         kept: None,
         may_copy: budget == 0 || budget / COPY_PASSES >= matrix.pairs() as u64,
-        looks: Looks {
-            done: record.looks,
+        arc_scans: ArcScans {
+            done: record.arc_scans,
             limit,
         },
     };
     let outcome = work.go_on(alloc, matrix)?;
     *record = work.record;
-    record.looks = work.looks.done;
+    record.arc_scans = work.arc_scans.done;
     Ok(outcome)
 }
 
@@ -710,7 +722,7 @@ fn is_whole(problem: DenseProblem<'_>, prices: &[i64], objects: &[u32]) -> bool 
         && objects.len() == problem.persons
 }
 
-/// Searches for exact prices and a plan, and stops after about `budget` looks at pairs (0: it
+/// Searches for exact prices and a plan, and stops after about `budget` arc scans (0: it
 /// doesn't). A call reads and writes a price for each object and an object for each person. At
 /// `Best` prices are whole numbers in the unit of the costs, none below 0, and 0 where nobody owns
 /// the object. At `Stopped` they are those from which the next call goes on, with the record.

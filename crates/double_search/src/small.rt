@@ -1,7 +1,7 @@
 // Problems of as many objects as persons, two or three: all plans are tried. A path from one person
 // to another costs what it adds that each takes the next one's object. The price of a person's
 // object is the mean, over all persons, of the least that a path to them costs; at these prices all
-// other pairs are worse, if any other plan is. A pair that isn't allowed stands as a dear one.
+// other pairs are worse, if any other plan is. A pair that isn't allowed has the big cost.
 ghost use Rattle.std.specs.Prelude.{◌≡◌, length};
 
 use super::hall::as_number;
@@ -19,12 +19,12 @@ const PLANS: [[usize; PERSONS]; 6] = [
     [2, 1, 0],
 ];
 
-// 2^-47: a plan must be better by this part of a dear cost than rounding can make it.
+// 2^-47: a plan must be better by this part of the big cost than rounding can make it.
 const PART: f64 = 0.000000000000007105427357601002;
 
-// A dear pair costs so many times the greatest cost. With more, prices would be too great for a
+// The big cost is so many times the greatest cost. With more, prices would be too great for a
 // margin to count.
-pub const DEAR: f64 = 2.0;
+pub const BIG_COST: f64 = 2.0;
 
 // A plan, the price of each person's object, and by how much other pairs are worse.
 #[derive(Clone, Copy)]
@@ -34,11 +34,11 @@ struct Found {
     worse: f64,
 }
 
-// A small problem, and what a dear pair costs.
+// A small problem, and the big cost.
 #[derive(Clone, Copy)]
 struct Small<'a> {
     problem: Problem<'a>,
-    dear: f64,
+    big_cost: f64,
 }
 
 // The greatest absolute value of a finite cost.
@@ -62,7 +62,7 @@ impl<'a> Small<'a> {
             .wrapping_mul(self.problem.persons)
             .wrapping_add(object);
         let cost = self.problem.costs.get(place).copied().unwrap_or(0.0);
-        lesser(cost * self.problem.sign(), self.dear)
+        lesser(cost * self.problem.sign(), self.big_cost)
     }
 
     fn best_of_two(self) -> Found {
@@ -119,7 +119,7 @@ impl<'a> Small<'a> {
         }
     }
 
-    // Whether the plan is better than any other by far more than rounding, and without a dear pair.
+    // Whether the plan is better than any other by far more than rounding, and without a pair at the big cost.
     fn is_clear(self, found: Found) -> bool {
         let mut greatest = 0.0;
         for person in 0..self.problem.persons.min(PERSONS) {
@@ -159,7 +159,7 @@ impl<'a> Problem<'a> {
         let size = size_of(self.costs);
         let small = Small {
             problem: self,
-            dear: size * DEAR,
+            big_cost: size * BIG_COST,
         };
         let found = if self.persons == 2 {
             small.best_of_two()

@@ -1,13 +1,13 @@
 // Squares of a few persons in doubles, a row in lanes: a plan by the shortest augmenting paths of
 // Jonker and Volgenant (1987), and prices at which the checker's own sums show it best. A pair that
-// isn't allowed stands as a dear one.
+// isn't allowed has the big cost.
 ghost use Rattle.std.specs.Prelude.{◌≡◌, ◌≤◌, length};
 
 use super::best::lowest;
 use super::hall::as_number;
 use super::lanes::{MOST, first_of, greater_of, lesser_of, put_first, row_of, zero_to};
 use super::range::{Range, greatest_of};
-use super::small::DEAR;
+use super::small::BIG_COST;
 use super::solver::Problem;
 use std::simd::prelude::*;
 
@@ -28,7 +28,7 @@ pub struct Square<'a> {
     // The greatest absolute value of a finite cost.
     pub size: f64,
     // Costs from this one on stand for pairs that aren't allowed.
-    pub dear: f64,
+    pub big_cost: f64,
     // The objects without an owner, as bits.
     pub free: u64,
     // The cost of each pair, to be minimised, in rows of as many numbers as there are lanes; after
@@ -151,10 +151,10 @@ impl<'a> Square<'a> {
     fn cap(&mut self) {
         let rows = &*self.rows;
         let size = finite_size(rows);
-        let dear = size * DEAR;
+        let big_cost = size * BIG_COST;
         self.size = size;
-        self.dear = dear;
-        cap_all(self.rows, dear);
+        self.dear = big_cost;
+        cap_all(self.rows, big_cost);
     }
 
     #[inline(always)]
@@ -253,7 +253,7 @@ fn solve_in<const W: usize>(
     let mut square = Square {
         persons: problem.persons,
         size: 0.0,
-        dear: f64::INFINITY,
+        big_cost: f64::INFINITY,
         free: bits_to(problem.persons),
         rows,
         prices: &mut own_prices[..],

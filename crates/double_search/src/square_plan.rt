@@ -33,7 +33,7 @@ impl<'a> Square<'a> {
         }
     }
 
-    // The person's best object goes to it, and gets so dear that the next best one is as good.
+    // The person's best object goes to it, and gets so expensive that the next best one is as good.
     // Returns the person who had it, or nobody, also where the next best one is as good already.
     #[inline(always)]
     fn bid<const W: usize>(&mut self, person: usize) -> usize

@@ -54,7 +54,7 @@ impl<'a> Square<'a> {
             self.rows[place] = f64::INFINITY;
             greatest = greater(cost, greatest);
         }
-        greatest < self.dear
+        greatest < self.big_cost
     }
 
     #[inline(always)]

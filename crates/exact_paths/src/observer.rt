@@ -8,7 +8,7 @@ pub trait Observer {
 
     /// About how many looks at pairs a piece takes, where so many pairs are listed; 0 if the search
     /// shall not stop before its end.
-    fn looks(&self, _pairs: usize) -> u64 {
+    fn arc_scans(&self, _pairs: usize) -> u64 {
         0
     }
 }

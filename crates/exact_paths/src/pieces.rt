@@ -56,7 +56,7 @@ pub trait Pieces {
         &mut self,
         alloc: Global,
         state: &mut State,
-        looks: u64,
+        arc_scans: u64,
     ) -> Result<PieceEnd, AllocError>;
 }
 
@@ -72,12 +72,12 @@ impl Pieces for DensePieces<'_> {
         &mut self,
         alloc: Global,
         state: &mut State,
-        looks: u64,
+        arc_scans: u64,
     ) -> Result<PieceEnd, AllocError> {
         let prices = state.prices.as_mut_slice();
         let objects = state.objects.as_mut_slice();
         let record = &mut self.record;
-        let end = dense_search::search(alloc, self.problem, prices, objects, record, looks)?;
+        let end = dense_search::search(alloc, self.problem, prices, objects, record, arc_scans)?;
         Ok(match end {
             dense_search::Outcome::Best => PieceEnd::Best,
             dense_search::Outcome::Stopped => PieceEnd::Stopped,
@@ -98,12 +98,12 @@ impl Pieces for SparsePieces<'_> {
         &mut self,
         alloc: Global,
         state: &mut State,
-        looks: u64,
+        arc_scans: u64,
     ) -> Result<PieceEnd, AllocError> {
         let prices = state.prices.as_mut_slice();
         let objects = state.objects.as_mut_slice();
         let record = &mut self.record;
-        let end = sparse_search::search(alloc, self.problem, prices, objects, record, looks)?;
+        let end = sparse_search::search(alloc, self.problem, prices, objects, record, arc_scans)?;
         Ok(match end {
             sparse_search::Outcome::Best => PieceEnd::Best,
             sparse_search::Outcome::Hall(set) => PieceEnd::Hall(set),
@@ -113,17 +113,17 @@ impl Pieces for SparsePieces<'_> {
     }
 }
 
-/// All pieces of a search, of so many looks each. The observer is called before and after each.
+/// All pieces of a search, of so many arc scans each. The observer is called before and after each.
 pub fn run_pieces<P: Pieces, O: Observer>(
     alloc: Global,
     search: &mut P,
     state: &mut State,
-    looks: u64,
+    arc_scans: u64,
     observer: &O,
 ) -> Result<PieceEnd, AllocError> {
     observer.assigned(0);
     for _piece in 0..PIECES {
-        let end = search.go_on(alloc, state, looks)?;
+        let end = search.go_on(alloc, state, arc_scans)?;
         observer.assigned(state.assigned());
         match end {
             PieceEnd::Stopped => {}

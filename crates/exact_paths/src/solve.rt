@@ -60,8 +60,8 @@ fn try_dense<O: Observer>(
             dense_search::Record::cold()
         },
     };
-    let looks = observer.looks(pairs);
-    let end = run_pieces(alloc, &mut search, &mut state, looks, observer)?;
+    let arc_scans = observer.arc_scans(pairs);
+    let end = run_pieces(alloc, &mut search, &mut state, arc_scans, observer)?;
     outcome_of(alloc, problem, sense, end, &state)
 }
 
@@ -90,8 +90,8 @@ fn try_sparse<O: Observer>(
             sparse_search::Record::cold()
         },
     };
-    let looks = observer.looks(pairs);
-    let end = run_pieces(alloc, &mut search, &mut state, looks, observer)?;
+    let arc_scans = observer.arc_scans(pairs);
+    let end = run_pieces(alloc, &mut search, &mut state, arc_scans, observer)?;
     outcome_of(alloc, problem, sense, end, &state)
 }
 

@@ -3,7 +3,7 @@ use Rattle.std.proofs.Common.{◌≡◌, ℕ, ℤ, pos, neg_ℤ, ◌+ℤ◌, ◌
 use Rattle.std.proofs.lemmas.Int.{ints}
 use Rattle.cost_lists.specs.declared.numbers.TheConstants.{UNLISTED}
 use Rattle.hungarian.specs.inside.Plans.{AreCostsOrMarks, IsPlan}
-use Rattle.hungarian.specs.inside.Trees.{IsScanned, IsStep, IsCovered, IsReached, IsTree, IsRelaxed}
+use Rattle.hungarian.specs.inside.Trees.{IsScanned, IsStep, IsCovered, IsLabelled, IsTree, IsRelaxed}
 
 module _ (c : ℕ → ℕ → ℤ) (p : ℕ → ℤ) (o x : ℕ → ℕ) (n m s : ℕ) (d v : ℕ → ℤ) (f r : ℕ → ℕ) (d2 : ℕ → ℤ) (f2 : ℕ → ℕ)
     (costs : AreCostsOrMarks c) (plan : IsPlan c n m p o x) (some : 0 < s) (alone : x s ≡ 0)
@@ -13,8 +13,8 @@ module _ (c : ℕ → ℕ → ℤ) (p : ℕ → ℤ) (o x : ℕ → ℕ) (n m s 
   only_first q (inl e) = e
   only_first q (inr h) = let z = unranked (x q) in absurd (omega arith)
 
-  reached_now : (k : ℕ) → 0 < f2 k → IsReached c x s d2 v f2 r k
-  reached_now k h = elim (relaxed k) [
+  labelled_now : (k : ℕ) → 0 < f2 k → IsLabelled c x s d2 v f2 r k
+  labelled_now k h = elim (relaxed k) [
     | inl kept ↦ let a = kept.person in let b = none k in absurd (omega arith)
     | inr low ↦
         let step : IsStep c d2 v s k = record
@@ -24,10 +24,10 @@ module _ (c : ℕ → ℕ → ℤ) (p : ℕ → ℤ) (o x : ℕ → ℕ) (n m s 
 
   covered_first : (k : ℕ) → c s k <ℤ UNLISTED → IsCovered c d2 v f2 s k
   covered_first k listed = elim (relaxed k) [
-    | inl kept ↦ let a = kept.reached listed (unranked k) in let b = none k in absurd (omega arith)
+    | inl kept ↦ let a = kept.labelled listed (unranked k) in let b = none k in absurd (omega arith)
     | inr low ↦
         let a = low.person in let b = low.cost in let e = here in
-        record { reached = omega arith; least = omega (arith, ints) }
+        record { labelled = omega arith; least = omega (arith, ints) }
   ]
 
   waiting_now : (k : ℕ) → r k ≡ 0 → 0 < f2 k → neg_ℤ (pos 1000000000000) ≤ℤ (d2 k +ℤ p k)
@@ -45,7 +45,7 @@ module _ (c : ℕ → ℕ → ℤ) (p : ℕ → ℤ) (o x : ℕ → ℕ) (n m s 
     alone = alone;
     start = here;
     nobody = unranked 0;
-    reached = reached_now;
+    labelled = labelled_now;
     covered = λ i k h listed. subst (λ q. IsCovered c d2 v f2 q k) (sym (only_first i h))
         (covered_first k (subst (λ q. c q k <ℤ UNLISTED) (only_first i h) listed));
     passed = λ k h. let z = unranked k in absurd (omega arith);

@@ -35,7 +35,7 @@ module _ (c : ℕ → ℕ → ℤ) (p : ℕ → ℤ) (o x : ℕ → ℕ) (n m s 
         let b = owner.back in
         let scanned : 0 < r (x (o k)) = subst (λ y. 0 < r y) (sym b) passed in
         let own = subst (IsStep c d v (o k)) b (tree.own (o k) scanned) in
-        let old = tree.reached e near.waits.reached in
+        let old = tree.labelled e near.waits.labelled in
         let w = tree.close (f e) (o k) old.scanned (inr scanned) in
         let sum = own.sum in let sum2 = old.step.sum in
         let one = costs (o k) k own.listed in
@@ -93,10 +93,10 @@ module _ (c : ℕ → ℕ → ℤ) (p : ℕ → ℤ) (o x : ℕ → ℕ) (n m s 
             let b = (tree.passed k passed).later in omega arith
       ]
 
-  reached_from : (k : ℕ) → 0 < r2 k → 0 < f k
-  reached_from k ranked = elim (last_or_passed k ranked) [
-    | inl end ↦ let a : f k ≡ f e = ap f end in let b = near.waits.reached in omega arith
-    | inr passed ↦ (tree.passed k passed).reached
+  labelled_from : (k : ℕ) → 0 < r2 k → 0 < f k
+  labelled_from k ranked = elim (last_or_passed k ranked) [
+    | inl end ↦ let a : f k ≡ f e = ap f end in let b = near.waits.labelled in omega arith
+    | inr passed ↦ (tree.passed k passed).labelled
   ]
 
   within_now : (k : ℕ) → 0 < r2 k → k ≤ m
@@ -119,7 +119,7 @@ module _ (c : ℕ → ℕ → ℤ) (p : ℕ → ℤ) (o x : ℕ → ℕ) (n m s 
       | inl same ↦ let z : d k ≡ d e = ap d same in omega (arith, ints)
       | inr passed ↦
           let b = (tree.passed k passed).near in
-          let w = tree.waiting e near.waits.unscanned near.waits.reached in
+          let w = tree.waiting e near.waits.unscanned near.waits.labelled in
           let q = (plan.priced k).least in
           let g = free_price in omega (arith, ints)
     ];
@@ -139,7 +139,7 @@ module _ (c : ℕ → ℕ → ℤ) (p : ℕ → ℤ) (o x : ℕ → ℕ) (n m s 
                 let g = free_price in omega (arith, ints)
             | inr passed ↦
                 let b = (tree.passed k passed).near in
-                let w = tree.waiting e near.waits.unscanned near.waits.reached in
+                let w = tree.waiting e near.waits.unscanned near.waits.labelled in
                 let g = free_price in omega (arith, ints)
           ]
     ]
@@ -154,7 +154,7 @@ module _ (c : ℕ → ℕ → ℤ) (p : ℕ → ℤ) (o x : ℕ → ℕ) (n m s 
               let b = raised.others k none in
               let ne : k ≢ e = λ same. let z : r2 k ≡ t + 1 = ap r2 same ∙ rank in omega arith in
               let same = ranks k ne in
-              let w = near.least k (record { reached = cover.reached; unscanned = omega arith }) in
+              let w = near.least k (record { labelled = cover.labelled; unscanned = omega arith }) in
               let g = free_price in omega (arith, ints)
           | inr ranked ↦ let b = raised.scanned k ranked in omega (arith, ints)
         ]
@@ -193,8 +193,8 @@ module _ (c : ℕ → ℕ → ℤ) (p : ℕ → ℤ) (o x : ℕ → ℕ) (n m s 
 
     back : (k : ℕ) → 0 < r2 k → IsBack c p2 n m x s f r2 k
     back k ranked =
-        let h = reached_from k ranked in
-        let old = tree.reached k h in
+        let h = labelled_from k ranked in
+        let old = tree.labelled k h in
         record {
           some = h;
           last = scanned_last (f k) old.scanned;

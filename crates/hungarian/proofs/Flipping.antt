@@ -36,7 +36,7 @@ module _ (c : ℕ → ℕ → ℤ) (p : ℕ → ℤ) (n m : ℕ) (o0 x0 : ℕ �
       priced = flip.priced;
       free = λ j z. flip.unowned j (g.unowned j z);
     },
-    record { served = g.last refl; kept = g.kept; fresh = g.fresh },
+    record { assigned = g.last refl; kept = g.kept; fresh = g.fresh },
   )
 
   module _ (h : ℕ) (o x o2 x2 : ℕ → ℕ) (g : IsFlipping c p n m o0 x0 s r h o x) (some : 0 < h)

@@ -4,7 +4,7 @@ use Rattle.std.proofs.lemmas.Int.{ints}
 use Rattle.std.proofs.lemmas.Bool.{cases_eq}
 use Rattle.cost_lists.specs.declared.numbers.TheConstants.{UNLISTED}
 use Rattle.hungarian.specs.inside.Plans.{AreCostsOrMarks, IsChosen, IsPlan}
-use Rattle.hungarian.specs.inside.Trees.{IsScanned, IsStep, IsPassed, IsCovered, IsReached, IsTree, IsNearest, IsScan, IsStepCost}
+use Rattle.hungarian.specs.inside.Trees.{IsScanned, IsStep, IsPassed, IsCovered, IsLabelled, IsTree, IsNearest, IsScan, IsStepCost}
 
 -- a number is 0 or above
 pub none_or_some : (k : ℕ) → (k ≡ 0) ⊎ (0 < k)
@@ -15,7 +15,7 @@ none_or_some (suc k) = inr (omega arith)
 pub path_fits : (c : ℕ → ℕ → ℤ) (p : ℕ → ℤ) (o x : ℕ → ℕ) (s t : ℕ) (D : ℤ) (d v : ℕ → ℤ) (f r : ℕ → ℕ) (k : ℕ) →
     AreCostsOrMarks c → IsTree c p o x s t D d v f r → t < 4194304 → 0 < f k → IsStepCost (d k)
 path_fits c p o x s t D d v f r k costs tree few h =
-    let old = tree.reached k h in
+    let old = tree.labelled k h in
     let sum = old.step.sum in
     let cost = costs (f k) k old.step.listed in
     let a = cost.least in let b = cost.greatest in
@@ -94,11 +94,11 @@ module _ (c : ℕ → ℕ → ℤ) (p : ℕ → ℤ) (o x : ℕ → ℕ) (n m s 
     sum = let a = scan.costs q (not_new q h) in let b = step.sum in omega (arith, ints);
   }
 
-  reached_now : (k : ℕ) → 0 < f2 k → IsReached c x s d2 v2 f2 r2 k
-  reached_now k h = elim (scan.relaxed k) [
+  labelled_now : (k : ℕ) → 0 < f2 k → IsLabelled c x s d2 v2 f2 r2 k
+  labelled_now k h = elim (scan.relaxed k) [
     | inl kept ↦
         let e = kept.person in
-        let old = tree.reached k (omega arith) in
+        let old = tree.labelled k (omega arith) in
         let step = step_on (f k) k old.scanned kept.cost old.step in
         record {
           scanned = subst (IsScanned s x r2) (sym e) (still (f k) old.scanned);
@@ -118,16 +118,16 @@ module _ (c : ℕ → ℕ → ℤ) (p : ℕ → ℤ) (o x : ℕ → ℕ) (n m s 
   on_old : (q k : ℕ) → IsScanned s x r q → c q k <ℤ UNLISTED → IsCovered c d2 v2 f2 q k
   on_old q k h listed =
       let old = tree.covered q k h listed in
-      let a = old.reached in
+      let a = old.labelled in
       let b = old.least in
       let same = scan.costs q (not_new q h) in
       elim (scan.relaxed k) [
         | inl kept ↦
             let e = kept.person in let z = kept.cost in
-            record { reached = omega arith; least = omega (arith, ints) }
+            record { labelled = omega arith; least = omega (arith, ints) }
         | inr low ↦
             let e = low.person in let z = low.better a in
-            record { reached = omega arith; least = omega (arith, ints) }
+            record { labelled = omega arith; least = omega (arith, ints) }
       ]
 
   at_most : (k : ℕ) → 0 < r2 k → (0 < f k) × ((d k +ℤ p k) ≤ℤ (d j +ℤ p j))
@@ -136,14 +136,14 @@ module _ (c : ℕ → ℕ → ℤ) (p : ℕ → ℤ) (o x : ℕ → ℕ) (n m s 
         let a : f k ≡ f j = ap f same in
         let b : d k ≡ d j = ap d same in
         let e : p k ≡ p j = ap p same in
-        let w = near.waits.reached in
+        let w = near.waits.labelled in
         (omega arith, omega (arith, ints))
     | inr ne ↦
         let a = scan.ranks k ne in
         let old = tree.passed k (omega arith) in
         let b = old.near in
-        let w = tree.waiting j near.waits.unscanned near.waits.reached in
-        (old.reached, omega (arith, ints))
+        let w = tree.waiting j near.waits.unscanned near.waits.labelled in
+        (old.labelled, omega (arith, ints))
   ]
 
   on_new : (k : ℕ) → c i k <ℤ UNLISTED → IsCovered c d2 v2 f2 i k
@@ -152,17 +152,17 @@ module _ (c : ℕ → ℕ → ℤ) (p : ℕ → ℤ) (o x : ℕ → ℕ) (n m s 
         let e = kept.person in let z = kept.cost in
         elim (none_or_some (r2 k)) [
           | inl none ↦
-              let a = kept.reached listed none in let b = kept.least listed none in
-              record { reached = omega arith; least = omega (arith, ints) }
+              let a = kept.labelled listed none in let b = kept.least listed none in
+              record { labelled = omega arith; least = omega (arith, ints) }
           | inr ranked ↦
               let a = at_most k ranked in
               let a0 = a.0 in let a1 = a.1 in
               let b = no_nearer k listed in
-              record { reached = omega arith; least = omega (arith, ints) }
+              record { labelled = omega arith; least = omega (arith, ints) }
         ]
     | inr low ↦
         let e = low.person in let z = low.cost in
-        record { reached = omega arith; least = omega (arith, ints) }
+        record { labelled = omega arith; least = omega (arith, ints) }
   ]
 
   covered_now : (q k : ℕ) → IsScanned s x r2 q → c q k <ℤ UNLISTED → IsCovered c d2 v2 f2 q k
@@ -175,7 +175,7 @@ module _ (c : ℕ → ℕ → ℤ) (p : ℕ → ℤ) (o x : ℕ → ℕ) (n m s 
   before : (k : ℕ) → 0 < f k → r2 (x (f k)) ≡ r (x (f k))
   before k h = elim (cases_eq (x (f k)) j) [
     | inl same ↦
-        let old = (tree.reached k h).scanned in
+        let old = (tree.labelled k h).scanned in
         let own = plan.matched.owning (f k) (omega arith) in
         absurd (not_new (f k) old (sym own.back ∙ ap o same ∙ owner))
     | inr ne ↦ scan.ranks (x (f k)) ne
@@ -201,7 +201,7 @@ module _ (c : ℕ → ℕ → ℤ) (p : ℕ → ℤ) (o x : ℕ → ℕ) (n m s 
             let low : r (x (f k)) ≤ t = subst (λ y. r (x (f y)) ≤ t) (sym same) before_j in
             let own : o k ≡ i = ap o same ∙ owner in
             record {
-              reached = omega arith;
+              labelled = omega arith;
               owned = omega arith;
               later = omega arith;
               within = omega arith;
@@ -212,7 +212,7 @@ module _ (c : ℕ → ℕ → ℤ) (p : ℕ → ℤ) (o x : ℕ → ℕ) (n m s 
             let old = tree.passed k (omega arith) in
             let l = old.later in let w = old.within in
             record {
-              reached = omega arith;
+              labelled = omega arith;
               owned = old.owned;
               later = omega arith;
               within = omega arith;
@@ -229,7 +229,7 @@ module _ (c : ℕ → ℕ → ℤ) (p : ℕ → ℤ) (o x : ℕ → ℕ) (n m s 
         elim (scan.relaxed k) [
           | inl kept ↦
               let e = kept.person in let z = kept.cost in
-              let least = near.least k (record { reached = omega arith; unscanned = omega arith }) in
+              let least = near.least k (record { labelled = omega arith; unscanned = omega arith }) in
               omega (arith, ints)
           | inr low ↦
               let z = low.cost in let b = no_nearer k low.listed in omega (arith, ints)
@@ -250,7 +250,7 @@ module _ (c : ℕ → ℕ → ℤ) (p : ℕ → ℤ) (o x : ℕ → ℕ) (n m s 
   new_close : IsScanned s x r (f j) × ((v2 i -ℤ v (f j)) ≤ℤ pos 2000000000000) ×
       ((v (f j) -ℤ v2 i) ≤ℤ pos 2000000000000)
   new_close =
-      let old = tree.reached j near.waits.reached in
+      let old = tree.labelled j near.waits.labelled in
       let sum = old.step.sum in
       let b = scan.cost in
       let one = costs (f j) j old.step.listed in
@@ -286,7 +286,7 @@ module _ (c : ℕ → ℕ → ℤ) (p : ℕ → ℤ) (o x : ℕ → ℕ) (n m s 
     alone = tree.alone;
     start = scan.costs s (not_new s (inl refl)) ∙ tree.start;
     nobody = scan.ranks 0 (λ e. omega arith) ∙ tree.nobody;
-    reached = reached_now;
+    labelled = labelled_now;
     covered = covered_now;
     passed = passed_now;
     waiting = waiting_now;

@@ -54,12 +54,12 @@ module _ (l : ListedCosts) (prices : List ℤ) (owners all ranks : List ℕ) (s 
   neighbour j = (
     (λ h.
         let ranked = ((lists.each_object j).0 h).1 in
-        let reached = tree.reached j ((tree.passed j ranked).reached) in
-        (f j, has_person (f j) reached.scanned, listed_from_cost l (f j) j reached.step.listed)),
+        let labelled = tree.labelled j ((tree.passed j ranked).labelled) in
+        (f j, has_person (f j) labelled.scanned, listed_from_cost l (f j) j labelled.step.listed)),
     (λ n.
         let scanned = ((lists.each_person n.0).0 n.1).1 in
         let covered = tree.covered n.0 j scanned (cost_from_listed l n.0 j lim n.2) in
-        let a = covered.reached in
+        let a = covered.labelled in
         has_object j (elim (none_or_some (at ranks j)) [
           | inl zero_is ↦ let z = none j zero_is in absurd (omega arith)
           | inr some ↦ some

@@ -8,7 +8,7 @@ pub mod HallLists
 pub mod Optima
 pub mod Relaxed
 pub mod Orders
-pub mod Served
+pub mod Assigned
 pub mod Rooms
 pub mod Scanned
 pub mod Nearest

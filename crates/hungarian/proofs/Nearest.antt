@@ -24,7 +24,7 @@ best_none p d f r = record {
 module _ (p d : ℕ → ℤ) (f r : ℕ → ℕ) (nobody : f 0 ≡ 0) (i best : ℕ) (was : IsBestOf p d f r i best) where
   not_zero : (k : ℕ) → IsWaiting f r k → 0 < k
   not_zero k w = elim (none_or_some k) [
-    | inl none ↦ let a = w.reached in let z : f k ≡ f 0 = ap f none in absurd (omega arith)
+    | inl none ↦ let a = w.labelled in let z : f k ≡ f 0 = ap f none in absurd (omega arith)
     | inr some ↦ some
   ]
 
@@ -65,9 +65,9 @@ module _ (p d : ℕ → ℤ) (f r : ℕ → ℕ) (nobody : f 0 ≡ 0) (i best : 
 
   pub best_more : (b : Bool) (z : ℕ) → IsTrue b ↔ (0 < f i) × (r i ≡ 0) → (b ≡ false → z ≡ best) →
       (b ≡ true → IsNearer p d best i z) → IsBestOf p d f r (i + 1) z
-  best_more true z is stay take = let w = is.0 refl in takes z (record { reached = w.0; unscanned = w.1 }) (take refl)
+  best_more true z is stay take = let w = is.0 refl in takes z (record { labelled = w.0; unscanned = w.1 }) (take refl)
   best_more false z is stay take = subst (IsBestOf p d f r (i + 1)) (sym (stay refl))
-      (stays (λ w. let e : false ≡ true = is.1 (w.reached, w.unscanned) in absurd cc))
+      (stays (λ w. let e : false ≡ true = is.1 (w.labelled, w.unscanned) in absurd cc))
 
 -- past the end no object waits
 pub best_all : (prices costs : List ℤ) (f r : List ℕ) (i best : ℕ) → length f ≤ i →
@@ -81,5 +81,5 @@ best_all prices costs f r i best long was = (
   below : (k : ℕ) → IsWaiting (at f) (at r) k → k < i
   below k w = elim (cases_lt k (length f)) [
     | inl less ↦ omega arith
-    | inr past ↦ let z = get_or_past f k 0 past in let a = w.reached in absurd (omega arith)
+    | inr past ↦ let z = get_or_past f k 0 past in let a = w.labelled in absurd (omega arith)
   ]

@@ -37,12 +37,12 @@ no_worse Max c own p q h prices j k a b = omega (arith, ints)
 module _ (l : ListedCosts) (prices : List ℤ) (owners all : List ℕ) (lim : AreInLimits l)
     (plan : IsPlan (cost_at l) (length l.rows) l.m (int_at prices) (at owners) (at all))
     (long : length all ≡ length l.rows + 1) (prices_long : length prices ≡ l.m + 1)
-    (served : (i : ℕ) → 0 < i → i ≤ length l.rows → 0 < at all i) where
+    (assigned : (i : ℕ) → 0 < i → i ≤ length l.rows → 0 < at all i) where
   rest_long : length l.rows ≡ length (drop 1 all)
   rest_long = let a = length-drop 1 all in omega arith
 
   chosen : (i : ℕ) → 0 < i → i ≤ length l.rows → IsChosen (cost_at l) (int_at prices) i (at all i)
-  chosen i some last = plan.chosen i (served i some last)
+  chosen i some last = plan.chosen i (assigned i some last)
 
   listed : (i : ℕ) → 0 < i → i ≤ length l.rows → IsListed l.rows i (at all i)
   listed i some last = listed_from_cost l i (at all i) (chosen i some last).listed
@@ -89,8 +89,8 @@ module _ (l : ListedCosts) (prices : List ℤ) (owners all : List ℕ) (lim : Ar
   distinct : IsDistinct nat_eq (drop 1 all)
   distinct = IsDistinct-from_apart nat_eq (drop 1 all) (λ i k z lt last.
       let a = rest_long in
-      let one = served (i + 1) (omega arith) (omega arith) in
-      let two = served (k + 1) (omega arith) (omega arith) in
+      let one = assigned (i + 1) (omega arith) (omega arith) in
+      let two = assigned (k + 1) (omega arith) (omega arith) in
       rw (at_rest i z (omega arith), at_rest k z last) (differ (at all (i + 1)) (at all (k + 1)) (λ e.
       let q : i + 1 ≡ k + 1 = sym (plan.matched.owning (i + 1) one).back ∙ ap (at owners) e
       ∙ (plan.matched.owning (k + 1) two).back in omega arith)))

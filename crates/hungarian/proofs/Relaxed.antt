@@ -33,7 +33,7 @@ pub kept_better : (b : Bool) (i : ℕ) (c w : ℤ) (rank : ℕ) (d : ℤ) (f : �
 kept_better b i c w rank d f path is false_is sum = inl (record {
   cost = refl;
   person = refl;
-  reached = λ listed unscanned. elim
+  labelled = λ listed unscanned. elim
       (none_or_some f) [ inl none ↦ let z = is.1 (inl none) in absurd cc | inr some ↦ some ];
   least = λ listed unscanned. from (lt_z path d) refl;
 }) where
@@ -46,7 +46,7 @@ pub kept_away : (b : Bool) (i : ℕ) (c w : ℤ) (rank : ℕ) (d : ℤ) (f : ℕ
 kept_away b i c w rank d f is false_is = inl (record {
   cost = refl;
   person = refl;
-  reached = λ listed unscanned. let z = is.1 (listed, unscanned) in absurd cc;
+  labelled = λ listed unscanned. let z = is.1 (listed, unscanned) in absurd cc;
   least = λ listed unscanned. let z = is.1 (listed, unscanned) in absurd cc;
 })
 
@@ -95,7 +95,7 @@ relaxed_all c i w row ranks d f d2 f2 is within e1 e2 e3 e4 h k = elim (cases_lt
   | inr past ↦ inl (record {
     cost = get_or_past d2 k (pos 0) (omega arith) ∙ sym (get_or_past d k (pos 0) (omega arith));
     person = get_or_past f2 k 0 (omega arith) ∙ sym (get_or_past f k 0 (omega arith));
-    reached = λ listed none. let z = within k listed in absurd (omega arith);
+    labelled = λ listed none. let z = within k listed in absurd (omega arith);
     least = λ listed none. let z = within k listed in absurd (omega arith);
   })
 ]

@@ -13,7 +13,7 @@ use Rattle.hungarian.proofs.Costs.{cost_number, costs_or_marks}
 use Rattle.hungarian.proofs.Beginning.{tree_begins}
 use Rattle.hungarian.proofs.Growing.{none_or_some, path_fits, tree_grows}
 use Rattle.hungarian.proofs.Orders.{order_begins, order_grows, too_many}
-use Rattle.hungarian.proofs.Served.{zeros_at}
+use Rattle.hungarian.proofs.Assigned.{zeros_at}
 
 -- no object has the number 0 of a path
 pub nobody_before : (l : ListedCosts) (plan : Plan) (s t : ℕ) (tree : Tree) → AreInLimits l → IsPlanned l plan →
@@ -22,7 +22,7 @@ nobody_before l plan s t tree lim planned g = elim (none_or_some (at tree.predec
   | inl none ↦ none
   | inr some ↦
       let z = g.long.predecessors_long in
-      let step = (g.tree_is.reached 0 some).step in
+      let step = (g.tree_is.labelled 0 some).step in
       let number = cost_number l (at tree.predecessors.items 0) 0 lim step.listed in
       let first = number.first in absurd (omega arith)
 ]
@@ -52,7 +52,7 @@ module _ (l : ListedCosts) (plan : Plan) (s t : ℕ) (tree : Tree) (j : ℕ) (li
       path_fits (cost_at l) (int_at plan.prices.items) (at plan.owners.items) (at plan.objects.items) s t g.distance
       (int_at tree.to_objects.items) (int_at tree.to_persons.items) (at tree.predecessors.items)
       (at tree.ranks.items) j
-      (costs_or_marks l lim) g.tree_is (omega arith) near.waits.reached
+      (costs_or_marks l lim) g.tree_is (omega arith) near.waits.labelled
 
   pub ended_search : (tree2 : Tree) → at plan.owners.items j ≡ 0 → tree2 ≡ record tree { ranks = tree2.ranks } →
       tree2.ranks.items ≡ set tree.ranks.items j (t + 1) → IsSearched l plan s tree2 j

@@ -1,4 +1,4 @@
-// Where no unowned object is reached, the scanned persons and objects are a Hall set.
+// Where no unowned object is labelled, the scanned persons and objects are a Hall set.
 ghost use Rattle.std.specs.Prelude.{◌≡◌, ℕ, ◌<◌, ◌≤◌, ◌+◌, ◌^◌, ◌↔◌, ◌++◌, [], ◌∷◌, true, false, IsTrue, Contains, length, IfOk};
 ghost use Rattle.std.specs.List.Sorted.{IsStrictlyIncreasing};
 ghost use Rattle.hungarian.specs.inside.Plans.{at};

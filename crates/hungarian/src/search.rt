@@ -182,7 +182,7 @@ fn nearest_object(plan: &Plan, tree: &Tree) -> usize
     )
 }
 
-// The paths from a person that has no object, and the nearest unowned object; 0 if none is reached.
+// The paths from a person that has no object, and the nearest unowned object; 0 if none is labelled.
 pub fn search(
     alloc: Global,
     lists: &CostLists<'_>,

@@ -1,9 +1,9 @@
-// The method: persons are served one after another.
+// The method: persons are assigned one after another.
 ghost use Rattle.std.specs.Prelude.{◌≡◌, ◌+◌, ◌-◌, ◌<◌, None, length, IfOk, IfSome};
 ghost use Rattle.assign_core.specs.Numbered.{IsNumber};
 ghost use Rattle.assign_core.specs.Hall.{IsHallSet};
 ghost use Rattle.hungarian.specs.Outcomes.{IsOutcome};
-ghost use Rattle.hungarian.specs.inside.Stored.{IsPlanned, IsSearched, IsServedTo};
+ghost use Rattle.hungarian.specs.inside.Stored.{IsPlanned, IsSearched, IsAssignedTo};
 
 use super::augmenting::augment;
 use super::finishing::finish;
@@ -21,11 +21,11 @@ use std::alloc::{AllocError, Global};
 fn give(lists: &CostLists<'_>, plan: &mut Plan, tree: &Tree, person: Person, end: Object)
     requires plan { IsPlanned lists.now plan.old }
     requires person { IsNumber (length lists.now.rows) person }
-    requires served { IsServedTo (person - 1) plan.old.objects.items }
+    requires assigned { IsAssignedTo (person - 1) plan.old.objects.items }
     requires tree { IsSearched lists.now plan.old person tree.now end }
     requires end { 0 < end }
     ensures plan { IsPlanned lists.now plan.new }
-    ensures served { IsServedTo person plan.new.objects.items }
+    ensures assigned { IsAssignedTo person plan.new.objects.items }
 {
     // This call shows the prover that there are few enough persons.
     let _persons = lists.persons();
@@ -40,7 +40,7 @@ fn give(lists: &CostLists<'_>, plan: &mut Plan, tree: &Tree, person: Person, end
     );
 }
 
-// The Hall set of a search that reached no unowned object.
+// The Hall set of a search that labelled no unowned object.
 fn refute(
     alloc: Global,
     lists: &CostLists<'_>,
@@ -71,11 +71,11 @@ fn serve(
     requires row { length row.old ≡ lists.now.m + 1 }
     requires plan { IsPlanned lists.now plan.old }
     requires person { IsNumber (length lists.now.rows) person }
-    requires served { IsServedTo (person - 1) plan.old.objects.items }
+    requires assigned { IsAssignedTo (person - 1) plan.old.objects.items }
     ensures hall { IfOk result (λ r. IfSome r (λ set.
         IsHallSet lists.now.rows set.persons.items set.objects.items)) }
     ensures plan { IfOk result (λ r. r ≡ None → IsPlanned lists.now plan.new) }
-    ensures served { IfOk result (λ r. r ≡ None → IsServedTo person plan.new.objects.items) }
+    ensures assigned { IfOk result (λ r. r ≡ None → IsAssignedTo person plan.new.objects.items) }
 {
     let (tree, end) = search(alloc, lists, row, plan, person)?;
     if end == 0 {
@@ -89,7 +89,7 @@ fn serve(
 // The plan in which nobody has an object.
 fn first_plan(alloc: Global, lists: &CostLists<'_>) -> Result<Plan, AllocError>
     ensures plan { IfOk result (λ p. IsPlanned lists.now p) }
-    ensures served { IfOk result (λ p. IsServedTo 0 p.objects.items) }
+    ensures assigned { IfOk result (λ p. IsAssignedTo 0 p.objects.items) }
 {
     let plan = Plan::new(alloc, lists.persons(), lists.objects())?;
     Ok(plan)

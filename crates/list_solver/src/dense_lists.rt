@@ -4,7 +4,7 @@ ghost use Rattle.std.specs.Prelude.{◌≡◌, length};
 use super::found::Ended;
 use super::places::{to_numbers, to_places};
 use super::record::Record;
-use super::standing::Standing;
+use super::state::SearchState;
 use super::whole::all_of_rows;
 use assign_core::{Cost, Sense};
 use cost_lists::{Object, Person, Price};
@@ -45,11 +45,11 @@ pub fn search_rows(
     n: Person,
     m: Object,
     costs: &[Cost],
-    standing: &mut Standing,
+    state: &mut SearchState,
     budget: u64,
 ) -> Result<Ended, AllocError>
-    ensures prices { length standing.new.prices.items ≡ length standing.old.prices.items }
-    ensures objects { length standing.new.objects.items ≡ length standing.old.objects.items }
+    ensures prices { length state.new.prices.items ≡ length state.old.prices.items }
+    ensures objects { length state.new.objects.items ≡ length state.old.objects.items }
 {
     if n > m {
         return Ok(Ended::Hall(all_of_rows(alloc, n, m)?));
@@ -60,15 +60,15 @@ pub fn search_rows(
         objects: m as usize,
         costs,
     };
-    let mut record = standing.record.to_dense(standing.has_nothing());
+    let mut record = state.record.to_dense(state.has_nothing());
     let outcome = search_places(
         alloc,
         problem,
-        &mut standing.prices,
-        &mut standing.objects,
+        &mut state.prices,
+        &mut state.objects,
         &mut record,
         budget,
     );
-    standing.record = Record::of_dense(&record);
+    state.record = Record::of_dense(&record);
     Ok(ended_as(outcome?))
 }

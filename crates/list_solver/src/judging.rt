@@ -4,7 +4,7 @@ ghost use Rattle.assign_core.specs.Hall.{IsHallSet};
 ghost use Rattle.list_solver.specs.Found.{IsFound, MayStop};
 
 use super::found::{Ended, Found};
-use super::standing::Standing;
+use super::state::SearchState;
 use assign_core::Cost;
 use cost_lists::CostLists;
 use exact_checker::{HallVerdict, Verdict, check, check_hall};
@@ -15,12 +15,12 @@ use std::alloc::{AllocError, Global};
 fn cost_of(
     alloc: Global,
     lists: &CostLists<'_>,
-    standing: &Standing,
+    state: &SearchState,
 ) -> Result<Option<Cost>, AllocError>
     ensures { IfOk result (λ cost. IfSome cost
-        (λ sum. IsFound lists.now standing.now (Found.Best sum))) }
+        (λ sum. IsFound lists.now state.now (Found.Best sum))) }
 {
-    let (objects, prices) = (standing.objects.as_slice(), standing.prices.as_slice());
+    let (objects, prices) = (state.objects.as_slice(), state.prices.as_slice());
     if check(alloc, lists, objects, prices)? != Verdict::Yes {
         return Ok(None);
     }
@@ -39,17 +39,17 @@ fn is_hall(alloc: Global, lists: &CostLists<'_>, set: &HallSet) -> Result<bool, 
 pub fn judge(
     alloc: Global,
     lists: &CostLists<'_>,
-    standing: &Standing,
+    state: &SearchState,
     budget: u64,
     ended: Ended,
 ) -> Result<Option<Found>, AllocError>
     ensures found { IfOk result
-        (λ found. MatchOption found (Unit {0}) (IsFound lists.now standing.now)) }
+        (λ found. MatchOption found (Unit {0}) (IsFound lists.now state.now)) }
     ensures allowed { IfOk result (λ found. MatchOption found (Unit {0}) (MayStop budget)) }
 {
     match ended {
         Ended::Best => {
-            if let Some(total) = cost_of(alloc, lists, standing)? {
+            if let Some(total) = cost_of(alloc, lists, state)? {
                 return Ok(Some(Found::Best(total)));
             }
         }

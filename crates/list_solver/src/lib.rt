@@ -11,7 +11,7 @@ mod places;
 mod proved;
 mod record;
 mod solver;
-mod standing;
+mod state;
 mod whole;
 
 pub use found::Found;
@@ -19,4 +19,4 @@ pub use grouped::Grouped;
 pub use hungarian::HallSet;
 pub use record::Record;
 pub use solver::solve_lists;
-pub use standing::Standing;
+pub use state::SearchState;

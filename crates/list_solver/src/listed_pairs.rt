@@ -5,7 +5,7 @@ use super::found::Ended;
 use super::grouped::Grouped;
 use super::places::{to_numbers, to_places};
 use super::record::Record;
-use super::standing::Standing;
+use super::state::SearchState;
 use super::whole::all_of_pairs;
 use assign_core::Sense;
 use cost_lists::{Object, Pairs, Person, Price};
@@ -13,12 +13,12 @@ use hungarian::HallSet;
 use sparse_search::{Outcome, Record as SparseRecord, SparseProblem, search};
 use std::alloc::{AllocError, Global};
 
-// Whether far more objects are dear than there are persons. At exact prices no unowned object is, and
+// Whether far more objects are overpriced than there are persons. At exact prices no unowned object is, and
 // to bring so many down takes longer than a search without prices.
 fn are_far_off(prices: &[Price], persons: usize) -> bool {
     let least = prices.iter().copied().min().unwrap_or(0);
-    let dear = prices.iter().filter(|price| **price > least).count();
-    dear > persons.saturating_add(persons / 256).saturating_add(8)
+    let overpriced = prices.iter().filter(|price| **price > least).count();
+    overpriced > persons.saturating_add(persons / 256).saturating_add(8)
 }
 
 // Prices in the unit of the costs as prices of the search.
@@ -75,30 +75,30 @@ fn search_places(
 fn search_grouped(
     alloc: Global,
     grouped: &Grouped,
-    standing: &mut Standing,
+    state: &mut SearchState,
     budget: u64,
 ) -> Result<Ended, AllocError>
-    ensures prices { length standing.new.prices.items ≡ length standing.old.prices.items }
-    ensures objects { length standing.new.objects.items ≡ length standing.old.objects.items }
+    ensures prices { length state.new.prices.items ≡ length state.old.prices.items }
+    ensures objects { length state.new.objects.items ≡ length state.old.objects.items }
 {
-    let persons = standing.objects.len();
-    let has_nothing = standing.has_nothing() || are_far_off(standing.prices.as_slice(), persons);
-    let mut record = standing.record.to_sparse(has_nothing);
-    if standing.record.begins_sparse() && grouped.factor != 1 {
-        divide(standing.prices.as_mut_slice(), grouped.factor);
+    let persons = state.objects.len();
+    let has_nothing = state.has_nothing() || are_far_off(state.prices.as_slice(), persons);
+    let mut record = state.record.to_sparse(has_nothing);
+    if state.record.begins_sparse() && grouped.factor != 1 {
+        divide(state.prices.as_mut_slice(), grouped.factor);
     }
     let outcome = search_places(
         alloc,
         grouped.problem(),
-        &mut standing.prices,
-        &mut standing.objects,
+        &mut state.prices,
+        &mut state.objects,
         &mut record,
         budget,
     );
-    standing.record = Record::of_sparse(&record);
+    state.record = Record::of_sparse(&record);
     let ended = ended_as(outcome?);
     if matches!(&ended, Ended::Best) && grouped.factor != 1 {
-        multiply(standing.prices.as_mut_slice(), grouped.factor);
+        multiply(state.prices.as_mut_slice(), grouped.factor);
     }
     Ok(ended)
 }
@@ -110,15 +110,15 @@ pub fn search_pairs(
     n: Person,
     m: Object,
     pairs: Pairs<'_>,
-    standing: &mut Standing,
+    state: &mut SearchState,
     budget: u64,
 ) -> Result<Ended, AllocError>
-    ensures prices { length standing.new.prices.items ≡ length standing.old.prices.items }
-    ensures objects { length standing.new.objects.items ≡ length standing.old.objects.items }
+    ensures prices { length state.new.prices.items ≡ length state.old.prices.items }
+    ensures objects { length state.new.objects.items ≡ length state.old.objects.items }
 {
     if n > m {
         return Ok(Ended::Hall(all_of_pairs(alloc, n, m, pairs)?));
     }
     let grouped = Grouped::of(alloc, sense, n, m, pairs)?;
-    search_grouped(alloc, &grouped, standing, budget)
+    search_grouped(alloc, &grouped, state, budget)
 }

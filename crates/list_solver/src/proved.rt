@@ -3,7 +3,7 @@ ghost use Rattle.std.specs.Prelude.{◌≡◌, length, IfOk};
 ghost use Rattle.list_solver.specs.Found.{IsFound, MayStop};
 
 use super::found::Found;
-use super::standing::Standing;
+use super::state::SearchState;
 use cost_lists::CostLists;
 use hungarian::{Outcome, solve};
 use std::alloc::{AllocError, Global};
@@ -12,20 +12,20 @@ use std::alloc::{AllocError, Global};
 pub fn decide(
     alloc: Global,
     lists: &CostLists<'_>,
-    standing: &mut Standing,
+    state: &mut SearchState,
 ) -> Result<Found, AllocError>
-    requires prices { length standing.old.prices.items ≡ lists.now.m }
-    requires objects { length standing.old.objects.items ≡ length lists.now.rows }
-    ensures prices { length standing.new.prices.items ≡ length standing.old.prices.items }
-    ensures objects { length standing.new.objects.items ≡ length standing.old.objects.items }
-    ensures found { IfOk result (IsFound lists.now standing.new) }
+    requires prices { length state.old.prices.items ≡ lists.now.m }
+    requires objects { length state.old.objects.items ≡ length lists.now.rows }
+    ensures prices { length state.new.prices.items ≡ length state.old.prices.items }
+    ensures objects { length state.new.objects.items ≡ length state.old.objects.items }
+    ensures found { IfOk result (IsFound lists.now state.new) }
     ensures allowed { IfOk result (MayStop 0) }
 {
     match solve(alloc, lists)? {
         Outcome::Best(best) => {
             let total = lists.total(alloc, best.objects.as_slice())?;
-            standing.objects = best.objects;
-            standing.prices = best.prices;
+            state.objects = best.objects;
+            state.prices = best.prices;
             Ok(Found::Best(total))
         }
         Outcome::Hall(set) => Ok(Found::Hall(set)),

@@ -61,8 +61,8 @@ pub struct Record {
     pub dummy_bids: u32,
     /// 1: an assignment is known to exist.
     pub flags: u32,
-    /// The looks at pairs of all calls.
-    pub looks: u64,
+    /// The arc scans of all calls.
+    pub arc_scans: u64,
 }
 
 fn dense_stage(number: u32) -> Option<DenseStage> {
@@ -135,8 +135,8 @@ fn flag(is_set: bool, bit: u32) -> u32 {
     if is_set { bit } else { 0 }
 }
 
-// More looks than any search takes.
-const MOST_LOOKS: u64 = 1 << 62;
+// More arc scans than any search takes.
+const MOST_ARC_SCANS: u64 = 1 << 62;
 
 impl Record {
     /// A search that begins.
@@ -149,13 +149,13 @@ impl Record {
             passes: 0,
             dummy_bids: 0,
             flags: 0,
-            looks: 0,
+            arc_scans: 0,
         }
     }
 
-    // The looks so far, with room for more.
-    fn looks_so_far(&self) -> u64 {
-        self.looks.min(MOST_LOOKS)
+    // The arc scans so far, with room for more.
+    fn arc_scans_so_far(&self) -> u64 {
+        self.arc_scans.min(MOST_ARC_SCANS)
     }
 
     // For the search over rows. A search begins with nothing, or with what somebody has.
@@ -167,7 +167,7 @@ impl Record {
         };
         match dense_stage(self.stage) {
             None => DenseRecord {
-                looks: self.looks_so_far(),
+                arc_scans: self.arc_scans_so_far(),
                 ..begun
             },
             Some(stage) => DenseRecord {
@@ -177,7 +177,7 @@ impl Record {
                 bids: self.bids,
                 passes: self.passes,
                 restarts: self.dummy_bids,
-                looks: self.looks_so_far(),
+                arc_scans: self.arc_scans_so_far(),
             },
         }
     }
@@ -191,7 +191,7 @@ impl Record {
         };
         match sparse_stage(self.stage) {
             None => SparseRecord {
-                looks: self.looks_so_far(),
+                arc_scans: self.arc_scans_so_far(),
                 ..begun
             },
             Some(stage) => SparseRecord {
@@ -203,7 +203,7 @@ impl Record {
                 has_assignment: self.flags & HAS_ASSIGNMENT != 0,
                 place: (self.passes & 0xffff_ffff) as u32,
                 usual: (self.passes >> 32) as u32,
-                looks: self.looks_so_far(),
+                arc_scans: self.arc_scans_so_far(),
             },
         }
     }
@@ -226,7 +226,7 @@ impl Record {
             passes: record.passes,
             dummy_bids: record.restarts,
             flags: 0,
-            looks: record.looks,
+            arc_scans: record.arc_scans,
         }
     }
 
@@ -239,7 +239,7 @@ impl Record {
             passes: u64::from(record.usual) << 32 | u64::from(record.place),
             dummy_bids: record.dummy_bids,
             flags: flag(record.has_assignment, HAS_ASSIGNMENT),
-            looks: record.looks,
+            arc_scans: record.arc_scans,
         }
     }
 }

@@ -8,23 +8,23 @@ use super::judging::judge;
 use super::listed_pairs::search_pairs;
 use super::proved::decide;
 use super::record::Record;
-use super::standing::Standing;
+use super::state::SearchState;
 use cost_lists::{CostLists, Source};
 use std::alloc::{AllocError, Global};
 
 fn search_lists(
     alloc: Global,
     lists: &CostLists<'_>,
-    standing: &mut Standing,
+    state: &mut SearchState,
     budget: u64,
 ) -> Result<Ended, AllocError>
-    ensures prices { length standing.new.prices.items ≡ length standing.old.prices.items }
-    ensures objects { length standing.new.objects.items ≡ length standing.old.objects.items }
+    ensures prices { length state.new.prices.items ≡ length state.old.prices.items }
+    ensures objects { length state.new.objects.items ≡ length state.old.objects.items }
 {
     let (sense, n, m) = (lists.sense(), lists.persons(), lists.objects());
     match lists.source() {
-        Source::Dense(costs) => search_rows(alloc, sense, n, m, costs, standing, budget),
-        Source::Listed(pairs) => search_pairs(alloc, sense, n, m, pairs, standing, budget),
+        Source::Dense(costs) => search_rows(alloc, sense, n, m, costs, state, budget),
+        Source::Listed(pairs) => search_pairs(alloc, sense, n, m, pairs, state, budget),
     }
 }
 
@@ -32,17 +32,17 @@ fn search_lists(
 fn try_once(
     alloc: Global,
     lists: &CostLists<'_>,
-    standing: &mut Standing,
+    state: &mut SearchState,
     budget: u64,
 ) -> Result<Option<Found>, AllocError>
-    ensures prices { length standing.new.prices.items ≡ length standing.old.prices.items }
-    ensures objects { length standing.new.objects.items ≡ length standing.old.objects.items }
+    ensures prices { length state.new.prices.items ≡ length state.old.prices.items }
+    ensures objects { length state.new.objects.items ≡ length state.old.objects.items }
     ensures found { IfOk result
-        (λ found. MatchOption found (Unit {0}) (IsFound lists.now standing.new)) }
+        (λ found. MatchOption found (Unit {0}) (IsFound lists.now state.new)) }
     ensures allowed { IfOk result (λ found. MatchOption found (Unit {0}) (MayStop budget)) }
 {
-    let ended = search_lists(alloc, lists, standing, budget)?;
-    judge(alloc, lists, standing, budget, ended)
+    let ended = search_lists(alloc, lists, state, budget)?;
+    judge(alloc, lists, state, budget, ended)
 }
 
 fn clear_prices(prices: &mut [i64]) {
@@ -57,15 +57,15 @@ fn clear_objects(objects: &mut [u32]) {
     }
 }
 
-// Lets the search begin with nothing; the looks so far stay.
-fn begin_anew(standing: &mut Standing)
-    ensures prices { length standing.new.prices.items ≡ length standing.old.prices.items }
-    ensures objects { length standing.new.objects.items ≡ length standing.old.objects.items }
+// Lets the search begin with nothing; the arc scans so far stay.
+fn begin_anew(state: &mut SearchState)
+    ensures prices { length state.new.prices.items ≡ length state.old.prices.items }
+    ensures objects { length state.new.objects.items ≡ length state.old.objects.items }
 {
-    clear_prices(standing.prices.as_mut_slice());
-    clear_objects(standing.objects.as_mut_slice());
-    standing.record = Record {
-        looks: standing.record.looks,
+    clear_prices(state.prices.as_mut_slice());
+    clear_objects(state.objects.as_mut_slice());
+    state.record = Record {
+        arc_scans: state.record.arc_scans,
         ..Record::cold()
     };
 }
@@ -74,31 +74,31 @@ fn begin_anew(standing: &mut Standing)
 fn try_anew(
     alloc: Global,
     lists: &CostLists<'_>,
-    standing: &mut Standing,
+    state: &mut SearchState,
     is_first: bool,
 ) -> Result<Found, AllocError>
-    requires prices { length standing.old.prices.items ≡ lists.now.m }
-    requires objects { length standing.old.objects.items ≡ length lists.now.rows }
-    ensures prices { length standing.new.prices.items ≡ length standing.old.prices.items }
-    ensures objects { length standing.new.objects.items ≡ length standing.old.objects.items }
-    ensures found { IfOk result (IsFound lists.now standing.new) }
+    requires prices { length state.old.prices.items ≡ lists.now.m }
+    requires objects { length state.old.objects.items ≡ length lists.now.rows }
+    ensures prices { length state.new.prices.items ≡ length state.old.prices.items }
+    ensures objects { length state.new.objects.items ≡ length state.old.objects.items }
+    ensures found { IfOk result (IsFound lists.now state.new) }
     ensures allowed { IfOk result (MayStop 0) }
 {
     if !is_first {
-        begin_anew(standing);
-        if let Some(found) = try_once(alloc, lists, standing, 0)? {
+        begin_anew(state);
+        if let Some(found) = try_once(alloc, lists, state, 0)? {
             return Ok(found);
         }
     }
-    decide(alloc, lists, standing)
+    decide(alloc, lists, state)
 }
 
 /// An optimal assignment with exact prices, or a Hall set: each problem has one of them. A call first
-/// passes over all pairs, and then stops after about `budget` looks at pairs (0: it doesn't).
+/// passes over all pairs, and then stops after about `budget` arc scans (0: it doesn't).
 ///
-/// A record whose stage is 0 begins: from the prices and the objects of the standing, or with nothing
+/// A record whose stage is 0 begins: from the prices and the objects of the state, or with nothing
 /// if all prices are 0. Objects that aren't from 1 to `m`, or are given twice, count as nobody's.
-/// Prices may be left out if far more objects are dear than there are persons. Any other stage goes on
+/// Prices may be left out if far more objects are overpriced than there are persons. Any other stage goes on
 /// from the prices, the objects and the record, as a `Stopped` call left them. Whatever they hold, the
 /// answer is as good: `Best` and `Hall` are what the checker accepts. Where a search from there finds
 /// nothing that it accepts, another one begins with nothing; and where that doesn't either, a proved
@@ -109,19 +109,19 @@ fn try_anew(
 pub fn solve_lists(
     alloc: Global,
     lists: &CostLists<'_>,
-    standing: &mut Standing,
+    state: &mut SearchState,
     budget: u64,
 ) -> Result<Found, AllocError>
-    requires prices { length standing.old.prices.items ≡ lists.now.m }
-    requires objects { length standing.old.objects.items ≡ length lists.now.rows }
-    ensures prices { length standing.new.prices.items ≡ length standing.old.prices.items }
-    ensures objects { length standing.new.objects.items ≡ length standing.old.objects.items }
-    ensures found { IfOk result (IsFound lists.now standing.new) }
+    requires prices { length state.old.prices.items ≡ lists.now.m }
+    requires objects { length state.old.objects.items ≡ length lists.now.rows }
+    ensures prices { length state.new.prices.items ≡ length state.old.prices.items }
+    ensures objects { length state.new.objects.items ≡ length state.old.objects.items }
+    ensures found { IfOk result (IsFound lists.now state.new) }
     ensures allowed { IfOk result (MayStop budget) }
 {
-    let is_first = standing.record.stage == 0 && standing.has_nothing();
-    if let Some(found) = try_once(alloc, lists, standing, budget)? {
+    let is_first = state.record.stage == 0 && state.has_nothing();
+    if let Some(found) = try_once(alloc, lists, state, budget)? {
         return Ok(found);
     }
-    try_anew(alloc, lists, standing, is_first)
+    try_anew(alloc, lists, state, is_first)
 }

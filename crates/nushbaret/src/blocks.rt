@@ -1,12 +1,12 @@
 // The calls on a block of a greater problem, as `c/nushbaret.h` declares them.
-ghost use Rattle.lent_blocks.specs.Blocks.{BlockBuffers, JudgesBlock, block_given};
-ghost use Rattle.lent_blocks.specs.DoubleBlocks.{JudgesDoubles, Numbers, Shown, double_block};
+ghost use Rattle.c_blocks.specs.Blocks.{BlockBuffers, JudgesBlock, block_input};
+ghost use Rattle.c_blocks.specs.DoubleBlocks.{JudgesDoubles, Numbers, Shown, double_block};
 
 use assign_core::Cost;
-use c_calls::doubles::{DoublesInfo, Given as GivenDoubles};
-use c_calls::lists::{Given, Info, form_of};
+use c_blocks::{block_on, doubles_block_on, one_length};
+use c_calls::doubles::{DoublesInfo, Input as InputDoubles};
+use c_calls::lists::{Info, Input, form_of};
 use cost_lists::{Object, Person, Price};
-use lent_blocks::{block_on, doubles_block_on, one_length};
 use std::alloc::Global;
 
 /// Looks at `n` persons of a greater problem, or at some of their pairs, whose other pairs lie elsewhere:
@@ -51,7 +51,7 @@ pub extern "C" fn nushbaret_block(
           };
           info = info.new;
         } in
-        JudgesBlock (block_given sense n m of_persons.now of_objects.now costs.now objects.now numbers.now prices.now before)
+        JudgesBlock (block_input sense n m of_persons.now of_objects.now costs.now objects.now numbers.now prices.now before)
         objects.now numbers.now before after result }
 {
     let is_one = better_objects.len() == better_persons.len()
@@ -64,7 +64,7 @@ pub extern "C" fn nushbaret_block(
         one_length(is_one, n),
     ];
     let by_object = [prices.len()];
-    let given = Given {
+    let input = Input {
         form: form_of(of_persons, of_objects, costs),
         sense,
         n,
@@ -78,7 +78,7 @@ pub extern "C" fn nushbaret_block(
     };
     block_on(
         alloc,
-        &given,
+        &input,
         objects,
         numbers,
         most,
@@ -137,7 +137,7 @@ pub extern "C" fn nushbaret_block_doubles(
         own.len(),
     ];
     let by_object = [prices.len()];
-    let given = GivenDoubles {
+    let input = InputDoubles {
         sense,
         n,
         m,
@@ -146,7 +146,7 @@ pub extern "C" fn nushbaret_block_doubles(
         costs,
     };
     doubles_block_on(
-        &given,
+        &input,
         objects,
         number_costs,
         number_prices,

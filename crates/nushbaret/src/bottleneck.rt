@@ -1,10 +1,10 @@
-// The call that looks for a bottleneck, as `c/nushbaret.h` declares it.
+// The call that arc scans for a bottleneck, as `c/nushbaret.h` declares it.
 ghost use Rattle.std.specs.Prelude.{◌≡◌, ◌≢◌, pos};
-ghost use Rattle.lent_bottleneck.specs.Bottleneck.{FindsBottleneck, bottleneck_given, buffers};
+ghost use Rattle.c_bottleneck.specs.Bottleneck.{FindsBottleneck, bottleneck_input, buffers};
 
-use c_calls::lists::{Given, Info, form_of};
+use c_bottleneck::bottleneck_on;
+use c_calls::lists::{Info, Input, form_of};
 use cost_lists::{Object, Person};
-use lent_bottleneck::bottleneck_on;
 use list_solver::Record;
 use std::alloc::Global;
 
@@ -27,12 +27,12 @@ pub extern "C" fn nushbaret_bottleneck(
     info: &mut Info,
 ) -> i32
     ensures finds { let before = buffers objects.old persons.old few.old info.old in
-        FindsBottleneck (bottleneck_given sense n m of_persons.now of_objects.now costs.now before) budget
+        FindsBottleneck (bottleneck_input sense n m of_persons.now of_objects.now costs.now before) budget
         before (buffers objects.new persons.new few.new info.new) result }
     ensures progress { result ≢ pos 21 → progress.new ≡ progress.old }
 {
     let by_person = [objects.len(), persons.len(), few.len()];
-    let given = Given {
+    let input = Input {
         form: form_of(of_persons, of_objects, costs),
         sense,
         n,
@@ -44,5 +44,5 @@ pub extern "C" fn nushbaret_bottleneck(
         costs,
         first: &[],
     };
-    bottleneck_on(alloc, &given, objects, persons, few, budget, progress, info)
+    bottleneck_on(alloc, &input, objects, persons, few, budget, progress, info)
 }

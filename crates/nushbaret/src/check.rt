@@ -1,10 +1,10 @@
 // The calls that check answers, as `c/nushbaret.h` declares them.
 ghost use Rattle.std.specs.Prelude.{◌⊎◌};
 ghost use Rattle.c_calls.specs.lists.Checks.{IsHallJudged, IsJudged, IsRefused};
-ghost use Rattle.c_calls.specs.lists.Given.{either};
+ghost use Rattle.c_calls.specs.lists.Input.{either};
 
 use c_calls::lists::{
-    Given, Info, form_of, hall_verdict_on, refuse, report_hall_verdict, report_verdict, verdict_on,
+    Info, Input, form_of, hall_verdict_on, refuse, report_hall_verdict, report_verdict, verdict_on,
 };
 use cost_lists::{Object, Person, Price};
 use std::alloc::Global;
@@ -24,11 +24,11 @@ pub extern "C" fn nushbaret_check(
     prices: &[Price],
     info: &mut Info,
 ) -> i32
-    ensures { let given = either sense n m of_persons.now of_objects.now costs.now in
-        IsJudged given objects.now prices.now info.old info.new result
-        ⊎ IsRefused given info.old info.new result }
+    ensures { let input = either sense n m of_persons.now of_objects.now costs.now in
+        IsJudged input objects.now prices.now info.old info.new result
+        ⊎ IsRefused input info.old info.new result }
 {
-    let given = Given {
+    let input = Input {
         form: form_of(of_persons, of_objects, costs),
         sense,
         n,
@@ -40,7 +40,7 @@ pub extern "C" fn nushbaret_check(
         costs,
         first: &[],
     };
-    match verdict_on(alloc, &given, objects, prices) {
+    match verdict_on(alloc, &input, objects, prices) {
         Ok(verdict) => report_verdict(verdict, info),
         Err(fault) => refuse(fault, info),
     }
@@ -59,11 +59,11 @@ pub extern "C" fn nushbaret_check_hall(
     objects: &[Object],
     info: &mut Info,
 ) -> i32
-    ensures { let given = either 0 n m of_persons.now of_objects.now costs.now in
-        IsHallJudged given persons.now objects.now info.old info.new result
-        ⊎ IsRefused given info.old info.new result }
+    ensures { let input = either 0 n m of_persons.now of_objects.now costs.now in
+        IsHallJudged input persons.now objects.now info.old info.new result
+        ⊎ IsRefused input info.old info.new result }
 {
-    let given = Given {
+    let input = Input {
         form: form_of(of_persons, of_objects, costs),
         sense: 0,
         n,
@@ -75,7 +75,7 @@ pub extern "C" fn nushbaret_check_hall(
         costs,
         first: &[],
     };
-    match hall_verdict_on(alloc, &given, persons, objects) {
+    match hall_verdict_on(alloc, &input, persons, objects) {
         Ok(verdict) => report_hall_verdict(verdict, info),
         Err(fault) => refuse(fault, info),
     }

@@ -1,11 +1,11 @@
 // The calls on problems with counts, as `c/nushbaret.h` declares them.
 ghost use Rattle.std.specs.Prelude.{◌≡◌, ◌≢◌, pos};
-ghost use Rattle.lent_counts.specs.Checks.{Judges, JudgesShortage};
-ghost use Rattle.lent_counts.specs.Ends.{Solves, buffers};
-ghost use Rattle.lent_counts.specs.Given.{given_counts};
+ghost use Rattle.c_counts.specs.Checks.{Judges, JudgesShortage};
+ghost use Rattle.c_counts.specs.Ends.{Solves, buffers};
+ghost use Rattle.c_counts.specs.Input.{input_counts};
 
+use c_counts::{CountsInfo, check_input, check_shortage_input, input_of, solve};
 use count_search::Record as CountsRecord;
-use lent_counts::{CountsInfo, check_given, check_shortage_given, given_of, solve};
 use std::alloc::Global;
 
 /// Solves a problem with counts and groups: its pairs by rising rows, or a cost for each row and each
@@ -29,7 +29,7 @@ pub extern "C" fn nushbaret_counts(
     column_marks: &mut [u8],
     info: &mut CountsInfo,
 ) -> i32
-    ensures { Solves (given_counts sense of_rows.now of_columns.now costs.now row_least.now row_most.now
+    ensures { Solves (input_counts sense of_rows.now of_columns.now costs.now row_least.now row_most.now
         column_least.now column_most.now groups.now) 0
         (buffers plan.old row_numbers.old column_numbers.old row_marks.old column_marks.old info.old)
         (buffers plan.new row_numbers.new column_numbers.new row_marks.new column_marks.new info.new)
@@ -81,14 +81,14 @@ pub extern "C" fn nushbaret_counts_from(
     progress: &mut CountsRecord,
     info: &mut CountsInfo,
 ) -> i32
-    ensures solves { Solves (given_counts sense of_rows.now of_columns.now costs.now row_least.now
+    ensures solves { Solves (input_counts sense of_rows.now of_columns.now costs.now row_least.now
         row_most.now column_least.now column_most.now groups.now) budget
         (buffers plan.old row_numbers.old column_numbers.old row_marks.old column_marks.old info.old)
         (buffers plan.new row_numbers.new column_numbers.new row_marks.new column_marks.new info.new)
         result }
     ensures progress { result ≢ pos 16 → progress.new ≡ progress.old }
 {
-    let given = given_of(
+    let input = input_of(
         sense,
         of_rows,
         of_columns,
@@ -101,7 +101,7 @@ pub extern "C" fn nushbaret_counts_from(
     );
     solve(
         alloc,
-        &given,
+        &input,
         budget,
         plan,
         row_numbers,
@@ -131,11 +131,11 @@ pub extern "C" fn nushbaret_check_counts(
     column_numbers: &[i64],
     info: &mut CountsInfo,
 ) -> i32
-    ensures { Judges (given_counts sense of_rows.now of_columns.now costs.now row_least.now row_most.now
+    ensures { Judges (input_counts sense of_rows.now of_columns.now costs.now row_least.now row_most.now
         column_least.now column_most.now groups.now)
         plan.now row_numbers.now column_numbers.now info.old info.new result }
 {
-    let given = given_of(
+    let input = input_of(
         sense,
         of_rows,
         of_columns,
@@ -146,7 +146,7 @@ pub extern "C" fn nushbaret_check_counts(
         column_most,
         groups,
     );
-    check_given(alloc, &given, plan, row_numbers, column_numbers, info)
+    check_input(alloc, &input, plan, row_numbers, column_numbers, info)
 }
 
 /// Checks marked rows and columns that are to show that there is no plan; the side is the code of rows,
@@ -168,11 +168,11 @@ pub extern "C" fn nushbaret_check_shortage(
     column_marks: &[u8],
     info: &mut CountsInfo,
 ) -> i32
-    ensures { JudgesShortage (given_counts sense of_rows.now of_columns.now costs.now row_least.now
+    ensures { JudgesShortage (input_counts sense of_rows.now of_columns.now costs.now row_least.now
         row_most.now column_least.now column_most.now groups.now)
         side row_marks.now column_marks.now info.old info.new result }
 {
-    let given = given_of(
+    let input = input_of(
         sense,
         of_rows,
         of_columns,
@@ -183,5 +183,5 @@ pub extern "C" fn nushbaret_check_shortage(
         column_most,
         groups,
     );
-    check_shortage_given(alloc, &given, side, row_marks, column_marks, info)
+    check_shortage_input(alloc, &input, side, row_marks, column_marks, info)
 }

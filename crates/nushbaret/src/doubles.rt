@@ -3,7 +3,7 @@ ghost use Rattle.std.specs.Prelude.{◌⊎◌};
 ghost use Rattle.c_calls.specs.doubles.Checks.{IsJudged, IsRefused, with_answer};
 ghost use Rattle.c_calls.specs.doubles.Ends.{Solves, buffers};
 
-use c_calls::doubles::{DoublesInfo, Given, check_given, solve_from, solve_given};
+use c_calls::doubles::{DoublesInfo, Input, check_input, solve_from, solve_input};
 use cost_lists::{Object, Person};
 use std::alloc::Global;
 
@@ -27,7 +27,7 @@ pub extern "C" fn nushbaret_doubles(
 {
     let by_person = [objects.len(), persons.len()];
     let by_object = [prices.len()];
-    let given = Given {
+    let input = Input {
         sense,
         n,
         m,
@@ -35,7 +35,7 @@ pub extern "C" fn nushbaret_doubles(
         by_object: &by_object,
         costs,
     };
-    solve_given(alloc, &given, objects, persons, prices, info)
+    solve_input(alloc, &input, objects, persons, prices, info)
 }
 
 /// The same from the objects and prices that are given.
@@ -57,7 +57,7 @@ pub extern "C" fn nushbaret_doubles_from(
 {
     let by_person = [objects.len(), persons.len()];
     let by_object = [prices.len()];
-    let given = Given {
+    let input = Input {
         sense,
         n,
         m,
@@ -65,7 +65,7 @@ pub extern "C" fn nushbaret_doubles_from(
         by_object: &by_object,
         costs,
     };
-    solve_from(alloc, &given, objects, persons, prices, info)
+    solve_from(alloc, &input, objects, persons, prices, info)
 }
 
 /// Checks a plan with its prices against a dense problem over doubles.
@@ -80,13 +80,13 @@ pub extern "C" fn nushbaret_check_doubles(
     prices: &[f64],
     info: &mut DoublesInfo,
 ) -> i32
-    ensures { let given = with_answer sense n m costs.now objects.now prices.now in
-        IsJudged given objects.now prices.now info.old info.new result
-        ⊎ IsRefused given info.old info.new result }
+    ensures { let input = with_answer sense n m costs.now objects.now prices.now in
+        IsJudged input objects.now prices.now info.old info.new result
+        ⊎ IsRefused input info.old info.new result }
 {
     let by_person = [objects.len()];
     let by_object = [prices.len()];
-    let given = Given {
+    let input = Input {
         sense,
         n,
         m,
@@ -94,5 +94,5 @@ pub extern "C" fn nushbaret_check_doubles(
         by_object: &by_object,
         costs,
     };
-    check_given(alloc, &given, objects, prices, info)
+    check_input(alloc, &input, objects, prices, info)
 }

@@ -1,9 +1,9 @@
 // The call that asks for the next best plan, as `c/nushbaret.h` declares it.
-ghost use Rattle.lent_plans.specs.Next.{JudgesNext, next_buffers, next_given};
+ghost use Rattle.c_plans.specs.Next.{JudgesNext, next_buffers, next_input};
 
-use c_calls::lists::{Given, Info, form_of};
+use c_calls::lists::{Info, Input, form_of};
+use c_plans::next_on;
 use cost_lists::{Object, Person, Price};
-use lent_plans::next_on;
 use std::alloc::Global;
 
 /// The next best assignment after a best one with prices that prove it, of a problem which is dense or sparse
@@ -19,17 +19,17 @@ pub extern "C" fn nushbaret_next(
     costs: &[i64],
     objects: &[Object],
     prices: &[Price],
-    looks: u64,
+    arc_scans: u64,
     other: &mut [Object],
     margin: &mut i64,
     info: &mut Info,
 ) -> i32
     ensures { let before = next_buffers other.old margin.old info.old in
-        JudgesNext (next_given sense n m of_persons.now of_objects.now costs.now before)
+        JudgesNext (next_input sense n m of_persons.now of_objects.now costs.now before)
         objects.now prices.now before (next_buffers other.new margin.new info.new) result }
 {
     let by_person = [other.len()];
-    let given = Given {
+    let input = Input {
         form: form_of(of_persons, of_objects, costs),
         sense,
         n,
@@ -41,5 +41,7 @@ pub extern "C" fn nushbaret_next(
         costs,
         first: &[],
     };
-    next_on(alloc, &given, objects, prices, looks, other, margin, info)
+    next_on(
+        alloc, &input, objects, prices, arc_scans, other, margin, info,
+    )
 }

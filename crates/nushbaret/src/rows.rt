@@ -1,7 +1,7 @@
 // The call on rows, as `c/nushbaret.h` declares it.
-ghost use Rattle.lent_rows.specs.Reports.{IsReported};
+ghost use Rattle.c_rows.specs.Reports.{IsReported};
 
-use lent_rows::{Given, RowsInfo, answer_on, report};
+use c_rows::{Input, RowsInfo, answer_on, report};
 use std::alloc::Global;
 
 /// Checks a tree that is to show that no plan meets the rows, and a plan, if one is given.
@@ -29,7 +29,7 @@ pub extern "C" fn nushbaret_rows(
       tree = tree.now;
     }) info.old info.new result }
 {
-    let given = Given {
+    let input = Input {
         n,
         starts,
         variables,
@@ -39,5 +39,5 @@ pub extern "C" fn nushbaret_rows(
         plan,
         tree,
     };
-    report(answer_on(alloc, &given), info)
+    report(answer_on(alloc, &input), info)
 }

@@ -1,10 +1,10 @@
 // The calls that solve sparse problems, as `c/nushbaret.h` declares them.
 ghost use Rattle.std.specs.Prelude.{◌≡◌, ◌≢◌, [], pos};
 ghost use Rattle.c_calls.specs.lists.Ends.{Solves, buffers};
-ghost use Rattle.c_calls.specs.lists.Given.{problem_alone};
+ghost use Rattle.c_calls.specs.lists.Input.{problem_alone};
 ghost use Rattle.c_calls.specs.declared.lists.form.Form.TheVariants.{Sparse};
 
-use c_calls::lists::{Form, Given, Info, solve_from, solve_given};
+use c_calls::lists::{Form, Info, Input, solve_from, solve_input};
 use cost_lists::{Object, Person, Price};
 use list_solver::Record;
 use std::alloc::Global;
@@ -31,7 +31,7 @@ pub extern "C" fn nushbaret_sparse(
 {
     let by_person = [objects.len(), persons.len()];
     let by_object = [prices.len()];
-    let given = Given {
+    let input = Input {
         form: Form::Sparse,
         sense,
         n,
@@ -43,7 +43,7 @@ pub extern "C" fn nushbaret_sparse(
         costs,
         first: &[],
     };
-    solve_given(alloc, &given, objects, persons, prices, info)
+    solve_input(alloc, &input, objects, persons, prices, info)
 }
 
 /// Solves a sparse problem from first prices, if there are any, and from the objects that are given, or
@@ -72,7 +72,7 @@ pub extern "C" fn nushbaret_sparse_from(
 {
     let by_person = [objects.len(), persons.len()];
     let by_object = [prices.len()];
-    let given = Given {
+    let input = Input {
         form: Form::Sparse,
         sense,
         n,
@@ -85,6 +85,6 @@ pub extern "C" fn nushbaret_sparse_from(
         first,
     };
     solve_from(
-        alloc, &given, budget, objects, persons, prices, progress, info,
+        alloc, &input, budget, objects, persons, prices, progress, info,
     )
 }

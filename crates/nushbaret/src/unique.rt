@@ -1,9 +1,9 @@
 // The call that asks whether a plan is the only best one, as `c/nushbaret.h` declares it.
-ghost use Rattle.lent_plans.specs.Unique.{JudgesUnique, UniqueBuffers, unique_given};
+ghost use Rattle.c_plans.specs.Unique.{JudgesUnique, UniqueBuffers, unique_input};
 
-use c_calls::lists::{Given, Info, form_of};
+use c_calls::lists::{Info, Input, form_of};
+use c_plans::unique_on;
 use cost_lists::{Object, Person, Price};
-use lent_plans::unique_on;
 use std::alloc::Global;
 
 /// Whether an assignment with prices that prove it is the only best one of a problem, which is dense or
@@ -25,12 +25,12 @@ pub extern "C" fn nushbaret_unique(
 ) -> i32
     ensures { let before : UniqueBuffers = record { other = other.old; ranks = ranks.old; info = info.old } in
         let after : UniqueBuffers = record { other = other.new; ranks = ranks.new; info = info.new } in
-        JudgesUnique (unique_given sense n m of_persons.now of_objects.now costs.now before)
+        JudgesUnique (unique_input sense n m of_persons.now of_objects.now costs.now before)
         objects.now prices.now before after result }
 {
     let by_person = [other.len()];
     let by_object = [ranks.len()];
-    let given = Given {
+    let input = Input {
         form: form_of(of_persons, of_objects, costs),
         sense,
         n,
@@ -42,5 +42,5 @@ pub extern "C" fn nushbaret_unique(
         costs,
         first: &[],
     };
-    unique_on(alloc, &given, objects, prices, other, ranks, info)
+    unique_on(alloc, &input, objects, prices, other, ranks, info)
 }

@@ -155,7 +155,7 @@ impl Nearest {
         arcs: &Arcs,
         walk: &Walk,
         first: usize,
-        looks: &mut u64,
+        arc_scans: &mut u64,
     ) -> Result<(), AllocError> {
         self.reach(first, 0, (first, 0))?;
         for _ in 0..arcs.size() {
@@ -163,11 +163,11 @@ impl Nearest {
                 break;
             };
             let length = negated.wrapping_neg();
-            if *looks == 0 || length >= self.best {
+            if *arc_scans == 0 || length >= self.best {
                 break;
             }
             if length == self.distance(node) {
-                *looks = looks.saturating_sub(self.width(arcs, node).saturating_add(1));
+                *arc_scans = arc_scans.saturating_sub(self.width(arcs, node).saturating_add(1));
                 self.look(arcs, walk, first, node, length)?;
             }
         }

@@ -60,15 +60,15 @@ fn search_from(
     walk: &mut Walk,
     arcs: &Arcs,
     node: usize,
-    looks: &mut u64,
+    arc_scans: &mut u64,
 ) -> Result<(), AllocError> {
     walk.begin(arcs, node)?;
     for _ in 0..arcs.nodes().wrapping_add(1) {
-        if nearest.best() <= 0 || *looks == 0 || !walk.go(arcs)? {
+        if nearest.best() <= 0 || *arc_scans == 0 || !walk.go(arcs)? {
             return Ok(());
         }
         if let Some(last) = walk.last() {
-            nearest.search(arcs, walk, last, looks)?;
+            nearest.search(arcs, walk, last, arc_scans)?;
             walk.leave(last);
         }
     }
@@ -80,12 +80,12 @@ fn least_cycle(
     alloc: Global,
     arcs: &Arcs,
     most: Cost,
-    looks: &mut u64,
+    arc_scans: &mut u64,
 ) -> Result<Nearest, AllocError> {
     let mut nearest = Nearest::new(alloc, arcs, most)?;
     let mut walk = Walk::new(alloc, arcs.nodes())?;
     for node in 0..arcs.nodes() {
-        search_from(&mut nearest, &mut walk, arcs, node, looks)?;
+        search_from(&mut nearest, &mut walk, arcs, node, arc_scans)?;
     }
     Ok(nearest)
 }
@@ -163,20 +163,20 @@ struct Least {
     core: Arcs,
 }
 
-// Searches wider and wider cores, up to a bound, for the least cycle; `None` if the looks are spent.
+// Searches wider and wider cores, up to a bound, for the least cycle; `None` if the arc scans are spent.
 fn search(
     alloc: Global,
     source: Source<'_>,
     best: Best<'_>,
     most: Cost,
-    looks: &mut u64,
+    arc_scans: &mut u64,
 ) -> Result<Option<Least>, AllocError> {
     let (mut bound, mut weight): (Cost, Cost) = (1, most);
     let mut other = None;
     for _ in 0..MOST_CORES {
         let arcs = core_below(alloc, source, best, bound)?;
-        let nearest = least_cycle(alloc, &arcs, weight, looks)?;
-        if *looks == 0 {
+        let nearest = least_cycle(alloc, &arcs, weight, arc_scans)?;
+        if *arc_scans == 0 {
             return Ok(None);
         }
         if nearest.best() < weight {
@@ -202,9 +202,9 @@ fn search_all(
     source: Source<'_>,
     best: Best<'_>,
     most: Cost,
-    looks: &mut u64,
+    arc_scans: &mut u64,
 ) -> Result<Found, AllocError> {
-    let Some(least) = search(alloc, source, best, most, looks)? else {
+    let Some(least) = search(alloc, source, best, most, arc_scans)? else {
         return Ok(Found {
             other: None,
             ranks: None,
@@ -242,7 +242,7 @@ pub fn find_other(
     objects: &[Object],
     prices: &[Price],
     most: Cost,
-    looks: u64,
+    arc_scans: u64,
 ) -> Result<Found, AllocError>
     requires { length objects.now ≡ length lists.now.rows }
 {
@@ -254,6 +254,6 @@ pub fn find_other(
         objects,
         prices,
     };
-    let mut left = looks;
+    let mut left = arc_scans;
     search_all(alloc, lists.source(), best, most, &mut left)
 }

@@ -17,7 +17,7 @@ use Rattle.bidder.specs.declared.offers.Offer.TheVariants as made
 use Rattle.bidder.specs.BestTwo.{best_two}
 use Rattle.bidder.specs.Offers.{benefits_at, offer_from, offer_of}
 use Rattle.rounds.specs.Offers.{named, offers_of}
-use Rattle.rounds.specs.inside.Kinds.{HasAlike, IsGathered}
+use Rattle.rounds.specs.inside.Similar.{HasAlike, IsGathered}
 use Rattle.rounds.proofs.Filled.{filled}
 
 either_named : (i : ℕ) (t : Bool) (below : BelowFloor) (bid : Bid) →

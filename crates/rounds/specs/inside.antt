@@ -1,3 +1,3 @@
 -- Definitions that no public contract names, by which the program is proved.
 pub mod Books
-pub mod Kinds
+pub mod Similar

@@ -1,10 +1,10 @@
 //! Rounds of offers: a solver with the same answer for any number of threads.
 #![tactic(auto)]
 
-mod kinds;
 mod law;
 mod offers;
 mod rounds;
+mod similar;
 
 pub use law::{
     books_begin_at_rest, like_persons_share_an_offer, rounds_end_once, rounds_have_one_outcome,

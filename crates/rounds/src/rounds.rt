@@ -13,11 +13,11 @@ ghost use Rattle.auction_book.specs.Submissions.{IsFitting};
 ghost use Rattle.rounds.specs.Plain.{Finished, Halted};
 ghost use Rattle.rounds.specs.Rounds.{plain_of, no_round_yet, IsAfterOffers, IsAtRest, IsBelowFloor, IsGoing, IsRound, book_after_bid, book_after_offers, waiting_offers};
 ghost use Rattle.rounds.specs.inside.Books.{AreSubmitted, HaveOffered, IsClaimed};
-ghost use Rattle.rounds.specs.inside.Kinds.{AreKinds};
+ghost use Rattle.rounds.specs.inside.Similar.{AreSimilar};
 ghost use Rattle.rounds.specs.Outcomes.{IsOfRounds, IsOutcome, IsProof, IsSolvedFrom};
 
-use super::kinds::Kinds;
 use super::offers::{Alone, InPieces, LEAST_PAIRS, Offering};
+use super::similar::SimilarPersons;
 use assign_core::{GREATEST_FIRST_PRICE, Outcome, Person, Prices, SolveFault};
 use auction_book::{Book, Claim, Refused, begin_next_if_over};
 use bidder::{Bid, Offer};
@@ -119,21 +119,21 @@ fn submit_all(book: &mut Book, offers: &[Offer]) -> Result<Option<Person>, Alloc
 // to the first that is below the floor. One of the persons who are alike makes the offer of all.
 fn run_shared_round<O: Offering>(
     offering: &mut O,
-    kinds: &mut Kinds,
+    similar: &mut SimilarPersons,
     book: &mut Book,
     persons: &mut Vec<Person>,
     offers: &mut Vec<Offer>,
 ) -> Result<Round, AllocError>
     requires ready { O.ready }
     requires rest { IsAtRest book.old }
-    requires kinds { AreKinds book.old.base kinds.old }
+    requires similar { AreSimilar book.old.base similar.old }
     ensures round { IfOk result (λ came. IsRound book.old came book.new) }
     ensures persons { OnOk result (persons.new.items ≡ book.old.queue) }
     ensures offers { OnOk result (offers.new.items ≡ waiting_offers book.old) }
     ensures book { OnOk result (IsAfterOffers book.old offers.new.items book.new) }
     ensures going { IsGoing book.new }
     ensures goes_on { GoesOn book.old book.new }
-    ensures kinds { AreKinds book.old.base kinds.new }
+    ensures similar { AreSimilar book.old.base similar.new }
 {
     claim_all(book, persons)?;
     if persons.is_empty() {
@@ -142,7 +142,7 @@ fn run_shared_round<O: Offering>(
     }
     let ask = book.ask();
     offering.begin(ask, persons.len());
-    kinds.make(
+    similar.make(
         offering,
         book.scaled(),
         book.prices(),
@@ -163,7 +163,7 @@ fn run_shared_round<O: Offering>(
 #[derive(Drop)]
 pub struct Rounds {
     scaled: Arc<Scaled>,
-    kinds: Kinds,
+    similar: SimilarPersons,
     persons: Vec<Person>,
     offers: Vec<Offer>,
 }
@@ -174,7 +174,7 @@ impl Model for Rounds {
 
     ghost Value = { RoundsData };
 
-    ghost use Rattle.rounds.specs.inside.Kinds.{AreKinds};
+    ghost use Rattle.rounds.specs.inside.Similar.{AreSimilar};
 
     ghost view = { λ r. record {
       base = arc_value r.scaled;
@@ -182,7 +182,7 @@ impl Model for Rounds {
       offers = r.offers.items;
     } };
 
-    ghost invariant = { λ r. AreKinds (arc_value r.scaled) r.kinds };
+    ghost invariant = { λ r. AreSimilar (arc_value r.scaled) r.similar };
 }
 
 impl Rounds {
@@ -193,10 +193,10 @@ impl Rounds {
     pub fn new(alloc: Global, scaled: Arc<Scaled>) -> Result<Rounds, AllocError>
         ensures { IfOk result (λ rounds. rounds ≡ no_round_yet (arc_value scaled)) }
     {
-        let kinds = Kinds::find(alloc, &scaled)?;
+        let similar = SimilarPersons::find(alloc, &scaled)?;
         Ok(Rounds {
             scaled,
-            kinds,
+            similar,
             persons: Vec::new(alloc),
             offers: Vec::new(alloc),
         })
@@ -230,7 +230,7 @@ impl Rounds {
     {
         run_shared_round(
             offering,
-            &mut self.kinds,
+            &mut self.similar,
             book,
             &mut self.persons,
             &mut self.offers,

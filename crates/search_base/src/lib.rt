@@ -2,14 +2,14 @@
 //! and the least entries of a list.
 #![tactic(auto)]
 
+mod arc_scans;
 mod heap;
-mod looks;
 mod pace;
 mod place;
 mod selection;
 
+pub use arc_scans::ArcScans;
 pub use heap::{Heap, Reached};
-pub use looks::Looks;
 pub use pace::Pace;
 pub use place::{NOBODY, at, is_unowned, place_at, put};
 pub use selection::{Valued, select};

@@ -3,7 +3,7 @@
 use super::market::Market;
 use super::problem::{Pair, Scaled};
 use super::row::{Two, two_best};
-use search_base::{Looks, NOBODY, at, place_at, put};
+use search_base::{ArcScans, NOBODY, at, place_at, put};
 use std::alloc::{AllocError, Global};
 
 // Beyond this price sums could leave the range.
@@ -52,7 +52,7 @@ impl Ahead {
 impl Queue {
     /// The persons without an object, in the order of their numbers.
     pub fn of(alloc: Global, market: &Market) -> Result<Queue, AllocError> {
-        let mut persons = market.unserved(alloc)?;
+        let mut persons = market.unassigned(alloc)?;
         let waiting = persons.len();
         let count = market.objects.len();
         persons.resize(count, NOBODY)?;
@@ -147,7 +147,7 @@ pub fn bid_from_queue(
     queue: &mut Queue,
     terms: Terms,
     most: u64,
-    looks: &mut Looks,
+    arc_scans: &mut ArcScans,
     ahead: &mut Ahead,
 ) -> u64 {
     let prices = market.prices.as_mut_slice();
@@ -159,14 +159,14 @@ pub fn bid_from_queue(
         };
         ahead.read(scaled.problem.row(queue.second()));
         let row = scaled.problem.row(person);
-        looks.add(row.len());
+        arc_scans.add(row.len());
         let two = two_best(row, prices, scaled.shift);
         match take(prices, owners, objects, person, two, terms) {
             Came::Failed => return u64::MAX,
             Came::Taken(NOBODY) => {}
             Came::Taken(evicted) => queue.push(evicted),
         }
-        if looks.is_spent() {
+        if arc_scans.is_spent() {
             return made + 1;
         }
     }
@@ -228,7 +228,7 @@ fn outbid(market: &mut Market, object: u32, price: i64, raised: i64) -> bool {
     owner != NOBODY
 }
 
-/// Fewer persons than objects: dummies, who are served by the cheapest objects, bid these up to the
+/// Fewer persons than objects: dummies, who are assigned by the cheapest objects, bid these up to the
 /// price of the next one, if an unowned object is dearer. Their owners wait again. Returns whether
 /// somebody does.
 pub fn bid_for_dummies(

@@ -3,7 +3,7 @@
 use super::market::Market;
 use super::problem::{Pair, Scaled, SparseProblem};
 use super::row::{FAR, Two, two_best};
-use search_base::{Looks, NOBODY, at, is_unowned, place_at};
+use search_base::{ArcScans, NOBODY, at, is_unowned, place_at};
 
 fn lower_to_costs(pairs: &[Pair], prices: &mut [i64]) {
     for pair in pairs {
@@ -70,15 +70,15 @@ fn bid_on(
     market: &mut Market,
     first: u32,
     most: u64,
-    looks: &mut Looks,
+    arc_scans: &mut ArcScans,
 ) -> u64 {
     let mut person = first;
     for made in 0..most {
         let row = scaled.problem.row(person);
-        looks.add(row.len());
+        arc_scans.add(row.len());
         let two = two_best(row, market.prices.as_slice(), scaled.shift);
         match bid(market, two, person) {
-            Some(next) if next != NOBODY && !looks.is_spent() => person = next,
+            Some(next) if next != NOBODY && !arc_scans.is_spent() => person = next,
             _ => return made + 1,
         }
     }
@@ -86,14 +86,14 @@ fn bid_on(
 }
 
 /// Lets persons without an object bid, from this one on, and those who lose their objects, while bids
-/// and looks are left. Returns the person to go on from, at the end the number of persons, and how
+/// and arc scans are left. Returns the person to go on from, at the end the number of persons, and how
 /// many bids are left.
 pub fn bid_all(
     scaled: Scaled<'_>,
     market: &mut Market,
     first: u32,
     most: u64,
-    looks: &mut Looks,
+    arc_scans: &mut ArcScans,
 ) -> (u32, u64) {
     let persons = place_at(scaled.problem.persons());
     let mut left = most;
@@ -101,11 +101,11 @@ pub fn bid_all(
         if left == 0 {
             return (persons, 0);
         }
-        if looks.is_spent() {
+        if arc_scans.is_spent() {
             return (person, left);
         }
         if at(market.objects.as_slice(), person) == NOBODY {
-            let made = bid_on(scaled, market, person, left, looks);
+            let made = bid_on(scaled, market, person, left, arc_scans);
             left = left.saturating_sub(made);
         }
     }

@@ -1,7 +1,7 @@
 // The call of a search.
 ghost use Rattle.std.specs.Prelude.{◌≡◌, length};
 
-use super::blocks::Blocks;
+use super::components::Components;
 use super::matching::hall_set;
 use super::outcome::Outcome;
 use super::problem::SparseProblem;
@@ -47,14 +47,14 @@ impl<'b> Told<'b> {
     }
 }
 
-// Solves without the pairs that lie in no assignment, and lifts the prices over the blocks.
-fn search_blocks(
+// Solves without the pairs that lie in no assignment, and lifts the prices over the components.
+fn search_components(
     alloc: Global,
     problem: SparseProblem<'_>,
-    blocks: &Blocks,
+    components: &Components,
     told: &mut Told<'_>,
 ) -> Result<Outcome, AllocError> {
-    let kept = blocks.kept_pairs(alloc, problem)?;
+    let kept = components.kept_pairs(alloc, problem)?;
     let reduced = SparseProblem {
         starts: kept.starts.as_slice(),
         pairs: kept.pairs.as_slice(),
@@ -63,7 +63,7 @@ fn search_blocks(
     let mut run = told.begin(alloc, reduced, u64::MAX)?;
     match run.run()? {
         RunEnd::Best => {
-            blocks.lift_prices(alloc, problem, &mut run.market)?;
+            components.lift_prices(alloc, problem, &mut run.market)?;
             told.write(&run);
             Ok(Outcome::Best)
         }
@@ -85,14 +85,14 @@ fn search_whole(
         RunEnd::Stopped => Ok(Outcome::Stopped),
         RunEnd::Lost => Ok(Outcome::Lost),
         RunEnd::Hall(persons) => Ok(Outcome::Hall(hall_set(alloc, problem, persons.as_slice())?)),
-        RunEnd::Drops(blocks) => {
+        RunEnd::Drops(components) => {
             told.record.stage = Stage::Cold;
-            search_blocks(alloc, problem, &blocks, told)
+            search_components(alloc, problem, &components, told)
         }
     }
 }
 
-/// Searches for exact prices and a plan, or for a Hall set, and stops after about `budget` looks at
+/// Searches for exact prices and a plan, or for a Hall set, and stops after about `budget` arc scans at
 /// pairs (0: it doesn't). A call reads and writes a price for each object and an object for each
 /// person. At `Best` prices are whole numbers in the unit of the costs, none below 0, and 0 where
 /// nobody owns the object. At `Stopped` they are those from which the next call goes on, with the
@@ -120,7 +120,7 @@ pub fn search(
     let limit = if budget == 0 {
         u64::MAX
     } else {
-        record.looks.saturating_add(budget)
+        record.arc_scans.saturating_add(budget)
     };
     let mut told = Told {
         prices,

@@ -4,8 +4,8 @@
 
 mod auction;
 mod bids;
-mod blocks;
 mod calls;
+mod components;
 mod forecast;
 mod market;
 mod matching;

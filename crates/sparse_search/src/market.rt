@@ -59,7 +59,7 @@ impl Market {
     }
 
     /// The persons without an object.
-    pub fn unserved(&self, alloc: Global) -> Result<Vec<u32>, AllocError> {
+    pub fn unassigned(&self, alloc: Global) -> Result<Vec<u32>, AllocError> {
         let mut persons = Vec::new(alloc);
         for (person, object) in self.objects.iter().enumerate() {
             if *object == NOBODY {
@@ -70,7 +70,7 @@ impl Market {
     }
 
     /// How many persons have no object.
-    pub fn count_unserved(&self) -> usize {
+    pub fn count_unassigned(&self) -> usize {
         let mut count = 0usize;
         for object in &self.objects {
             if *object == NOBODY {
@@ -81,7 +81,7 @@ impl Market {
     }
 
     /// How many unowned objects are dearer than the cheapest object.
-    pub fn count_dear(&self) -> usize {
+    pub fn count_overpriced(&self) -> usize {
         let least = self.least_price();
         let mut count = 0usize;
         for (price, owner) in self.prices.iter().zip(&self.owners) {

@@ -1,7 +1,7 @@
 // Matchings of as many persons as possible, costs aside (Hopcroft and Karp 1973), and Hall sets.
 use super::outcome::HallSet;
 use super::problem::{Pair, SparseProblem};
-use search_base::{Looks, NOBODY, at, is_unowned, place_at, put};
+use search_base::{ArcScans, NOBODY, at, is_unowned, place_at, put};
 use std::alloc::{AllocError, Global};
 
 /// Who has which object, and the layers of the search in breadth.
@@ -50,7 +50,7 @@ impl Matching {
         alloc: Global,
         problem: SparseProblem<'_>,
         first: &[u32],
-        looks: &mut Looks,
+        arc_scans: &mut ArcScans,
     ) -> Result<Matching, AllocError> {
         let persons = problem.persons();
         let mut matching = Matching {
@@ -63,7 +63,7 @@ impl Matching {
             last_layer: NOBODY,
         };
         matching.take_listed(problem, first);
-        matching.take_unowned(problem, looks);
+        matching.take_unowned(problem, arc_scans);
         Ok(matching)
     }
 
@@ -77,11 +77,11 @@ impl Matching {
         }
     }
 
-    fn take_unowned(&mut self, problem: SparseProblem<'_>, looks: &mut Looks) {
+    fn take_unowned(&mut self, problem: SparseProblem<'_>, arc_scans: &mut ArcScans) {
         for person in 0..place_at(problem.persons()) {
             if at(self.objects.as_slice(), person) == NOBODY {
                 let row = problem.row(person);
-                looks.add(row.len());
+                arc_scans.add(row.len());
                 let object = first_unowned(row, self.owners.as_slice());
                 if object != NOBODY {
                     self.give(object, person);
@@ -131,7 +131,7 @@ impl Matching {
     fn set_layers(
         &mut self,
         problem: SparseProblem<'_>,
-        looks: &mut Looks,
+        arc_scans: &mut ArcScans,
     ) -> Result<(), AllocError> {
         self.begin_layers()?;
         for turn in 0..self.layers.len() {
@@ -143,7 +143,7 @@ impl Matching {
                 return Ok(());
             }
             let row = problem.row(person);
-            looks.add(row.len());
+            arc_scans.add(row.len());
             self.spread_from(row, layer)?;
         }
         Ok(())
@@ -179,11 +179,11 @@ impl Matching {
     }
 
     // The search in depth along layers from a person. Returns whether it got an object.
-    fn serve(
+    fn augment(
         &mut self,
         problem: SparseProblem<'_>,
         first: u32,
-        looks: &mut Looks,
+        arc_scans: &mut ArcScans,
     ) -> Result<bool, AllocError> {
         self.path.clear();
         self.path.push(first)?;
@@ -192,7 +192,7 @@ impl Matching {
                 return Ok(false);
             };
             let row = problem.row(person);
-            looks.add(1);
+            arc_scans.add(1);
             match self.look_on(row, person) {
                 Step::Unowned(object) => {
                     self.take_path(object);
@@ -203,7 +203,7 @@ impl Matching {
                     self.path.push(owner)?;
                 }
                 Step::None => {
-                    looks.add(row.len());
+                    arc_scans.add(row.len());
                     put(self.layers.as_mut_slice(), person, NOBODY);
                     let _ = self.path.pop();
                 }
@@ -212,20 +212,20 @@ impl Matching {
         Ok(false)
     }
 
-    // One phase: disjoint shortest paths, while looks are left, but at least one if one is needed.
+    // One phase: disjoint shortest paths, while arc scans are left, but at least one if one is needed.
     fn improve(
         &mut self,
         problem: SparseProblem<'_>,
         is_needed: bool,
-        looks: &mut Looks,
+        arc_scans: &mut ArcScans,
     ) -> Result<(), AllocError> {
         let mut is_needed = is_needed;
         for person in 0..place_at(problem.persons()) {
-            if looks.is_spent() && !is_needed {
+            if arc_scans.is_spent() && !is_needed {
                 return Ok(());
             }
             if at(self.objects.as_slice(), person) == NOBODY {
-                is_needed = !self.serve(problem, person, looks)? && is_needed;
+                is_needed = !self.augment(problem, person, arc_scans)? && is_needed;
             }
         }
         Ok(())
@@ -240,25 +240,25 @@ impl Matching {
         NOBODY
     }
 
-    /// Phases until no more persons can have objects, or the looks are spent. A call that begins with
-    /// these serves at least one person.
+    /// Phases until no more persons can have objects, or the arc scans are spent. A call that begins with
+    /// these assigns at least one person.
     pub fn grow(
         &mut self,
         problem: SparseProblem<'_>,
         is_fresh: bool,
-        looks: &mut Looks,
+        arc_scans: &mut ArcScans,
     ) -> Result<Known, AllocError> {
         for _phase in 0..problem.persons().saturating_add(1) {
             let person = self.first_without();
             if person == NOBODY {
                 return Ok(Known::Full);
             }
-            self.set_layers(problem, looks)?;
+            self.set_layers(problem, arc_scans)?;
             if self.last_layer == NOBODY {
                 return Ok(Known::Blocked(person));
             }
-            self.improve(problem, is_fresh, looks)?;
-            if looks.is_spent() {
+            self.improve(problem, is_fresh, arc_scans)?;
+            if arc_scans.is_spent() {
                 return Ok(Known::Open);
             }
         }

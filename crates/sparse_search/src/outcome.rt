@@ -14,7 +14,7 @@ pub enum Outcome {
     Best,
     /// There is no assignment.
     Hall(HallSet),
-    /// The budget of looks is spent, and the record says where to go on.
+    /// The budget of arc scans is spent, and the record says where to go on.
     Stopped,
     /// The lists don't fit one another, or sums left the range: nothing was found.
     Lost,

@@ -5,7 +5,7 @@
 use super::market::Market;
 use super::problem::{Pair, Scaled};
 use super::row::{FAR, least_value, value};
-use search_base::{Heap, Looks, NOBODY, Reached, at};
+use search_base::{ArcScans, Heap, NOBODY, Reached, at};
 use std::alloc::{AllocError, Global};
 
 // How an object was reached.
@@ -32,7 +32,7 @@ pub struct PathSearch {
 #[derive(Clone, Copy)]
 pub enum End {
     /// The person got an object.
-    Served,
+    Assigned,
     /// No unowned object can be reached: the persons who were looked at are a Hall set.
     Blocked,
 }
@@ -184,10 +184,10 @@ impl PathSearch {
         market: &Market,
         person: u32,
         level: Level,
-        looks: &mut Looks,
+        arc_scans: &mut ArcScans,
     ) -> Result<Level, AllocError> {
         let row = scaled.problem.row(person);
-        looks.add(row.len());
+        arc_scans.add(row.len());
         let least = least_value(row, market.prices.as_slice(), scaled.shift);
         let base = level.distance.wrapping_sub(least);
         self.reach_row(row, scaled.shift, base, market, person, level)
@@ -249,13 +249,13 @@ impl PathSearch {
         scaled: Scaled<'_>,
         market: &Market,
         first: u32,
-        looks: &mut Looks,
+        arc_scans: &mut ArcScans,
     ) -> Result<Level, AllocError> {
         self.begin();
         let mut level = Level::begin();
         let mut person = first;
         for turn in 0..scaled.problem.persons() {
-            level = self.scan(scaled, market, person, level, looks)?;
+            level = self.scan(scaled, market, person, level, arc_scans)?;
             if level.is_found() {
                 return Ok(level);
             }
@@ -294,21 +294,21 @@ impl PathSearch {
         }
     }
 
-    /// Serves a person by a shortest path.
-    pub fn serve(
+    /// Assigns a person by a shortest path.
+    pub fn augment(
         &mut self,
         scaled: Scaled<'_>,
         market: &mut Market,
         first: u32,
-        looks: &mut Looks,
+        arc_scans: &mut ArcScans,
     ) -> Result<End, AllocError> {
-        let level = self.find(scaled, market, first, looks)?;
+        let level = self.find(scaled, market, first, arc_scans)?;
         if level.object == NOBODY {
             return Ok(End::Blocked);
         }
         self.raise_prices(market, level.nearest);
         self.take_path(market, level.object);
-        Ok(End::Served)
+        Ok(End::Assigned)
     }
 
     /// The persons of a blocked search.

@@ -25,7 +25,7 @@ pub enum Stage {
     LastTight,
     /// Searches from the auction's prices.
     LastPaths,
-    /// Everybody is served, and the prices of dear unowned objects come down.
+    /// Everybody is assigned, and the prices of overpriced unowned objects come down.
     Unowned,
 }
 
@@ -40,20 +40,20 @@ pub struct Record {
     /// at prices of 0.
     pub slackness: i64,
     /// The bids of this phase of the auction since searches last helped it. Of bids without
-    /// slackness how many are left; in the first searches the looks when they began, in those that help
-    /// the looks when they end.
+    /// slackness how many are left; in the first searches the arc scans when they began, in those that help
+    /// the arc scans when they end.
     pub bids: u64,
     /// How often dummies bid in this phase. In the first searches how many ended.
     pub dummy_bids: u32,
     /// Whether an assignment is known to exist.
     pub has_assignment: bool,
-    /// Where a stage goes on, 0 at its beginning. In the first searches the looks of those that ended,
+    /// Where a stage goes on, 0 at its beginning. In the first searches the arc scans of those that ended,
     /// of which a long one counts as a shorter one.
     pub place: u32,
-    /// Four times the looks of one of the first searches, once it is known.
+    /// Four times the arc scans of one of the first searches, once it is known.
     pub usual: u32,
-    /// The looks at pairs of all calls.
-    pub looks: u64,
+    /// The arc scans of all calls.
+    pub arc_scans: u64,
 }
 
 impl Record {
@@ -68,7 +68,7 @@ impl Record {
             has_assignment: false,
             place: 0,
             usual: 0,
-            looks: 0,
+            arc_scans: 0,
         }
     }
 

@@ -1,7 +1,7 @@
 // The search by stages, each of which goes on from what the last one left.
 use super::auction::{Ahead, Queue, Terms, bid_for_dummies, bid_from_queue};
 use super::bids::{bid_all, set_first_prices};
-use super::blocks::{Blocks, find_blocks};
+use super::components::{Components, find_components};
 use super::forecast::Forecast;
 use super::market::Market;
 use super::matching::{Known, Matching};
@@ -10,7 +10,7 @@ use super::problem::{Scaled, SparseProblem};
 use super::record::{Record, Stage};
 use super::tight::{count_slack, match_tight, settle};
 use super::unowned::{bring_down, bring_down_many, lower_unowned};
-use search_base::{Looks, NOBODY, place_at};
+use search_base::{ArcScans, NOBODY, place_at};
 use std::alloc::{AllocError, Global};
 
 // The numbers come from measurements; no answer depends on them.
@@ -18,10 +18,10 @@ use std::alloc::{AllocError, Global};
 const FIRST_BIDS: u64 = 2;
 // The bids of a phase for each person, after which a matching without costs is asked for.
 const BIDS_BEFORE_MATCHING: u64 = 12;
-// The bids of a phase for each person, after which searches help, and their looks for each pair.
+// The bids of a phase for each person, after which searches help, and their arc scans for each pair.
 const BIDS_BEFORE_SEARCHES: u64 = 24;
 
-const SEARCH_LOOKS: u64 = 32;
+const SEARCH_ARC_SCANS: u64 = 32;
 // The phases' slackness falls by this factor.
 const FALL: i64 = 5;
 // The most bids of dummies in a phase.
@@ -39,12 +39,12 @@ const MOST_LEFT: usize = 32;
 const FEW_DEAR: usize = 4;
 
 // More are brought down together.
-const MANY_DEAR: usize = 32;
+const MANY_OVERPRICED: usize = 32;
 // Costs count at most 2 to this power times.
 const MOST_SHIFT: u32 = 9;
 // No slackness is greater: costs lie at most 2 * 10^12 apart.
 const MOST_SLACKNESS: i64 = 1 << 51;
-// Where the last stage goes on: many objects come down together, or one by one, or none is dear.
+// Where the last stage goes on: many objects come down together, or one by one, or none is overpriced.
 const TOGETHER: u32 = 1;
 
 const ONE_BY_ONE: u32 = 2;
@@ -59,7 +59,7 @@ pub struct Run<'a> {
     pub market: Market,
     search: PathSearch,
     pub record: Record,
-    looks: Looks,
+    arc_scans: ArcScans,
     ahead: Ahead,
     // Once a stage asked for it.
     spread: Option<i64>,
@@ -75,16 +75,16 @@ pub enum RunEnd {
     Hall(Vec<u32>),
     Stopped,
     /// Pairs in no assignment should be dropped first.
-    Drops(Blocks),
+    Drops(Components),
     Lost,
 }
 
 // How a run of searches ended.
 #[derive(Drop)]
-enum Served {
+enum Assigned {
     All,
     Hall(Vec<u32>),
-    // The looks are spent.
+    // The arc scans are spent.
     Spent,
     // They would take too long.
     Slow,
@@ -128,8 +128,8 @@ impl<'a> Run<'a> {
                 slackness,
                 ..record
             },
-            looks: Looks {
-                done: record.looks,
+            arc_scans: ArcScans {
+                done: record.arc_scans,
                 limit,
             },
             ahead: Ahead { objects: 0 },
@@ -165,15 +165,15 @@ impl<'a> Run<'a> {
         self.problem.pairs.len() as u64
     }
 
-    /// All stages up to the end, or until the looks are spent.
+    /// All stages up to the end, or until the arc scans are spent.
     pub fn run(&mut self) -> Result<RunEnd, AllocError> {
         for _stage in 0..u32::MAX {
             let end = match self.step()? {
-                None if self.looks.is_spent() => Some(RunEnd::Stopped),
+                None if self.arc_scans.is_spent() => Some(RunEnd::Stopped),
                 end => end,
             };
             if let Some(end) = end {
-                self.record.looks = self.looks.done;
+                self.record.arc_scans = self.arc_scans.done;
                 return Ok(end);
             }
         }
@@ -203,7 +203,7 @@ impl<'a> Run<'a> {
         self.market.clear_prices();
         if self.problem.is_square() {
             set_first_prices(self.problem, &mut self.market);
-            self.looks.add(self.problem.pairs.len());
+            self.arc_scans.add(self.problem.pairs.len());
         }
         self.record.shift = 0;
         self.record.slackness = 0;
@@ -223,7 +223,7 @@ impl<'a> Run<'a> {
     fn first_bids(&mut self) {
         let (scaled, first) = (self.scaled(), self.record.place);
         let most = self.record.bids.min(self.most_first_bids());
-        let (ended, left) = bid_all(scaled, &mut self.market, first, most, &mut self.looks);
+        let (ended, left) = bid_all(scaled, &mut self.market, first, most, &mut self.arc_scans);
         self.record.place = ended;
         self.record.bids = left;
         if (ended as usize) >= self.problem.persons() {
@@ -245,12 +245,12 @@ impl<'a> Run<'a> {
         self.record.shift = 0;
         let scaled = self.scaled();
         let is_easy = self.is_easy();
-        let is_far = is_easy && count_slack(scaled, &self.market, SAMPLE, &mut self.looks) > 0;
+        let is_far = is_easy && count_slack(scaled, &self.market, SAMPLE, &mut self.arc_scans) > 0;
         if is_far || (self.settle_first(scaled) > 0 && is_easy) {
             self.record = self.record.with_stage(Stage::Cold);
             return Ok(());
         }
-        self.lower_dear(scaled)?;
+        self.lower_overpriced(scaled)?;
         self.record = self.record.with_stage(Stage::WarmTight);
         self.record.place = 1;
         Ok(())
@@ -260,11 +260,11 @@ impl<'a> Run<'a> {
     // many persons have no object.
     fn settle_first(&mut self, scaled: Scaled<'_>) -> usize {
         let spread = self.spread();
-        let sum = settle(scaled, &mut self.market, spread / 25, &mut self.looks);
+        let sum = settle(scaled, &mut self.market, spread / 25, &mut self.arc_scans);
         let persons = (self.persons() & 0xffff_ffff) as i64;
         let mean = sum.checked_div(persons).unwrap_or(0);
         self.record.slackness = if mean < spread / 50 { mean.max(1) } else { 0 };
-        self.market.count_unserved()
+        self.market.count_unassigned()
     }
 
     // Whether there are far more objects than persons, and they are cheap. A search without first prices
@@ -280,72 +280,78 @@ impl<'a> Run<'a> {
         self.match_tight(Stage::FirstPaths)?;
         let is_over = matches!(self.record.stage, Stage::FirstPaths);
         let most = self.problem.persons() / MOST_LEFT;
-        if is_over && self.record.slackness == 0 && self.market.count_unserved() > most {
+        if is_over && self.record.slackness == 0 && self.market.count_unassigned() > most {
             self.record = self.record.with_stage(Stage::Cold);
         }
         Ok(())
     }
 
     // Lowers the prices of unowned objects, unless searches for each are sooner done.
-    fn lower_dear(&mut self, scaled: Scaled<'_>) -> Result<(), AllocError> {
-        if self.market.count_dear() > FEW_DEAR {
-            lower_unowned(self.alloc, scaled, &mut self.market, &mut self.looks)?;
+    fn lower_overpriced(&mut self, scaled: Scaled<'_>) -> Result<(), AllocError> {
+        if self.market.count_overpriced() > FEW_DEAR {
+            lower_unowned(self.alloc, scaled, &mut self.market, &mut self.arc_scans)?;
         }
         Ok(())
     }
 
-    // Keeps tight pairs alone, and serves persons by them. Then this stage comes.
+    // Keeps tight pairs alone, and assigns persons by them. Then this stage comes.
     fn match_tight(&mut self, next: Stage) -> Result<(), AllocError> {
         let scaled = self.scaled();
         let place = self.record.place;
         if place == 0 {
-            let _ = settle(scaled, &mut self.market, 0, &mut self.looks);
+            let _ = settle(scaled, &mut self.market, 0, &mut self.arc_scans);
             self.record.place = 1;
             return Ok(());
         }
         let first = place.saturating_sub(1);
-        let ended = match_tight(self.alloc, scaled, &mut self.market, first, &mut self.looks)?;
+        let ended = match_tight(
+            self.alloc,
+            scaled,
+            &mut self.market,
+            first,
+            &mut self.arc_scans,
+        )?;
         self.record.place = ended.saturating_add(1);
         if (ended as usize) >= self.problem.persons() {
             self.record = self.record.with_stage(next);
-            self.record.bids = self.looks.done;
+            self.record.bids = self.arc_scans.done;
             self.record.dummy_bids = 0;
             self.record.usual = 0;
         }
         Ok(())
     }
 
-    // Searches for these persons one by one, up to a limit of looks, or while the forecast is good. At
+    // Searches for these persons one by one, up to a limit of arc scans, or while the forecast is good. At
     // least one ends, so that calls of any budget get on.
-    fn serve_all(
+    fn augment_all(
         &mut self,
         persons: &[u32],
-        limit: Looks,
+        limit: ArcScans,
         forecast: &mut Option<Forecast>,
-    ) -> Result<Served, AllocError> {
+    ) -> Result<Assigned, AllocError> {
         let scaled = self.scaled();
         for (k, person) in persons.iter().enumerate() {
             if let End::Blocked = self
                 .search
-                .serve(scaled, &mut self.market, *person, &mut self.looks)?
+                .augment(scaled, &mut self.market, *person, &mut self.arc_scans)?
             {
                 let blocked = self
                     .search
                     .blocked_persons(self.alloc, &self.market, *person)?;
-                return Ok(Served::Hall(blocked));
+                return Ok(Assigned::Hall(blocked));
             }
             let left = persons.len().saturating_sub(k);
-            if is_slow(forecast, self.looks, left) {
-                return Ok(Served::Slow);
+            if is_slow(forecast, self.arc_scans, left) {
+                return Ok(Assigned::Slow);
             }
-            if self.looks.done >= limit.limit {
-                return Ok(Served::Spent);
+            if self.arc_scans.done >= limit.limit {
+                return Ok(Assigned::Spent);
             }
         }
-        Ok(Served::All)
+        Ok(Assigned::All)
     }
 
-    // After each person is served: unowned objects have to be as cheap as any.
+    // After each person is assigned: unowned objects have to be as cheap as any.
     fn after_all(&mut self) -> Option<RunEnd> {
         if self.problem.is_square() {
             self.record = self.record.with_stage(Stage::LastPaths);
@@ -358,14 +364,14 @@ impl<'a> Run<'a> {
     // Whether pairs are tight and unowned objects cheap, as a search leaves them.
     fn is_settled(&mut self) -> bool {
         let scaled = self.scaled();
-        let _ = settle(scaled, &mut self.market, 0, &mut self.looks);
-        self.market.count_unserved() == 0 && self.market.count_dear() == 0
+        let _ = settle(scaled, &mut self.market, 0, &mut self.arc_scans);
+        self.market.count_unassigned() == 0 && self.market.count_overpriced() == 0
     }
 
     // The end, after one more pass over all pairs where the search went on from a record. If it isn't
     // settled then, it begins again: prices beyond all sums, which each call cuts, would never let it end.
     fn finish(&mut self) -> Option<RunEnd> {
-        if self.is_resumed && self.looks.is_spent() {
+        if self.is_resumed && self.arc_scans.is_spent() {
             return None;
         }
         let was_resumed = self.is_resumed;
@@ -386,7 +392,7 @@ impl<'a> Run<'a> {
         self.market.bring_to_costs(shift);
         self.record.shift = 0;
         let scaled = self.scaled();
-        self.lower_dear(scaled)?;
+        self.lower_overpriced(scaled)?;
         self.record.place = TOGETHER;
         Ok(())
     }
@@ -402,45 +408,51 @@ impl<'a> Run<'a> {
                 return Ok(self.finish());
             }
             self.bring_some_down(scaled)?;
-            if self.looks.is_spent() {
+            if self.arc_scans.is_spent() {
                 return Ok(None);
             }
         }
         Ok(self.finish())
     }
 
-    // Brings down many dear unowned objects, or a single one. If most of many stay dear, single ones are
+    // Brings down many overpriced unowned objects, or a single one. If most of many stay overpriced, single ones are
     // faster. The record keeps that, since calls that each begin with many may never end.
     fn bring_some_down(&mut self, scaled: Scaled<'_>) -> Result<(), AllocError> {
-        let (search, market, looks) = (&mut self.search, &mut self.market, &mut self.looks);
+        let (search, market, arc_scans) = (&mut self.search, &mut self.market, &mut self.arc_scans);
         let are_together = self.record.place == TOGETHER;
-        let dear = if are_together { market.count_dear() } else { 0 };
-        if dear > MANY_DEAR {
-            bring_down_many(self.alloc, search, scaled, market, looks)?;
-            if market.count_dear() >= dear.saturating_sub(dear / MANY_DEAR) {
+        let overpriced = if are_together {
+            market.count_overpriced()
+        } else {
+            0
+        };
+        if overpriced > MANY_OVERPRICED {
+            bring_down_many(self.alloc, search, scaled, market, arc_scans)?;
+            if market.count_overpriced()
+                >= overpriced.saturating_sub(overpriced / MANY_OVERPRICED)
+            {
                 self.record.place = ONE_BY_ONE;
             }
             return Ok(());
         }
-        let is_one_down = bring_down(search, scaled, market, looks)?;
+        let is_one_down = bring_down(search, scaled, market, arc_scans)?;
         self.record.place = if is_one_down { ONE_BY_ONE } else { NONE_DEAR };
         Ok(())
     }
 
     fn first_paths(&mut self) -> Result<Option<RunEnd>, AllocError> {
-        let left = self.market.unserved(self.alloc)?;
-        self.record.looks = self.looks.done;
+        let left = self.market.unassigned(self.alloc)?;
+        self.record.arc_scans = self.arc_scans.done;
         let pairs = self.problem.pairs.len();
         let mut forecast = Some(Forecast::of(&self.record, left.len(), pairs));
-        let served = self.serve_all(left.as_slice(), self.looks, &mut forecast)?;
+        let assigned = self.augment_all(left.as_slice(), self.arc_scans, &mut forecast)?;
         if let Some(forecast) = forecast {
             forecast.write(&mut self.record);
         }
-        match served {
-            Served::All => Ok(self.after_all()),
-            Served::Hall(persons) => Ok(Some(RunEnd::Hall(persons))),
-            Served::Spent => Ok(None),
-            Served::Slow => {
+        match assigned {
+            Assigned::All => Ok(self.after_all()),
+            Assigned::Hall(persons) => Ok(Some(RunEnd::Hall(persons))),
+            Assigned::Spent => Ok(None),
+            Assigned::Slow => {
                 self.begin_auction();
                 Ok(None)
             }
@@ -448,11 +460,11 @@ impl<'a> Run<'a> {
     }
 
     fn last_paths(&mut self) -> Result<Option<RunEnd>, AllocError> {
-        let left = self.market.unserved(self.alloc)?;
-        match self.serve_all(left.as_slice(), self.looks, &mut None)? {
-            Served::All => Ok(self.after_all()),
-            Served::Hall(persons) => Ok(Some(RunEnd::Hall(persons))),
-            Served::Spent | Served::Slow => Ok(None),
+        let left = self.market.unassigned(self.alloc)?;
+        match self.augment_all(left.as_slice(), self.arc_scans, &mut None)? {
+            Assigned::All => Ok(self.after_all()),
+            Assigned::Hall(persons) => Ok(Some(RunEnd::Hall(persons))),
+            Assigned::Spent | Assigned::Slow => Ok(None),
         }
     }
 
@@ -504,7 +516,7 @@ impl<'a> Run<'a> {
             &mut queue,
             terms,
             most,
-            &mut self.looks,
+            &mut self.arc_scans,
             &mut self.ahead,
         );
         self.record.bids = self.record.bids.saturating_add(made);
@@ -512,7 +524,7 @@ impl<'a> Run<'a> {
             self.end_phase()?;
             return Ok(None);
         }
-        if self.looks.is_spent() {
+        if self.arc_scans.is_spent() {
             return Ok(None);
         }
         if self.record.has_assignment {
@@ -524,27 +536,31 @@ impl<'a> Run<'a> {
     }
 
     fn begin_help(&mut self) {
-        let most = SEARCH_LOOKS
+        let most = SEARCH_ARC_SCANS
             .saturating_mul(self.pairs())
-            .max(self.looks.done / 2);
+            .max(self.arc_scans.done / 2);
         self.record = self.record.with_stage(Stage::Help);
-        self.record.bids = self.looks.done.saturating_add(most);
+        self.record.bids = self.arc_scans.done.saturating_add(most);
     }
 
     // Searches for those who still wait, at the slackness of the phase.
     fn help(&mut self) -> Result<Option<RunEnd>, AllocError> {
-        let waiting = self.market.unserved(self.alloc)?;
-        let most = self.record.bids.saturating_sub(self.looks.done);
-        let served = self.serve_all(waiting.as_slice(), self.looks.within(most), &mut None)?;
-        if self.looks.is_spent() && self.looks.done < self.record.bids {
-            return Ok(end_if_blocked(served));
+        let waiting = self.market.unassigned(self.alloc)?;
+        let most = self.record.bids.saturating_sub(self.arc_scans.done);
+        let assigned = self.augment_all(
+            waiting.as_slice(),
+            self.arc_scans.within(most),
+            &mut None,
+        )?;
+        if self.arc_scans.is_spent() && self.arc_scans.done < self.record.bids {
+            return Ok(end_if_blocked(assigned));
         }
         self.record = self.record.with_stage(Stage::Auction);
         self.record.bids = 0;
-        match served {
-            Served::All => self.end_phase()?,
-            Served::Hall(persons) => return Ok(Some(RunEnd::Hall(persons))),
-            Served::Spent | Served::Slow => {}
+        match assigned {
+            Assigned::All => self.end_phase()?,
+            Assigned::Hall(persons) => return Ok(Some(RunEnd::Hall(persons))),
+            Assigned::Spent | Assigned::Slow => {}
         }
         Ok(None)
     }
@@ -552,7 +568,7 @@ impl<'a> Run<'a> {
     fn end_phase(&mut self) -> Result<(), AllocError> {
         if !self.problem.is_square() && self.record.dummy_bids < DUMMY_BIDS {
             self.record.dummy_bids = self.record.dummy_bids.wrapping_add(1);
-            self.looks.add(self.problem.objects);
+            self.arc_scans.add(self.problem.objects);
             if bid_for_dummies(self.alloc, &mut self.market, self.record.slackness)? {
                 return Ok(());
             }
@@ -574,12 +590,12 @@ impl<'a> Run<'a> {
 
     // Whether an assignment exists, and whether some pairs are in none.
     fn find_matching(&mut self, begins_anew: bool) -> Result<Option<RunEnd>, AllocError> {
-        let begun = self.looks.done;
+        let begun = self.arc_scans.done;
         let objects = self.market.objects.as_slice();
-        let mut matching = Matching::begin(self.alloc, self.problem, objects, &mut self.looks)?;
-        let is_fresh = begun == self.record.looks;
-        let known = matching.grow(self.problem, is_fresh, &mut self.looks)?;
-        let is_known = is_fresh && self.looks.done == begun;
+        let mut matching = Matching::begin(self.alloc, self.problem, objects, &mut self.arc_scans)?;
+        let is_fresh = begun == self.record.arc_scans;
+        let known = matching.grow(self.problem, is_fresh, &mut self.arc_scans)?;
+        let is_known = is_fresh && self.arc_scans.done == begun;
         match known {
             Known::Full if is_known || self.has_room() => {
                 self.record.has_assignment = true;
@@ -587,7 +603,7 @@ impl<'a> Run<'a> {
                     self.begin_phase();
                 }
                 let Matching { owners, .. } = matching;
-                self.look_for_blocks(owners)
+                self.look_for_components(owners)
             }
             Known::Blocked(person) => {
                 matching.blocked_persons(self.problem, person)?;
@@ -602,23 +618,23 @@ impl<'a> Run<'a> {
         }
     }
 
-    // Whether looks for the passes are left that find and drop pairs.
+    // Whether arc scans for the passes are left that find and drop pairs.
     fn has_room(&self) -> bool {
         let passes = self.pairs().saturating_mul(3);
-        self.looks.done.saturating_add(passes) <= self.looks.limit
+        self.arc_scans.done.saturating_add(passes) <= self.arc_scans.limit
     }
 
     // Drops pairs if at least a twentieth is in no assignment. A search with a limit would have to find
     // them in each call: it drops pairs if a single plan is left, and else leaves the auction.
-    fn look_for_blocks(&mut self, owners: Vec<u32>) -> Result<Option<RunEnd>, AllocError> {
-        let blocks = find_blocks(self.alloc, self.problem, owners, &mut self.looks)?;
-        let kept = blocks.count_kept(self.problem);
+    fn look_for_components(&mut self, owners: Vec<u32>) -> Result<Option<RunEnd>, AllocError> {
+        let components = find_components(self.alloc, self.problem, owners, &mut self.arc_scans)?;
+        let kept = components.count_kept(self.problem);
         let pairs = self.problem.pairs.len();
         if kept >= pairs.saturating_sub(pairs / 20) {
             return Ok(None);
         }
-        if self.looks.limit == u64::MAX || kept == self.problem.persons() {
-            return Ok(Some(RunEnd::Drops(blocks)));
+        if self.arc_scans.limit == u64::MAX || kept == self.problem.persons() {
+            return Ok(Some(RunEnd::Drops(components)));
         }
         self.begin_cold();
         Ok(None)
@@ -626,18 +642,18 @@ impl<'a> Run<'a> {
 }
 
 // The end of searches that are stopped.
-fn end_if_blocked(served: Served) -> Option<RunEnd> {
-    match served {
-        Served::Hall(persons) => Some(RunEnd::Hall(persons)),
-        Served::All | Served::Spent | Served::Slow => None,
+fn end_if_blocked(assigned: Assigned) -> Option<RunEnd> {
+    match assigned {
+        Assigned::Hall(persons) => Some(RunEnd::Hall(persons)),
+        Assigned::All | Assigned::Spent | Assigned::Slow => None,
     }
 }
 
 // Whether searches would take too long, after one more.
-fn is_slow(forecast: &mut Option<Forecast>, looks: Looks, left: usize) -> bool {
+fn is_slow(forecast: &mut Option<Forecast>, arc_scans: ArcScans, left: usize) -> bool {
     match forecast {
         None => false,
-        Some(forecast) => !forecast.goes_on(looks, left),
+        Some(forecast) => !forecast.goes_on(arc_scans, left),
     }
 }
 

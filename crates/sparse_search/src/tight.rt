@@ -2,7 +2,7 @@
 use super::market::Market;
 use super::problem::{Pair, Scaled};
 use super::row::{FAR, Look, least_value, look_at, value};
-use search_base::{Looks, NOBODY, at, is_unowned, place_at, put};
+use search_base::{ArcScans, NOBODY, at, is_unowned, place_at, put};
 use std::alloc::{AllocError, Global};
 
 // Where a search along tight pairs stands: the least value of each person seen, the next pairs of
@@ -122,10 +122,10 @@ impl Deepening {
         scaled: Scaled<'_>,
         market: &Market,
         person: u32,
-        looks: &mut Looks,
+        arc_scans: &mut ArcScans,
     ) -> Result<(), AllocError> {
         let row = scaled.problem.row(person);
-        looks.add(row.len());
+        arc_scans.add(row.len());
         let place = person as usize;
         if place < self.leasts.len() {
             self.leasts[place] = least_value(row, market.prices.as_slice(), scaled.shift);
@@ -135,9 +135,9 @@ impl Deepening {
     }
 
     // Keeps where the look for objects goes on.
-    fn note(list: &mut [u32], person: u32, spot: Spot, looks: &mut Looks) {
+    fn note(list: &mut [u32], person: u32, spot: Spot, arc_scans: &mut ArcScans) {
         let from = at(list, person);
-        looks.add(spot.pair.saturating_sub(from) as usize);
+        arc_scans.add(spot.pair.saturating_sub(from) as usize);
         put(list, person, spot.pair);
     }
 
@@ -148,41 +148,41 @@ impl Deepening {
         scaled: Scaled<'_>,
         market: &mut Market,
         person: u32,
-        looks: &mut Looks,
+        arc_scans: &mut ArcScans,
     ) -> Result<bool, AllocError> {
         let sight = self.sight(scaled, person, at(self.ahead.as_slice(), person));
         let unowned = find_unowned(sight, market, self.floor);
-        Deepening::note(self.ahead.as_mut_slice(), person, unowned, looks);
+        Deepening::note(self.ahead.as_mut_slice(), person, unowned, arc_scans);
         if unowned.place != NOBODY {
             take_path(self.path.as_slice(), market, unowned.place);
             return Ok(true);
         }
         let sight = self.sight(scaled, person, at(self.next.as_slice(), person));
         let owner = find_owner(sight, market, self.seen.as_slice());
-        Deepening::note(self.next.as_mut_slice(), person, owner, looks);
+        Deepening::note(self.next.as_mut_slice(), person, owner, arc_scans);
         if owner.place == NOBODY {
             let _ = self.path.pop();
         } else {
-            self.enter(scaled, market, owner.place, looks)?;
+            self.enter(scaled, market, owner.place, arc_scans)?;
         }
         Ok(false)
     }
 
-    // Gives the person an object if tight pairs lead to one, and the looks last.
-    fn serve(
+    // Gives the person an object if tight pairs lead to one, and the arc scans last.
+    fn augment(
         &mut self,
         scaled: Scaled<'_>,
         market: &mut Market,
         first: u32,
-        looks: &mut Looks,
+        arc_scans: &mut ArcScans,
     ) -> Result<(), AllocError> {
         self.path.clear();
-        self.enter(scaled, market, first, looks)?;
+        self.enter(scaled, market, first, arc_scans)?;
         for _step in 0..self.leasts.len().saturating_mul(2).saturating_add(1) {
             let Some(person) = self.path.last().copied() else {
                 return Ok(());
             };
-            if looks.is_spent() || self.step(scaled, market, person, looks)? {
+            if arc_scans.is_spent() || self.step(scaled, market, person, arc_scans)? {
                 return Ok(());
             }
         }
@@ -191,14 +191,19 @@ impl Deepening {
 }
 
 /// How many persons own no object with a tight pair, among each `step`th one.
-pub fn count_slack(scaled: Scaled<'_>, market: &Market, step: usize, looks: &mut Looks) -> usize {
+pub fn count_slack(
+    scaled: Scaled<'_>,
+    market: &Market,
+    step: usize,
+    arc_scans: &mut ArcScans,
+) -> usize {
     let mut count = 0usize;
     for k in 0..scaled.problem.persons() / step.max(1) {
         let person = place_at(k.wrapping_mul(step));
         let own = at(market.objects.as_slice(), person);
         let (prices, owners) = (market.prices.as_slice(), market.owners.as_slice());
         let row = scaled.problem.row(person);
-        looks.add(row.len());
+        arc_scans.add(row.len());
         let look = look_at(row, prices, owners, scaled.shift, own);
         if look.own > look.least || look.own >= FAR {
             count = count.wrapping_add(1);
@@ -220,7 +225,7 @@ fn settle_person(market: &mut Market, person: u32, own: u32, look: Look) {
 /// Takes their objects from persons whose pairs aren't tight, and gives unowned objects with tight
 /// pairs to persons without one. Returns the sum of how much objects were worse than the best, at most
 /// this much each, and as much for persons without one.
-pub fn settle(scaled: Scaled<'_>, market: &mut Market, most: i64, looks: &mut Looks) -> i64 {
+pub fn settle(scaled: Scaled<'_>, market: &mut Market, most: i64, arc_scans: &mut ArcScans) -> i64 {
     let mut sum = 0i64;
     for person in 0..place_at(scaled.problem.persons()) {
         let own = at(market.objects.as_slice(), person);
@@ -231,40 +236,40 @@ pub fn settle(scaled: Scaled<'_>, market: &mut Market, most: i64, looks: &mut Lo
         sum = sum.saturating_add(slack);
         settle_person(market, person, own, look);
     }
-    looks.add(scaled.problem.pairs.len());
+    arc_scans.add(scaled.problem.pairs.len());
     sum
 }
 
-/// Serves persons from this one on by tight pairs, as far as a search in depth finds them, while looks
+/// Assigns persons from this one on by tight pairs, as far as a search in depth finds them, while arc scans
 /// are left. Returns the person to go on from, at the end the number of persons.
 pub fn match_tight(
     alloc: Global,
     scaled: Scaled<'_>,
     market: &mut Market,
     first: u32,
-    looks: &mut Looks,
+    arc_scans: &mut ArcScans,
 ) -> Result<u32, AllocError> {
     let persons = scaled.problem.persons();
     let mut deepening = Deepening::new(alloc, persons, i64::MIN)?;
     for person in first..place_at(persons) {
-        if looks.is_spent() {
+        if arc_scans.is_spent() {
             return Ok(person);
         }
         if at(market.objects.as_slice(), person) == NOBODY {
-            deepening.serve(scaled, market, person, looks)?;
+            deepening.augment(scaled, market, person, arc_scans)?;
         }
     }
     Ok(place_at(persons))
 }
 
-/// Serves owners of objects at the floor by tight pairs that lead to dear unowned objects, as far as a
-/// search in depth finds these and looks are left.
-pub fn match_dear(
+/// Assigns owners of objects at the floor by tight pairs that lead to overpriced unowned objects, as far as a
+/// search in depth finds these and arc scans are left.
+pub fn match_overpriced(
     alloc: Global,
     scaled: Scaled<'_>,
     market: &mut Market,
     floor: i64,
-    looks: &mut Looks,
+    arc_scans: &mut ArcScans,
 ) -> Result<(), AllocError> {
     let persons = scaled.problem.persons();
     let mut deepening = Deepening::new(alloc, persons, floor)?;
@@ -272,7 +277,7 @@ pub fn match_dear(
         let object = at(market.objects.as_slice(), person);
         let is_at_floor = market.prices.get(object as usize).copied() == Some(floor);
         if is_at_floor && !deepening.seen.get(person as usize).copied().unwrap_or(true) {
-            deepening.serve(scaled, market, person, looks)?;
+            deepening.augment(scaled, market, person, arc_scans)?;
         }
     }
     Ok(())

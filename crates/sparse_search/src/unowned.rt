@@ -1,12 +1,12 @@
-// Fewer persons than objects: an unowned object has to be as cheap as any. First each dear one's price
+// Fewer persons than objects: an unowned object has to be as cheap as any. First each overpriced one's price
 // falls until a person would pay it, and then searches from the cheapest objects bring down the rest.
 use super::auction::price_at;
 use super::market::Market;
 use super::path::{Level, PathSearch};
 use super::problem::{Pair, Scaled};
 use super::row::{FAR, least_value};
-use super::tight::match_dear;
-use search_base::{Looks, NOBODY, Reached, at, place_at};
+use super::tight::match_overpriced;
+use search_base::{ArcScans, NOBODY, Reached, at, place_at};
 use std::alloc::{AllocError, Global};
 
 // The greatest price at which a person would pay for each unowned object as for its best one.
@@ -34,7 +34,7 @@ pub fn lower_unowned(
     alloc: Global,
     scaled: Scaled<'_>,
     market: &mut Market,
-    looks: &mut Looks,
+    arc_scans: &mut ArcScans,
 ) -> Result<(), AllocError> {
     let mut levels = vec![in alloc; market.least_price(); market.prices.len()]?;
     for person in 0..place_at(scaled.problem.persons()) {
@@ -43,13 +43,13 @@ pub fn lower_unowned(
         let owners = market.owners.as_slice();
         raise_levels(row, owners, levels.as_mut_slice(), least, scaled.shift);
     }
-    looks.add(scaled.problem.pairs.len());
+    arc_scans.add(scaled.problem.pairs.len());
     lower_to(market, levels.as_slice());
     Ok(())
 }
 
 // The cheapest unowned object above the floor.
-fn find_dear(market: &Market, floor: i64) -> Level {
+fn find_overpriced(market: &Market, floor: i64) -> Level {
     let mut level = Level {
         floor,
         ..Level::begin()
@@ -76,13 +76,13 @@ fn reach_all(search: &mut PathSearch, market: &Market, level: Level) -> Result<(
     Ok(())
 }
 
-// Goes on from the owners of passed objects to the nearest dear unowned object.
+// Goes on from the owners of passed objects to the nearest overpriced unowned object.
 fn find(
     search: &mut PathSearch,
     scaled: Scaled<'_>,
     market: &Market,
     first: Level,
-    looks: &mut Looks,
+    arc_scans: &mut ArcScans,
 ) -> Result<Level, AllocError> {
     let mut level = first;
     for turn in 0..scaled.problem.persons() {
@@ -91,7 +91,7 @@ fn find(
         if person == NOBODY {
             return Ok(level);
         }
-        level = search.scan(scaled, market, person, level, looks)?;
+        level = search.scan(scaled, market, person, level, arc_scans)?;
         if level.is_found() {
             return Ok(level);
         }
@@ -124,37 +124,37 @@ fn raise_floor(market: &mut Market, floor: i64, raise: i64) {
     }
 }
 
-/// Makes the cheapest of the dear unowned objects as cheap as any. Returns whether there was one.
+/// Makes the cheapest of the overpriced unowned objects as cheap as any. Returns whether there was one.
 pub fn bring_down(
     search: &mut PathSearch,
     scaled: Scaled<'_>,
     market: &mut Market,
-    looks: &mut Looks,
+    arc_scans: &mut ArcScans,
 ) -> Result<bool, AllocError> {
-    let dear = find_dear(market, market.least_price());
-    looks.add(market.prices.len());
-    if dear.object == NOBODY {
+    let overpriced = find_overpriced(market, market.least_price());
+    arc_scans.add(market.prices.len());
+    if overpriced.object == NOBODY {
         return Ok(false);
     }
     search.begin();
-    search.set_label(dear.object, dear.nearest, NOBODY, false);
-    reach_all(search, market, dear)?;
-    let level = find(search, scaled, market, dear, looks)?;
+    search.set_label(overpriced.object, overpriced.nearest, NOBODY, false);
+    reach_all(search, market, overpriced)?;
+    let level = find(search, scaled, market, overpriced, arc_scans)?;
     search.raise_prices(market, level.nearest);
     raise_floor(market, level.floor, level.nearest);
     take_path(search, market, level.object);
     Ok(level.nearest < FAR)
 }
 
-// The prices of dear unowned objects.
-fn dear_prices(alloc: Global, market: &Market, floor: i64) -> Result<Vec<i64>, AllocError> {
-    let mut dear = Vec::new(alloc);
+// The prices of overpriced unowned objects.
+fn overpriced_prices(alloc: Global, market: &Market, floor: i64) -> Result<Vec<i64>, AllocError> {
+    let mut overpriced = Vec::new(alloc);
     for (price, owner) in market.prices.iter().zip(&market.owners) {
         if *owner == NOBODY && *price > floor {
-            dear.push(*price)?;
+            overpriced.push(*price)?;
         }
     }
-    Ok(dear)
+    Ok(overpriced)
 }
 
 // Passes all objects nearer than the level's nearest.
@@ -163,7 +163,7 @@ fn pass_all(
     scaled: Scaled<'_>,
     market: &Market,
     first: Level,
-    looks: &mut Looks,
+    arc_scans: &mut ArcScans,
 ) -> Result<(), AllocError> {
     let mut level = first;
     for turn in 0..market.prices.len() {
@@ -173,7 +173,7 @@ fn pass_all(
         }
         let person = search.next_person(market, turn);
         if person != NOBODY {
-            level = search.scan(scaled, market, person, level, looks)?;
+            level = search.scan(scaled, market, person, level, arc_scans)?;
         }
     }
     Ok(())
@@ -188,21 +188,21 @@ fn raise_to_floor(market: &mut Market, floor: i64) {
     }
 }
 
-// The part of dear objects that one step brings down.
+// The part of overpriced objects that one step brings down.
 const PART: usize = 4;
 
-/// Brings down many dear unowned objects: raises the floor to the price of some of them, with the
+/// Brings down many overpriced unowned objects: raises the floor to the price of some of them, with the
 /// prices of what is reached below, and gives others to persons by tight pairs. Each step leaves fewer.
 pub fn bring_down_many(
     alloc: Global,
     search: &mut PathSearch,
     scaled: Scaled<'_>,
     market: &mut Market,
-    looks: &mut Looks,
+    arc_scans: &mut ArcScans,
 ) -> Result<(), AllocError> {
     let floor = market.least_price();
-    let dear = dear_prices(alloc, market, floor)?;
-    let price = price_at(alloc, dear.as_slice(), dear.len() / PART)?;
+    let overpriced = overpriced_prices(alloc, market, floor)?;
+    let price = price_at(alloc, overpriced.as_slice(), overpriced.len() / PART)?;
     let level = Level {
         floor,
         nearest: price.wrapping_sub(floor),
@@ -211,9 +211,9 @@ pub fn bring_down_many(
     };
     search.begin();
     reach_all(search, market, level)?;
-    pass_all(search, scaled, market, level, looks)?;
+    pass_all(search, scaled, market, level, arc_scans)?;
     search.raise_prices(market, level.nearest);
     raise_to_floor(market, price);
-    looks.add(market.prices.len());
-    match_dear(alloc, scaled, market, price, looks)
+    arc_scans.add(market.prices.len());
+    match_overpriced(alloc, scaled, market, price, arc_scans)
 }

@@ -13,7 +13,7 @@ use Rattle.c_calls.specs.Codes.{fault_code, fault_place}
 use Rattle.c_calls.specs.doubles.Ends.{flag}
 use Rattle.c_calls.specs.doubles.Faults.{HasFault, HasShape}
 use Rattle.c_calls.specs.Sizes.{sense_of}
-use Rattle.c_calls.specs.doubles.Given.{GivenDoubles, rows_in}
+use Rattle.c_calls.specs.doubles.Input.{InputDoubles, rows_in}
 
 -- the code of a verdict
 abbrev pub verdict_code : Verdict → ℤ
@@ -36,7 +36,7 @@ with_verdict Undecided info = info
 with_verdict (Best by_margin) info = record info { by_margin = flag by_margin }
 
 -- what holds at each verdict: at the best the plan is optimal, and by a margin no other is as good
-abbrev pub IsProved : GivenDoubles → Sense → List ℕ → Verdict → Type 0
+abbrev pub IsProved : InputDoubles → Sense → List ℕ → Verdict → Type 0
 IsProved g sense objects Length = Unit {0}
 IsProved g sense objects (Cost k) = Unit {0}
 IsProved g sense objects (Unlisted i) = Unit {0}
@@ -47,7 +47,7 @@ IsProved g sense objects (Best by_margin) =
     IsBest sense (rows_in g) objects × (by_margin ≡ true → IsOnlyBest sense (rows_in g) objects)
 
 -- the verdict on a plan and prices
-pub record IsOfGiven (g : GivenDoubles) (objects : List ℕ) (prices : List Float) (verdict : Verdict) : Type 0 where
+pub record IsOfInput (g : InputDoubles) (objects : List ℕ) (prices : List Float) (verdict : Verdict) : Type 0 where
   pub sense : Sense
   pub wanted : sense_of g.sense ≡ Some sense
   pub shape : HasShape g
@@ -56,21 +56,21 @@ pub record IsOfGiven (g : GivenDoubles) (objects : List ℕ) (prices : List Floa
   pub proved : IsProved g sense objects verdict
 
 -- the verdict on a plan and prices, with its code and what it names
-pub record IsJudged (g : GivenDoubles) (objects : List ℕ) (prices : List Float) (before after : DoublesInfo) (code : ℤ) : Type 0 where
+pub record IsJudged (g : InputDoubles) (objects : List ℕ) (prices : List Float) (before after : DoublesInfo) (code : ℤ) : Type 0 where
   pub verdict : Verdict
   pub is : code ≡ verdict_code verdict
   pub names : after ≡ with_verdict verdict before
-  pub holds : IsOfGiven g objects prices verdict
+  pub holds : IsOfInput g objects prices verdict
 
 -- the first fault, with its code and its place
-pub record IsRefused (g : GivenDoubles) (before after : DoublesInfo) (code : ℤ) : Type 0 where
+pub record IsRefused (g : InputDoubles) (before after : DoublesInfo) (code : ℤ) : Type 0 where
   pub fault : Fault
   pub is : code ≡ fault_code fault
   pub first : HasFault g fault
   pub place : after ≡ record before { place = fault_place before.place fault }
 
 -- a problem with the lengths of a plan and prices
-abbrev pub with_answer : ℕ → ℕ → ℕ → List Float → List ℕ → List Float → GivenDoubles
+abbrev pub with_answer : ℕ → ℕ → ℕ → List Float → List ℕ → List Float → InputDoubles
 with_answer sense n m costs objects prices = record {
   sense = sense;
   n = n;

@@ -9,7 +9,7 @@ use Rattle.c_calls.specs.declared.doubles.answer.Answer.TheVariants.{Best, Hall,
 use Rattle.c_calls.specs.doubles.Answers.{IsBestBy, IsForbidden}
 use Rattle.c_calls.specs.Codes.{fault_code, fault_place}
 use Rattle.c_calls.specs.doubles.Faults.{HasFault, IsWhole}
-use Rattle.c_calls.specs.doubles.Given.{GivenDoubles}
+use Rattle.c_calls.specs.doubles.Input.{InputDoubles}
 
 -- the code of an end
 abbrev pub end_code : Result Answer Fault → ℤ
@@ -35,14 +35,14 @@ abbrev pub flag : Bool → ℕ
 flag by_margin = if by_margin then 1 else 0
 
 -- an optimal plan with prices that prove it
-pub record HoldsBest (g : GivenDoubles) (sense : Sense) (before after : Buffers) : Type 0 where
+pub record HoldsBest (g : InputDoubles) (sense : Sense) (before after : Buffers) : Type 0 where
   pub by_margin : Bool
   pub proof : IsBestBy g sense after.objects after.prices by_margin
   pub info : after.info ≡ record before.info { by_margin = flag by_margin }
   pub persons : after.persons ≡ before.persons
 
 -- a Hall set, at the beginning of two buffers: there is no plan
-pub record HoldsHall (g : GivenDoubles) (before after : Buffers) : Type 0 where
+pub record HoldsHall (g : InputDoubles) (before after : Buffers) : Type 0 where
   pub some : List ℕ
   pub few : List ℕ
   pub proof : IsForbidden g some few
@@ -52,13 +52,13 @@ pub record HoldsHall (g : GivenDoubles) (before after : Buffers) : Type 0 where
   pub prices : after.prices ≡ before.prices
 
 -- what the buffers hold at an end
-abbrev pub HoldsEnd : GivenDoubles → Sense → Buffers → Buffers → Answer → Type 0
+abbrev pub HoldsEnd : InputDoubles → Sense → Buffers → Buffers → Answer → Type 0
 HoldsEnd g sense before after (Best plan) = HoldsBest g sense before after
 HoldsEnd g sense before after (Hall set) = HoldsHall g before after
 HoldsEnd g sense before after Undecided = after ≡ before
 
 -- the end of a call on a problem without a fault
-pub record IsEnded (g : GivenDoubles) (before after : Buffers) (end : Answer) : Type 0 where
+pub record IsEnded (g : InputDoubles) (before after : Buffers) (end : Answer) : Type 0 where
   pub sense : Sense
   pub whole : IsWhole g sense
   pub holds : HoldsEnd g sense before after end
@@ -69,18 +69,18 @@ with_place f before =
     record before { info = record before.info { place = fault_place before.info.place f } }
 
 -- an end of the search, or the first fault
-abbrev pub IsSolved : GivenDoubles → Buffers → Buffers → Result Answer Fault → Type 0
+abbrev pub IsSolved : InputDoubles → Buffers → Buffers → Result Answer Fault → Type 0
 IsSolved g before after (Ok end) = IsEnded g before after end
 IsSolved g before after (Err f) = HasFault g f × (after ≡ with_place f before)
 
 -- an end of the call that has this code
-pub record IsReported (g : GivenDoubles) (before after : Buffers) (code : ℤ) : Type 0 where
+pub record IsReported (g : InputDoubles) (before after : Buffers) (code : ℤ) : Type 0 where
   pub end : Result Answer Fault
   pub is : code ≡ end_code end
   pub solved : IsSolved g before after end
 
 -- a problem with the lengths of buffers
-abbrev pub with_buffers : ℕ → ℕ → ℕ → List Float → Buffers → GivenDoubles
+abbrev pub with_buffers : ℕ → ℕ → ℕ → List Float → Buffers → InputDoubles
 with_buffers sense n m costs room = record {
   sense = sense;
   n = n;

@@ -7,42 +7,42 @@ use Rattle.c_calls.specs.declared.fault.Fault.{Fault}
 use Rattle.c_calls.specs.declared.fault.Fault.TheVariants.{Sense, Size, Length, Person, Object, Cost, Price, Memory}
 use Rattle.c_calls.specs.declared.size.Shape.{Shape}
 use Rattle.c_calls.specs.Sizes.{HasSize, sense_of}
-use Rattle.c_calls.specs.doubles.Given.{GivenDoubles, HasLengths}
+use Rattle.c_calls.specs.doubles.Input.{InputDoubles, HasLengths}
 
 -- a sense, a size, and lists of the right lengths
-pub record HasShape (g : GivenDoubles) : Type 0 where
+pub record HasShape (g : InputDoubles) : Type 0 where
   pub sense : IsSome (sense_of g.sense)
   pub size : HasSize g.n g.m
   pub lengths : HasLengths g
 
 -- the given problem has this sense, this size and the right lengths
-pub record IsShape (g : GivenDoubles) (shape : Shape) : Type 0 where
+pub record IsShape (g : InputDoubles) (shape : Shape) : Type 0 where
   pub wanted : sense_of g.sense ≡ Some shape.sense
   pub persons : shape.n ≡ g.n
   pub objects : shape.m ≡ g.m
   pub fits : HasShape g
 
 -- no fault, under this sense
-pub record IsWhole (g : GivenDoubles) (sense : Wanted) : Type 0 where
+pub record IsWhole (g : InputDoubles) (sense : Wanted) : Type 0 where
   pub wanted : sense_of g.sense ≡ Some sense
   pub shape : HasShape g
   pub costs : AreCosts sense g.costs
 
 -- the first double that is no cost stands at this place
-pub record IsCostFault (g : GivenDoubles) (k : ℕ) : Type 0 where
+pub record IsCostFault (g : InputDoubles) (k : ℕ) : Type 0 where
   pub sense : Wanted
   pub wanted : sense_of g.sense ≡ Some sense
   pub shape : HasShape g
   pub first : IsFirstFault sense g.costs k
 
 -- no fault
-pub record IsFaultless (g : GivenDoubles) : Type 0 where
+pub record IsFaultless (g : InputDoubles) : Type 0 where
   pub sense : Wanted
   pub whole : IsWhole g sense
 
 -- the first fault in the order of the variants, by the first place that has it; there are no lists of
 -- pairs, and no first prices
-abbrev pub HasFault : GivenDoubles → Fault → Type 0
+abbrev pub HasFault : InputDoubles → Fault → Type 0
 HasFault g Sense = sense_of g.sense ≡ None
 HasFault g Size = IsSome (sense_of g.sense) × ¬ HasSize g.n g.m
 HasFault g Length = IsSome (sense_of g.sense) × HasSize g.n g.m × ¬ HasLengths g

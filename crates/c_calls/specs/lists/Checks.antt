@@ -9,8 +9,8 @@ use Rattle.exact_checker.specs.Verdicts.{IsVerdict}
 use Rattle.c_calls.specs.declared.fault.Fault.{Fault}
 use Rattle.c_calls.specs.declared.lists.info.Info.{Info}
 use Rattle.c_calls.specs.Codes.{fault_code, fault_place}
-use Rattle.c_calls.specs.lists.Faults.{HasFault, IsOfGiven}
-use Rattle.c_calls.specs.lists.Given.{GivenLists}
+use Rattle.c_calls.specs.lists.Faults.{HasFault, IsOfInput}
+use Rattle.c_calls.specs.lists.Input.{InputLists}
 
 -- the code of a verdict on an assignment and prices
 abbrev pub verdict_code : Verdict → ℤ
@@ -51,22 +51,22 @@ with_hall_verdict (hall.Extra j) info = record info { object = j }
 with_hall_verdict hall.Count info = info
 
 -- the first fault, with its code and its place
-pub record IsRefused (g : GivenLists) (before after : Info) (code : ℤ) : Type 0 where
+pub record IsRefused (g : InputLists) (before after : Info) (code : ℤ) : Type 0 where
   pub fault : Fault
   pub is : code ≡ fault_code fault
   pub first : HasFault g fault
   pub place : after ≡ record before { place = fault_place before.place fault }
 
 -- the verdict on an assignment and prices, with its code and what it names
-pub record IsJudged (g : GivenLists) (objects : List ℕ) (prices : List ℤ) (before after : Info) (code : ℤ) : Type 0 where
+pub record IsJudged (g : InputLists) (objects : List ℕ) (prices : List ℤ) (before after : Info) (code : ℤ) : Type 0 where
   pub verdict : Verdict
   pub is : code ≡ verdict_code verdict
   pub names : after ≡ with_verdict verdict before
-  pub holds : IsOfGiven g (λ l. IsVerdict l objects prices verdict)
+  pub holds : IsOfInput g (λ l. IsVerdict l objects prices verdict)
 
 -- the verdict on persons and objects, with its code and what it names
-pub record IsHallJudged (g : GivenLists) (persons objects : List ℕ) (before after : Info) (code : ℤ) : Type 0 where
+pub record IsHallJudged (g : InputLists) (persons objects : List ℕ) (before after : Info) (code : ℤ) : Type 0 where
   pub verdict : HallVerdict
   pub is : code ≡ hall_code verdict
   pub names : after ≡ with_hall_verdict verdict before
-  pub holds : IsOfGiven g (λ l. IsHallVerdict l persons objects verdict)
+  pub holds : IsOfInput g (λ l. IsHallVerdict l persons objects verdict)

@@ -10,8 +10,8 @@ use Rattle.list_solver.specs.declared.found.Found.TheVariants.{Best, Hall, Stopp
 use Rattle.list_solver.specs.Found.{MayStop}
 use Rattle.c_calls.specs.Codes.{fault_code, fault_place}
 use Rattle.c_calls.specs.declared.lists.info.Info.{Info}
-use Rattle.c_calls.specs.lists.Given.{GivenLists}
-use Rattle.c_calls.specs.lists.Faults.{HasFault, IsOfGiven}
+use Rattle.c_calls.specs.lists.Input.{InputLists}
+use Rattle.c_calls.specs.lists.Faults.{HasFault, IsOfInput}
 
 -- the code of an end
 abbrev pub end_code : Result Found Fault → ℤ
@@ -51,7 +51,7 @@ pub record HoldsHall (l : ListedCosts) (before after : Buffers) : Type 0 where
   pub prices : after.prices ≡ before.prices
 
 -- objects and prices from which the search goes on; the persons and the record of the call stay
-pub record HoldsStanding (before after : Buffers) : Type 0 where
+pub record HoldsState (before after : Buffers) : Type 0 where
   pub objects : length after.objects ≡ length before.objects
   pub prices : length after.prices ≡ length before.prices
   pub persons : after.persons ≡ before.persons
@@ -61,7 +61,7 @@ pub record HoldsStanding (before after : Buffers) : Type 0 where
 abbrev pub HoldsEnd : ListedCosts → Buffers → Buffers → Found → Type 0
 HoldsEnd l before after (Best sum) = HoldsBest l before after
 HoldsEnd l before after (Hall set) = HoldsHall l before after
-HoldsEnd l before after Stopped = HoldsStanding before after
+HoldsEnd l before after Stopped = HoldsState before after
 
 -- the buffers with the place of a fault, if it has one; otherwise unchanged
 abbrev pub with_place : Fault → Buffers → Buffers
@@ -69,12 +69,12 @@ with_place f before =
     record before { info = record before.info { place = fault_place before.info.place f } }
 
 -- an end of the search, or the first fault
-abbrev pub IsSolved : GivenLists → ℕ → Buffers → Buffers → Result Found Fault → Type 0
-IsSolved g budget before after (Ok end) = MayStop budget end × IsOfGiven g (λ l. HoldsEnd l before after end)
+abbrev pub IsSolved : InputLists → ℕ → Buffers → Buffers → Result Found Fault → Type 0
+IsSolved g budget before after (Ok end) = MayStop budget end × IsOfInput g (λ l. HoldsEnd l before after end)
 IsSolved g budget before after (Err f) = HasFault g f × (after ≡ with_place f before)
 
 -- a problem with first prices and with the lengths of buffers
-abbrev pub with_buffers : GivenLists → List ℤ → Buffers → GivenLists
+abbrev pub with_buffers : InputLists → List ℤ → Buffers → InputLists
 with_buffers g first room = record g {
   by_person = length room.objects ∷ length room.persons ∷ [];
   by_object = length room.prices ∷ [];
@@ -82,11 +82,11 @@ with_buffers g first room = record g {
 }
 
 -- an end of the call that has this code
-pub record IsReported (g : GivenLists) (budget : ℕ) (before after : Buffers) (code : ℤ) : Type 0 where
+pub record IsReported (g : InputLists) (budget : ℕ) (before after : Buffers) (code : ℤ) : Type 0 where
   pub end : Result Found Fault
   pub is : code ≡ end_code end
   pub solved : IsSolved g budget before after end
 
 -- the end of a call that solves a problem into these buffers, from first prices and with a budget
-abbrev pub Solves : GivenLists → List ℤ → ℕ → Buffers → Buffers → ℤ → Type 0
+abbrev pub Solves : InputLists → List ℤ → ℕ → Buffers → Buffers → ℤ → Type 0
 Solves g first budget before after code = IsReported (with_buffers g first before) budget before after code

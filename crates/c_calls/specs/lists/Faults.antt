@@ -8,7 +8,7 @@ use Rattle.cost_lists.specs.ListedCosts.{ListedCosts}
 use Rattle.c_calls.specs.declared.fault.Fault.{Fault}
 use Rattle.c_calls.specs.declared.fault.Fault.TheVariants.{Sense, Size, Length, Person, Object, Cost, Price, Memory}
 use Rattle.c_calls.specs.Sizes.{HasSize, sense_of}
-use Rattle.c_calls.specs.lists.Given.{GivenLists, HasLengths, lists_in}
+use Rattle.c_calls.specs.lists.Input.{InputLists, HasLengths, lists_in}
 
 -- the element at place k lacks the property, and those before it have it
 pub record IsFirstWithout {A : Type 0} (P : A → Type 0) (xs : List A) (k : ℕ) : Type 0 where
@@ -17,25 +17,25 @@ pub record IsFirstWithout {A : Type 0} (P : A → Type 0) (xs : List A) (k : ℕ
   pub before : (i : ℕ) (d : A) → i < k → P (slice_index_or xs i d)
 
 -- a sense, a size, and lists of the right lengths
-pub record HasShape (g : GivenLists) : Type 0 where
+pub record HasShape (g : InputLists) : Type 0 where
   pub sense : IsSome (sense_of g.sense)
   pub size : HasSize g.n g.m
   pub lengths : HasLengths g
 
 -- the pairs are of persons and objects
-pub record AreNumbers (g : GivenLists) : Type 0 where
+pub record AreNumbers (g : InputLists) : Type 0 where
   pub persons : All (IsNumber g.n) g.persons
   pub objects : All (IsNumber g.m) g.objects
 
 -- no fault
-pub record IsWhole (g : GivenLists) : Type 0 where
+pub record IsWhole (g : InputLists) : Type 0 where
   pub shape : HasShape g
   pub numbers : AreNumbers g
   pub costs : All IsCost g.costs
   pub first : All IsPriceInLimits g.first
 
 -- the first fault in the order of the variants, by the first place that has it
-abbrev pub HasFault : GivenLists → Fault → Type 0
+abbrev pub HasFault : InputLists → Fault → Type 0
 HasFault g Sense = sense_of g.sense ≡ None
 HasFault g Size = IsSome (sense_of g.sense) × ¬ HasSize g.n g.m
 HasFault g Length = IsSome (sense_of g.sense) × HasSize g.n g.m × ¬ HasLengths g
@@ -48,7 +48,7 @@ HasFault g (Price k) =
 HasFault g Memory = IsWhole g
 
 -- what holds of the costs of the given problem, under the requested sense
-pub record IsOfGiven (g : GivenLists) (Holds : ListedCosts → Type 0) : Type 0 where
+pub record IsOfInput (g : InputLists) (Holds : ListedCosts → Type 0) : Type 0 where
   pub sense : Wanted
   pub wanted : sense_of g.sense ≡ Some sense
   pub whole : IsWhole g

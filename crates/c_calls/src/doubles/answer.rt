@@ -4,7 +4,7 @@ ghost use Rattle.double_checker.specs.Verdicts.{AreCosts};
 ghost use Rattle.c_calls.specs.doubles.Answers.{IsAccepted, IsFound};
 ghost use Rattle.c_calls.specs.doubles.Faults.{HasFault, IsShape};
 
-use super::given::Given;
+use super::input::Input;
 use super::judge::judge;
 use super::marks::marks;
 use crate::fault::Fault;
@@ -39,19 +39,19 @@ pub enum Answer {
 fn judge_plan(
     alloc: Global,
     shape: Shape,
-    given: &Given<'_>,
+    input: &Input<'_>,
     plan: Plan,
     margin: f64,
 ) -> Result<Answer, AllocError>
-    requires { IsShape given.now shape }
-    ensures { IfOk result (λ answer. IsAccepted given.now answer) }
+    requires { IsShape input.now shape }
+    ensures { IfOk result (λ answer. IsAccepted input.now answer) }
 {
     let mut owned = marks(alloc, shape.m)?;
     let verdict = check(
         shape.sense,
         shape.n,
         shape.m,
-        given.costs,
+        input.costs,
         plan.objects.as_slice(),
         plan.prices.as_slice(),
         margin,
@@ -67,17 +67,17 @@ fn judge_plan(
 fn judge_hall(
     alloc: Global,
     shape: Shape,
-    given: &Given<'_>,
+    input: &Input<'_>,
     set: HallSet,
 ) -> Result<Answer, AllocError>
-    requires { IsShape given.now shape }
-    ensures { IfOk result (λ answer. IsAccepted given.now answer) }
+    requires { IsShape input.now shape }
+    ensures { IfOk result (λ answer. IsAccepted input.now answer) }
 {
     let mut named = marks(alloc, shape.m)?;
     let (persons, objects) = (set.persons.as_slice(), set.objects.as_slice());
     let named = named.as_mut_slice();
     let (sense, n, m) = (shape.sense, shape.n, shape.m);
-    match check_hall(sense, n, m, given.costs, persons, objects, named) {
+    match check_hall(sense, n, m, input.costs, persons, objects, named) {
         HallVerdict::Hall => Ok(Answer::Hall(set)),
         _ => Ok(Answer::Undecided),
     }
@@ -126,17 +126,17 @@ fn search_from_start(
 fn search_on(
     alloc: Global,
     shape: Shape,
-    given: &Given<'_>,
+    input: &Input<'_>,
     start: Start<'_>,
 ) -> Result<Answer, AllocError>
-    requires { IsShape given.now shape }
-    ensures { IfOk result (λ answer. IsAccepted given.now answer) }
+    requires { IsShape input.now shape }
+    ensures { IfOk result (λ answer. IsAccepted input.now answer) }
 {
     let problem = Problem {
         sense: shape.sense,
         persons: shape.n as usize,
         objects: shape.m as usize,
-        costs: given.costs,
+        costs: input.costs,
     };
     let mut plan = Plan {
         objects: Vec::new(alloc),
@@ -144,33 +144,33 @@ fn search_on(
         by_margin: false,
     };
     match search_from_start(alloc, problem, start, &mut plan)? {
-        Ended::Plan(margin) => judge_plan(alloc, shape, given, plan, margin),
+        Ended::Plan(margin) => judge_plan(alloc, shape, input, plan, margin),
         Ended::Hall(set) => {
             let double_search::HallSet { persons, objects } = set;
-            judge_hall(alloc, shape, given, HallSet { persons, objects })
+            judge_hall(alloc, shape, input, HallSet { persons, objects })
         }
         Ended::Lost => Ok(Answer::Undecided),
     }
 }
 
 // Where nothing is accepted: the first double that is no cost, if there is one.
-fn undecided(shape: Shape, given: &Given<'_>) -> Result<Answer, Fault>
-    requires { IsShape given.now shape }
-    ensures found { IfOk result (IsFound given.now) }
-    ensures fault { IfErr result (HasFault given.now) }
+fn undecided(shape: Shape, input: &Input<'_>) -> Result<Answer, Fault>
+    requires { IsShape input.now shape }
+    ensures found { IfOk result (IsFound input.now) }
+    ensures fault { IfErr result (HasFault input.now) }
 {
-    match first_fault(shape.sense, given.costs) {
+    match first_fault(shape.sense, input.costs) {
         Some(place) => Err(Fault::Cost(place)),
         None => Ok(Answer::Undecided),
     }
 }
 
 /// Where memory was refused: the first double that is no cost, if there is one.
-pub fn refused(shape: Shape, given: &Given<'_>) -> Fault
-    requires { IsShape given.now shape }
-    ensures { HasFault given.now result }
+pub fn refused(shape: Shape, input: &Input<'_>) -> Fault
+    requires { IsShape input.now shape }
+    ensures { HasFault input.now result }
 {
-    match first_fault(shape.sense, given.costs) {
+    match first_fault(shape.sense, input.costs) {
         Some(place) => Fault::Cost(place),
         None => Fault::Memory,
     }
@@ -180,29 +180,29 @@ pub fn refused(shape: Shape, given: &Given<'_>) -> Fault
 fn search_on_both(
     alloc: Global,
     shape: Shape,
-    given: &Given<'_>,
+    input: &Input<'_>,
     start: Start<'_>,
 ) -> Result<Answer, AllocError>
-    requires { IsShape given.now shape }
-    ensures { IfOk result (λ answer. IsAccepted given.now answer) }
+    requires { IsShape input.now shape }
+    ensures { IfOk result (λ answer. IsAccepted input.now answer) }
 {
-    let answer = search_on(alloc, shape, given, start)?;
+    let answer = search_on(alloc, shape, input, start)?;
     match (start, answer) {
-        (Start::Plan(_, _), Answer::Undecided) => search_on(alloc, shape, given, Start::Nothing),
+        (Start::Plan(_, _), Answer::Undecided) => search_on(alloc, shape, input, Start::Nothing),
         (_, answer) => Ok(answer),
     }
 }
 
 /// Searches from there, and from nothing where that finds no answer. An error is the first fault of
 /// what is given.
-pub fn answer_on(alloc: Global, given: &Given<'_>, start: Start<'_>) -> Result<Answer, Fault>
-    ensures found { IfOk result (IsFound given.now) }
-    ensures fault { IfErr result (HasFault given.now) }
+pub fn answer_on(alloc: Global, input: &Input<'_>, start: Start<'_>) -> Result<Answer, Fault>
+    ensures found { IfOk result (IsFound input.now) }
+    ensures fault { IfErr result (HasFault input.now) }
 {
-    let shape = judge(given)?;
-    match search_on_both(alloc, shape, given, start) {
-        Ok(Answer::Undecided) => undecided(shape, given),
+    let shape = judge(input)?;
+    match search_on_both(alloc, shape, input, start) {
+        Ok(Answer::Undecided) => undecided(shape, input),
         Ok(answer) => Ok(answer),
-        Err(_) => Err(refused(shape, given)),
+        Err(_) => Err(refused(shape, input)),
     }
 }

@@ -1,14 +1,14 @@
 // Plans of any program, checked against the given problem.
 ghost use Rattle.std.specs.Prelude.{◌≡◌, ◌⊎◌, IfErr, IfOk};
-ghost use Rattle.c_calls.specs.doubles.Checks.{IsJudged, IsOfGiven, IsRefused, verdict_code};
+ghost use Rattle.c_calls.specs.doubles.Checks.{IsJudged, IsOfInput, IsRefused, verdict_code};
 ghost use Rattle.c_calls.specs.doubles.Checks.{with_verdict};
 ghost use Rattle.c_calls.specs.doubles.Ends.{flag};
 ghost use Rattle.c_calls.specs.doubles.Faults.{HasFault, IsShape};
 
 use super::answer::refused;
 use super::codes::refuse;
-use super::given::Given;
 use super::info::DoublesInfo;
+use super::input::Input;
 use super::judge::judge;
 use super::marks::marks;
 use super::solve::number_of;
@@ -23,20 +23,20 @@ use std::alloc::{AllocError, Global};
 fn verdict_in(
     alloc: Global,
     shape: Shape,
-    given: &Given<'_>,
+    input: &Input<'_>,
     objects: &[Object],
     prices: &[f64],
 ) -> Result<Verdict, AllocError>
-    requires { IsShape given.now shape }
-    ensures { IfOk result (IsOfGiven given.now objects.now prices.now) }
+    requires { IsShape input.now shape }
+    ensures { IfOk result (IsOfInput input.now objects.now prices.now) }
 {
     let mut owned = marks(alloc, shape.m)?;
-    let margin = margin_of(shape.sense, given.costs);
+    let margin = margin_of(shape.sense, input.costs);
     Ok(check(
         shape.sense,
         shape.n,
         shape.m,
-        given.costs,
+        input.costs,
         objects,
         prices,
         margin,
@@ -46,17 +46,17 @@ fn verdict_in(
 
 fn verdict_on(
     alloc: Global,
-    given: &Given<'_>,
+    input: &Input<'_>,
     objects: &[Object],
     prices: &[f64],
 ) -> Result<Verdict, Fault>
-    ensures verdict { IfOk result (IsOfGiven given.now objects.now prices.now) }
-    ensures fault { IfErr result (HasFault given.now) }
+    ensures verdict { IfOk result (IsOfInput input.now objects.now prices.now) }
+    ensures fault { IfErr result (HasFault input.now) }
 {
-    let shape = judge(given)?;
-    match verdict_in(alloc, shape, given, objects, prices) {
+    let shape = judge(input)?;
+    match verdict_in(alloc, shape, input, objects, prices) {
         Ok(verdict) => Ok(verdict),
-        Err(_) => Err(refused(shape, given)),
+        Err(_) => Err(refused(shape, input)),
     }
 }
 
@@ -92,17 +92,17 @@ fn report(verdict: Verdict, info: &mut DoublesInfo) -> i32
 }
 
 /// Checks a plan with its prices against the given problem. All lists are read where they are.
-pub fn check_given(
+pub fn check_input(
     alloc: Global,
-    given: &Given<'_>,
+    input: &Input<'_>,
     objects: &[Object],
     prices: &[f64],
     info: &mut DoublesInfo,
 ) -> i32
-    ensures { IsJudged given.now objects.now prices.now info.old info.new result
-        ⊎ IsRefused given.now info.old info.new result }
+    ensures { IsJudged input.now objects.now prices.now info.old info.new result
+        ⊎ IsRefused input.now info.old info.new result }
 {
-    match verdict_on(alloc, given, objects, prices) {
+    match verdict_on(alloc, input, objects, prices) {
         Ok(verdict) => report(verdict, info),
         Err(fault) => refuse(fault, info),
     }

@@ -3,12 +3,12 @@ ghost use Rattle.std.specs.Prelude.{◌≡◌, IfErr, IfOk, length};
 ghost use Rattle.c_calls.specs.doubles.Answers.{IsFound};
 ghost use Rattle.c_calls.specs.doubles.Ends.{IsEnded, IsReported, buffers, flag};
 ghost use Rattle.c_calls.specs.doubles.Faults.{HasFault};
-ghost use Rattle.c_calls.specs.doubles.Given.{HasLengths};
+ghost use Rattle.c_calls.specs.doubles.Input.{HasLengths};
 
 use super::answer::{Answer, Plan, Start, answer_on};
 use super::codes::{code_of_answer, refuse};
-use super::given::Given;
 use super::info::DoublesInfo;
+use super::input::Input;
 use crate::buffers::put_hall;
 use crate::fault::Fault;
 use cost_lists::{Object, Person};
@@ -36,18 +36,18 @@ fn put_plan(objects: &mut [Object], prices: &mut [f64], info: &mut DoublesInfo, 
 
 // Writes an answer into the buffers.
 fn put_answer(
-    given: &Given<'_>,
+    input: &Input<'_>,
     answer: &Answer,
     objects: &mut [Object],
     persons: &mut [Person],
     prices: &mut [f64],
     info: &mut DoublesInfo,
 )
-    requires answer { IsFound given.now answer.now }
-    requires objects { length objects.old ≡ given.now.n }
-    requires persons { length persons.old ≡ given.now.n }
-    requires prices { length prices.old ≡ given.now.m }
-    ensures { IsEnded given.now
+    requires answer { IsFound input.now answer.now }
+    requires objects { length objects.old ≡ input.now.n }
+    requires persons { length persons.old ≡ input.now.n }
+    requires prices { length prices.old ≡ input.now.m }
+    ensures { IsEnded input.now
         (buffers objects.old persons.old prices.old info.old)
         (buffers objects.new persons.new prices.new info.new) answer.now }
 {
@@ -64,19 +64,19 @@ fn put_answer(
 
 // Writes an answer or a fault into the buffers, and returns its code.
 fn put_end(
-    given: &Given<'_>,
+    input: &Input<'_>,
     answered: Result<Answer, Fault>,
     objects: &mut [Object],
     persons: &mut [Person],
     prices: &mut [f64],
     info: &mut DoublesInfo,
 ) -> i32
-    requires found { IfOk answered (IsFound given.now) }
-    requires fault { IfErr answered (HasFault given.now) }
-    requires objects { HasLengths given.now → length objects.old ≡ given.now.n }
-    requires persons { HasLengths given.now → length persons.old ≡ given.now.n }
-    requires prices { HasLengths given.now → length prices.old ≡ given.now.m }
-    ensures { IsReported given.now
+    requires found { IfOk answered (IsFound input.now) }
+    requires fault { IfErr answered (HasFault input.now) }
+    requires objects { HasLengths input.now → length objects.old ≡ input.now.n }
+    requires persons { HasLengths input.now → length persons.old ≡ input.now.n }
+    requires prices { HasLengths input.now → length prices.old ≡ input.now.m }
+    ensures { IsReported input.now
         (buffers objects.old persons.old prices.old info.old)
         (buffers objects.new persons.new prices.new info.new) result }
 {
@@ -84,48 +84,48 @@ fn put_end(
         Ok(answer) => answer,
         Err(fault) => return refuse(fault, info),
     };
-    put_answer(given, &answer, objects, persons, prices, info);
+    put_answer(input, &answer, objects, persons, prices, info);
     code_of_answer(&answer)
 }
 
 /// Solves the given problem. Writes the answer into the buffers, and returns its code. If there is
 /// no answer, the lists stay as they were.
-pub fn solve_given(
+pub fn solve_input(
     alloc: Global,
-    given: &Given<'_>,
+    input: &Input<'_>,
     objects: &mut [Object],
     persons: &mut [Person],
     prices: &mut [f64],
     info: &mut DoublesInfo,
 ) -> i32
-    requires objects { HasLengths given.now → length objects.old ≡ given.now.n }
-    requires persons { HasLengths given.now → length persons.old ≡ given.now.n }
-    requires prices { HasLengths given.now → length prices.old ≡ given.now.m }
-    ensures { IsReported given.now
+    requires objects { HasLengths input.now → length objects.old ≡ input.now.n }
+    requires persons { HasLengths input.now → length persons.old ≡ input.now.n }
+    requires prices { HasLengths input.now → length prices.old ≡ input.now.m }
+    ensures { IsReported input.now
         (buffers objects.old persons.old prices.old info.old)
         (buffers objects.new persons.new prices.new info.new) result }
 {
-    let answered = answer_on(alloc, given, Start::Nothing);
-    put_end(given, answered, objects, persons, prices, info)
+    let answered = answer_on(alloc, input, Start::Nothing);
+    put_end(input, answered, objects, persons, prices, info)
 }
 
 /// Solves the given problem from the plan and the prices in the buffers. Whatever they hold, the
 /// answer is as good.
 pub fn solve_from(
     alloc: Global,
-    given: &Given<'_>,
+    input: &Input<'_>,
     objects: &mut [Object],
     persons: &mut [Person],
     prices: &mut [f64],
     info: &mut DoublesInfo,
 ) -> i32
-    requires objects { HasLengths given.now → length objects.old ≡ given.now.n }
-    requires persons { HasLengths given.now → length persons.old ≡ given.now.n }
-    requires prices { HasLengths given.now → length prices.old ≡ given.now.m }
-    ensures { IsReported given.now
+    requires objects { HasLengths input.now → length objects.old ≡ input.now.n }
+    requires persons { HasLengths input.now → length persons.old ≡ input.now.n }
+    requires prices { HasLengths input.now → length prices.old ≡ input.now.m }
+    ensures { IsReported input.now
         (buffers objects.old persons.old prices.old info.old)
         (buffers objects.new persons.new prices.new info.new) result }
 {
-    let answered = answer_on(alloc, given, Start::Plan(objects, prices));
-    put_end(given, answered, objects, persons, prices, info)
+    let answered = answer_on(alloc, input, Start::Plan(objects, prices));
+    put_end(input, answered, objects, persons, prices, info)
 }

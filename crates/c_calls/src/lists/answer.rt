@@ -2,24 +2,24 @@
 ghost use Rattle.std.specs.Prelude.{◌≡◌, IfErr, IfOk, length};
 ghost use Rattle.c_calls.specs.lists.Answers.{IsSearched};
 ghost use Rattle.c_calls.specs.lists.Faults.{HasFault, IsWhole};
-ghost use Rattle.c_calls.specs.lists.Given.{HasLengths};
-ghost use Rattle.c_calls.specs.lists.Shapes.{HasStandingLengths, IsShape};
+ghost use Rattle.c_calls.specs.lists.Input.{HasLengths};
+ghost use Rattle.c_calls.specs.lists.Shapes.{HasStateLengths, IsShape};
 
 use super::costs::lists_of;
-use super::given::Given;
+use super::input::Input;
 use super::judging::judge;
-use super::standing::{standing_anew, standing_of};
+use super::state::{state_anew, state_of};
 use crate::fault::Fault;
 use crate::size::Shape;
 use cost_lists::{Object, Price};
-use list_solver::{Found, Record, Standing, solve_lists};
+use list_solver::{Found, Record, SearchState, solve_lists};
 use std::alloc::{AllocError, Global};
 
 /// A search that ended.
 #[derive(Drop)]
 pub struct Searched {
     pub shape: Shape,
-    pub standing: Standing,
+    pub state: SearchState,
     pub found: Found,
 }
 
@@ -27,34 +27,34 @@ pub struct Searched {
 fn search_on(
     alloc: Global,
     shape: Shape,
-    given: &Given<'_>,
-    standing: Standing,
+    input: &Input<'_>,
+    state: SearchState,
     budget: u64,
 ) -> Result<Searched, AllocError>
-    requires shape { IsShape given.now shape }
-    requires whole { IsWhole given.now }
-    requires lengths { HasStandingLengths given.now standing }
-    ensures { IfOk result (IsSearched given.now budget) }
+    requires shape { IsShape input.now shape }
+    requires whole { IsWhole input.now }
+    requires lengths { HasStateLengths input.now state }
+    ensures { IfOk result (IsSearched input.now budget) }
 {
-    let lists = lists_of(shape, given);
-    let mut standing = standing;
-    let found = solve_lists(alloc, &lists, &mut standing, budget)?;
+    let lists = lists_of(shape, input);
+    let mut state = state;
+    let found = solve_lists(alloc, &lists, &mut state, budget)?;
     Ok(Searched {
         shape,
-        standing,
+        state,
         found,
     })
 }
 
 /// Searches from nothing but first prices, if there are any, with no budget. An error is the first
 /// fault of what is given.
-pub fn search_anew(alloc: Global, given: &Given<'_>) -> Result<Searched, Fault>
-    ensures searched { IfOk result (IsSearched given.now 0) }
-    ensures fault { IfErr result (HasFault given.now) }
+pub fn search_anew(alloc: Global, input: &Input<'_>) -> Result<Searched, Fault>
+    ensures searched { IfOk result (IsSearched input.now 0) }
+    ensures fault { IfErr result (HasFault input.now) }
 {
-    let shape = judge(given)?;
-    let standing = standing_anew(alloc, shape, given)?;
-    let searched = search_on(alloc, shape, given, standing, 0)?;
+    let shape = judge(input)?;
+    let state = state_anew(alloc, shape, input)?;
+    let searched = search_on(alloc, shape, input, state, 0)?;
     Ok(searched)
 }
 
@@ -62,19 +62,19 @@ pub fn search_anew(alloc: Global, given: &Given<'_>) -> Result<Searched, Fault>
 /// given.
 pub fn search_from(
     alloc: Global,
-    given: &Given<'_>,
+    input: &Input<'_>,
     budget: u64,
     objects: &[Object],
     prices: &[Price],
     record: Record,
 ) -> Result<Searched, Fault>
-    requires objects { HasLengths given.now → length objects.now ≡ given.now.n }
-    requires prices { HasLengths given.now → length prices.now ≡ given.now.m }
-    ensures searched { IfOk result (IsSearched given.now budget) }
-    ensures fault { IfErr result (HasFault given.now) }
+    requires objects { HasLengths input.now → length objects.now ≡ input.now.n }
+    requires prices { HasLengths input.now → length prices.now ≡ input.now.m }
+    ensures searched { IfOk result (IsSearched input.now budget) }
+    ensures fault { IfErr result (HasFault input.now) }
 {
-    let shape = judge(given)?;
-    let standing = standing_of(alloc, shape, given, objects, prices, record)?;
-    let searched = search_on(alloc, shape, given, standing, budget)?;
+    let shape = judge(input)?;
+    let state = state_of(alloc, shape, input, objects, prices, record)?;
+    let searched = search_on(alloc, shape, input, state, budget)?;
     Ok(searched)
 }

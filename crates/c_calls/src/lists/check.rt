@@ -3,11 +3,11 @@ ghost use Rattle.std.specs.Prelude.{◌≡◌, IfErr, IfOk};
 ghost use Rattle.exact_checker.specs.HallVerdicts.{IsHallVerdict};
 ghost use Rattle.exact_checker.specs.Verdicts.{IsVerdict};
 ghost use Rattle.c_calls.specs.lists.Checks.{hall_code, verdict_code, with_hall_verdict, with_verdict};
-ghost use Rattle.c_calls.specs.lists.Faults.{HasFault, IsOfGiven};
+ghost use Rattle.c_calls.specs.lists.Faults.{HasFault, IsOfInput};
 
 use super::costs::lists_of;
-use super::given::Given;
 use super::info::Info;
+use super::input::Input;
 use super::judging::judge;
 use crate::fault::Fault;
 use cost_lists::{Object, Person, Price};
@@ -18,16 +18,16 @@ use std::alloc::Global;
 /// where each list has its length.
 pub fn verdict_on(
     alloc: Global,
-    given: &Given<'_>,
+    input: &Input<'_>,
     objects: &[Object],
     prices: &[Price],
 ) -> Result<Verdict, Fault>
     ensures verdict { IfOk result
-        (λ v. IsOfGiven given.now (λ lists. IsVerdict lists objects.now prices.now v)) }
-    ensures fault { IfErr result (HasFault given.now) }
+        (λ v. IsOfInput input.now (λ lists. IsVerdict lists objects.now prices.now v)) }
+    ensures fault { IfErr result (HasFault input.now) }
 {
-    let shape = judge(given)?;
-    let lists = lists_of(shape, given);
+    let shape = judge(input)?;
+    let lists = lists_of(shape, input);
     let verdict = check(alloc, &lists, objects, prices)?;
     Ok(verdict)
 }
@@ -36,16 +36,16 @@ pub fn verdict_on(
 /// where the persons and objects are in range and rise.
 pub fn hall_verdict_on(
     alloc: Global,
-    given: &Given<'_>,
+    input: &Input<'_>,
     persons: &[Person],
     objects: &[Object],
 ) -> Result<HallVerdict, Fault>
     ensures verdict { IfOk result
-        (λ v. IsOfGiven given.now (λ lists. IsHallVerdict lists persons.now objects.now v)) }
-    ensures fault { IfErr result (HasFault given.now) }
+        (λ v. IsOfInput input.now (λ lists. IsHallVerdict lists persons.now objects.now v)) }
+    ensures fault { IfErr result (HasFault input.now) }
 {
-    let shape = judge(given)?;
-    let lists = lists_of(shape, given);
+    let shape = judge(input)?;
+    let lists = lists_of(shape, input);
     let verdict = check_hall(alloc, &lists, persons, objects)?;
     Ok(verdict)
 }

@@ -1,6 +1,6 @@
 // The two forms of a problem.
 ghost use Rattle.std.specs.Prelude.{◌≡◌};
-ghost use Rattle.c_calls.specs.lists.Given.{either_form};
+ghost use Rattle.c_calls.specs.lists.Input.{either_form};
 
 use assign_core::Cost;
 use cost_lists::{Object, Person};

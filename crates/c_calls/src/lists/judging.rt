@@ -3,49 +3,49 @@ ghost use Rattle.std.specs.Prelude.{MatchOption, IfOk, IfErr, OnOk};
 ghost use Rattle.c_calls.specs.lists.Faults.{HasFault, IsWhole};
 ghost use Rattle.c_calls.specs.lists.Shapes.{IsShape};
 
-use super::given::{Given, has_first, has_pairs};
+use super::input::{Input, has_first, has_pairs};
 use super::rule::{InCosts, InPrices, UpTo, first_wrong};
 use crate::fault::Fault;
 use crate::size::{Shape, are_all, sense_by, size_by};
 
 // The fault of the first list with a wrong element, at its first place.
-fn first_fault(shape: Shape, given: &Given<'_>) -> Option<Fault>
-    requires { IsShape given.now shape }
-    ensures { MatchOption result (IsWhole given.now) (HasFault given.now) }
+fn first_fault(shape: Shape, input: &Input<'_>) -> Option<Fault>
+    requires { IsShape input.now shape }
+    ensures { MatchOption result (IsWhole input.now) (HasFault input.now) }
 {
-    if let Some(place) = first_wrong(UpTo(shape.n), given.persons) {
+    if let Some(place) = first_wrong(UpTo(shape.n), input.persons) {
         return Some(Fault::Person(place));
     }
-    if let Some(place) = first_wrong(UpTo(shape.m), given.objects) {
+    if let Some(place) = first_wrong(UpTo(shape.m), input.objects) {
         return Some(Fault::Object(place));
     }
-    if let Some(place) = first_wrong(InCosts, given.costs) {
+    if let Some(place) = first_wrong(InCosts, input.costs) {
         return Some(Fault::Cost(place));
     }
-    match first_wrong(InPrices, given.first) {
+    match first_wrong(InPrices, input.first) {
         Some(place) => Some(Fault::Price(place)),
         None => None,
     }
 }
 
 // The sense and the size if each list has its length, or else the first fault.
-fn shape_of(given: &Given<'_>) -> Result<Shape, Fault>
-    ensures shape { IfOk result (IsShape given.now) }
-    ensures fault { IfErr result (HasFault given.now) }
+fn shape_of(input: &Input<'_>) -> Result<Shape, Fault>
+    ensures shape { IfOk result (IsShape input.now) }
+    ensures fault { IfErr result (HasFault input.now) }
 {
-    let Some(sense) = sense_by(given.sense) else {
+    let Some(sense) = sense_by(input.sense) else {
         return Err(Fault::Sense);
     };
-    let Some(n) = size_by(given.n) else {
+    let Some(n) = size_by(input.n) else {
         return Err(Fault::Size);
     };
-    let Some(m) = size_by(given.m) else {
+    let Some(m) = size_by(input.m) else {
         return Err(Fault::Size);
     };
-    if !has_pairs(given)
-        || !has_first(given)
-        || !are_all(given.by_person, given.n)
-        || !are_all(given.by_object, given.m)
+    if !has_pairs(input)
+        || !has_first(input)
+        || !are_all(input.by_person, input.n)
+        || !are_all(input.by_object, input.m)
     {
         return Err(Fault::Length);
     }
@@ -53,13 +53,13 @@ fn shape_of(given: &Given<'_>) -> Result<Shape, Fault>
 }
 
 /// The sense and the size if the given lists have no fault, or else the first fault.
-pub fn judge(given: &Given<'_>) -> Result<Shape, Fault>
-    ensures shape { IfOk result (IsShape given.now) }
-    ensures whole { OnOk result (IsWhole given.now) }
-    ensures fault { IfErr result (HasFault given.now) }
+pub fn judge(input: &Input<'_>) -> Result<Shape, Fault>
+    ensures shape { IfOk result (IsShape input.now) }
+    ensures whole { OnOk result (IsWhole input.now) }
+    ensures fault { IfErr result (HasFault input.now) }
 {
-    let shape = shape_of(given)?;
-    match first_fault(shape, given) {
+    let shape = shape_of(input)?;
+    match first_fault(shape, input) {
         Some(fault) => Err(fault),
         None => Ok(shape),
     }

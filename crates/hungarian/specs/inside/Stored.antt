@@ -27,8 +27,8 @@ pub record IsPlanned (l : ListedCosts) (plan : Plan) : Type 0 where
       (at plan.objects.items)
 
 -- persons 1 to k have objects, and no others
-pub record IsServedTo (k : ℕ) (objects : List ℕ) : Type 0 where
-  pub served : (i : ℕ) → 0 < i → i ≤ k → 0 < at objects i
+pub record IsAssignedTo (k : ℕ) (objects : List ℕ) : Type 0 where
+  pub assigned : (i : ℕ) → 0 < i → i ≤ k → 0 < at objects i
   pub fresh : (i : ℕ) → k < i → at objects i ≡ 0
 
 -- the stored tree of person s over t objects

@@ -17,7 +17,7 @@ pub record IsStep (c : ℕ → ℕ → ℤ) (d v : ℕ → ℤ) (i k : ℕ) : Ty
 -- a scanned object: the person before it was scanned earlier, it has an owner, and it is no farther
 -- than the distance
 pub record IsPassed (p : ℕ → ℤ) (o x : ℕ → ℕ) (t : ℕ) (D : ℤ) (d : ℕ → ℤ) (f r : ℕ → ℕ) (k : ℕ) : Type 0 where
-  pub reached : 0 < f k
+  pub labelled : 0 < f k
   pub owned : 0 < o k
   pub later : r (x (f k)) < r k
   pub within : r k ≤ t
@@ -25,11 +25,11 @@ pub record IsPassed (p : ℕ → ℤ) (o x : ℕ → ℕ) (t : ℕ) (D : ℤ) (d
 
 -- an object that a scanned person lists has a path, which costs no more than over that person
 pub record IsCovered (c : ℕ → ℕ → ℤ) (d v : ℕ → ℤ) (f : ℕ → ℕ) (i k : ℕ) : Type 0 where
-  pub reached : 0 < f k
+  pub labelled : 0 < f k
   pub least : d k ≤ℤ (v i +ℤ c i k)
 
--- the object that person i was reached through, and the object that the path to object k comes from
-pub record IsReached (c : ℕ → ℕ → ℤ) (x : ℕ → ℕ) (s : ℕ) (d v : ℕ → ℤ) (f r : ℕ → ℕ) (k : ℕ) : Type 0 where
+-- the object that person i was labelled through, and the object that the path to object k comes from
+pub record IsLabelled (c : ℕ → ℕ → ℤ) (x : ℕ → ℕ) (s : ℕ) (d v : ℕ → ℤ) (f r : ℕ → ℕ) (k : ℕ) : Type 0 where
   pub scanned : IsScanned s x r (f k)
   pub step : IsStep c d v (f k) k
 
@@ -40,7 +40,7 @@ pub record IsTree (c : ℕ → ℕ → ℤ) (p : ℕ → ℤ) (o x : ℕ → ℕ
   pub alone : x s ≡ 0
   pub start : v s ≡ pos 0
   pub nobody : r 0 ≡ 0
-  pub reached : (k : ℕ) → 0 < f k → IsReached c x s d v f r k
+  pub labelled : (k : ℕ) → 0 < f k → IsLabelled c x s d v f r k
   pub covered : (i k : ℕ) → IsScanned s x r i → c i k <ℤ UNLISTED → IsCovered c d v f i k
   pub passed : (k : ℕ) → 0 < r k → IsPassed p o x t D d f r k
   pub waiting : (k : ℕ) → r k ≡ 0 → 0 < f k → D ≤ℤ (d k +ℤ p k)
@@ -59,7 +59,7 @@ pub record IsOrder (n : ℕ) (x r : ℕ → ℕ) (t : ℕ) (persons : List ℕ) 
 pub record IsKept (c w : ℤ) (rank : ℕ) (d : ℤ) (f : ℕ) (d2 : ℤ) (f2 : ℕ) : Type 0 where
   pub cost : d2 ≡ d
   pub person : f2 ≡ f
-  pub reached : c <ℤ UNLISTED → rank ≡ 0 → 0 < f
+  pub labelled : c <ℤ UNLISTED → rank ≡ 0 → 0 < f
   pub least : c <ℤ UNLISTED → rank ≡ 0 → d ≤ℤ (w +ℤ c)
 
 -- an object gets a better path, over person i
@@ -76,7 +76,7 @@ IsRelaxed i c w rank d f d2 f2 = IsKept c w rank d f d2 f2 ⊎ IsLowered i c w r
 
 -- object j waits for its scan
 pub record IsWaiting (f r : ℕ → ℕ) (j : ℕ) : Type 0 where
-  pub reached : 0 < f j
+  pub labelled : 0 < f j
   pub unscanned : r j ≡ 0
 
 -- object z is the nearer of objects j and k; 0 is no object
@@ -152,7 +152,7 @@ pub record IsFlipping (c : ℕ → ℕ → ℤ) (p : ℕ → ℤ) (n m : ℕ) (o
   pub fresh : (i : ℕ) → x0 i ≡ 0 → i ≢ s → x i ≡ 0
   pub unowned : (j : ℕ) → o j ≡ 0 → o0 j ≡ 0
 
--- a search over t objects reached the unowned object e, which has the last rank
+-- a search over t objects labelled the unowned object e, which has the last rank
 pub record IsEnded (c : ℕ → ℕ → ℤ) (n m : ℕ) (p : ℕ → ℤ) (o x : ℕ → ℕ) (s e : ℕ) (d v : ℕ → ℤ)
     (f r2 : ℕ → ℕ) : Type 0 where
   pub t : ℕ
@@ -176,6 +176,6 @@ pub record IsClosed (c : ℕ → ℕ → ℤ) (p : ℕ → ℤ) (o x : ℕ → �
 
 -- person s got an object, and nobody lost one
 pub record IsServed (s : ℕ) (x0 x : ℕ → ℕ) : Type 0 where
-  pub served : 0 < x s
+  pub assigned : 0 < x s
   pub kept : (i : ℕ) → 0 < x0 i → 0 < x i
   pub fresh : (i : ℕ) → x0 i ≡ 0 → i ≢ s → x i ≡ 0

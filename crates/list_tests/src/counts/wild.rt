@@ -91,7 +91,7 @@ fn wild_record(seed: &mut u64, stage: u64) -> Record {
         outside: next_number(seed).wrapping_mul(next_number(seed)),
         bids: next_number(seed),
         limit: next_number(seed).wrapping_mul(next_number(seed)),
-        looks: next_number(seed),
+        arc_scans: next_number(seed),
         until: next_number(seed),
         paths: 0,
     }

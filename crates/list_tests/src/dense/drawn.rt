@@ -147,7 +147,7 @@ fn draw_record(seed: &mut u64) -> Record {
         bids: draw_wide(seed, 200),
         passes: draw_wide(seed, 4),
         restarts: (draw_wide(seed, 4) & 3) as u32,
-        looks: draw_wide(seed, 1000),
+        arc_scans: draw_wide(seed, 1000),
     }
 }
 
@@ -264,15 +264,15 @@ fn square_of(alloc: Global, persons: usize, kind: Kind) -> Result<Lists, AllocEr
     })
 }
 
-// The looks at pairs of a search from nothing by calls of a budget each (0: one call).
-fn looks_of(alloc: Global, lists: &Lists, budget: u64) -> Result<u64, AllocError> {
+// The arc scans of a search from nothing by calls of a budget each (0: one call).
+fn arc_scans_of(alloc: Global, lists: &Lists, budget: u64) -> Result<u64, AllocError> {
     let mut prices = vec![in alloc; 0i64; lists.objects]?;
     let mut objects = nobody(alloc, lists.persons)?;
     let mut record = Record::cold();
     let (prices, objects) = (prices.as_mut_slice(), objects.as_mut_slice());
     let found = call_on(alloc, lists, prices, objects, &mut record, budget)?;
     Ok(match found {
-        Finding::Best(_) => record.looks,
+        Finding::Best(_) => record.arc_scans,
         _ => u64::MAX,
     })
 }
@@ -282,10 +282,10 @@ fn looks_of(alloc: Global, lists: &Lists, budget: u64) -> Result<u64, AllocError
 fn a_band_among_dear_pairs_takes_few_passes(rt: HostRuntime) -> Result<(), Fail> {
     let lists = square_of(rt.alloc(), 120, Kind::Neighbours)?;
     let pairs = lists.costs.len() as u64;
-    let looks = looks_of(rt.alloc(), &lists, 0)?;
+    let arc_scans = arc_scans_of(rt.alloc(), &lists, 0)?;
     assert!(rt;
-        looks <= pairs.saturating_mul(6),
-        "{looks} looks at {pairs} pairs"
+        arc_scans <= pairs.saturating_mul(6),
+        "{arc_scans} arc_scans at {pairs} pairs"
     );
     Ok(())
 }
@@ -295,11 +295,11 @@ fn a_band_among_dear_pairs_takes_few_passes(rt: HostRuntime) -> Result<(), Fail>
 fn pieces_look_at_few_more_pairs(rt: HostRuntime) -> Result<(), Fail> {
     let lists = square_of(rt.alloc(), 120, Kind::Products)?;
     let budget = (lists.costs.len() as u64).saturating_mul(3);
-    let whole = looks_of(rt.alloc(), &lists, 0)?;
-    let pieces = looks_of(rt.alloc(), &lists, budget)?;
+    let whole = arc_scans_of(rt.alloc(), &lists, 0)?;
+    let pieces = arc_scans_of(rt.alloc(), &lists, budget)?;
     assert!(rt;
         pieces <= whole.saturating_mul(2),
-        "{pieces} looks, in one call {whole}"
+        "{pieces} arc_scans, in one call {whole}"
     );
     Ok(())
 }

@@ -51,7 +51,7 @@ fn draw_wild(seed: &mut u64) -> Record {
         bids: draw_any(seed),
         passes: draw_any(seed),
         restarts: (draw_wide(seed, 3) & 3) as u32,
-        looks: draw_wide(seed, 1 << 30),
+        arc_scans: draw_wide(seed, 1 << 30),
     }
 }
 

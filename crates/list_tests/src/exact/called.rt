@@ -1,7 +1,7 @@
 // Calls of the solver.
 use super::confirmed::{confirmed, is_hall};
 use cost_lists::CostLists;
-use list_solver::{Found, Record, Standing, solve_lists};
+use list_solver::{Found, Record, SearchState, solve_lists};
 use std::alloc::{AllocError, Global};
 
 /// What a call or several found.
@@ -16,9 +16,9 @@ pub enum Finding {
     Nothing,
 }
 
-/// A standing from which a search begins with nothing.
-pub fn nothing(alloc: Global, n: u32, m: u32) -> Result<Standing, AllocError> {
-    Ok(Standing {
+/// A state from which a search begins with nothing.
+pub fn nothing(alloc: Global, n: u32, m: u32) -> Result<SearchState, AllocError> {
+    Ok(SearchState {
         prices: vec![in alloc; 0i64; m as usize]?,
         objects: vec![in alloc; 0u32; n as usize]?,
         record: Record::cold(),
@@ -29,16 +29,16 @@ pub fn nothing(alloc: Global, n: u32, m: u32) -> Result<Standing, AllocError> {
 pub fn call(
     alloc: Global,
     lists: &CostLists<'_>,
-    standing: &mut Standing,
+    state: &mut SearchState,
     budget: u64,
 ) -> Result<Finding, AllocError> {
     let (n, m) = (lists.persons() as usize, lists.objects() as usize);
-    if standing.objects.len() != n || standing.prices.len() != m {
+    if state.objects.len() != n || state.prices.len() != m {
         return Ok(Finding::Nothing);
     }
-    match solve_lists(alloc, lists, standing, budget)? {
+    match solve_lists(alloc, lists, state, budget)? {
         Found::Best(total) => {
-            let (objects, prices) = (standing.objects.as_slice(), standing.prices.as_slice());
+            let (objects, prices) = (state.objects.as_slice(), state.prices.as_slice());
             let cost = confirmed(alloc, lists, objects, prices)?;
             Ok(if cost == Some(total) {
                 Finding::Best(total)
@@ -62,13 +62,13 @@ pub fn call(
 pub fn in_pieces(
     alloc: Global,
     lists: &CostLists<'_>,
-    standing: Standing,
+    state: SearchState,
     budget: u64,
     most: u32,
 ) -> Result<Finding, AllocError> {
-    let mut standing = standing;
+    let mut state = state;
     for _ in 0..most {
-        let found = call(alloc, lists, &mut standing, budget)?;
+        let found = call(alloc, lists, &mut state, budget)?;
         if found != Finding::Stopped {
             return Ok(found);
         }

@@ -97,10 +97,10 @@ fn solve_twice(
     let Some(lists) = lent(problem) else {
         return Err("a drawn problem is out of the limits".into());
     };
-    let standing = nothing(alloc, problem.n, problem.m)?;
-    let found = in_pieces(alloc, &lists, standing, 0, 1)?;
-    let standing = nothing(alloc, problem.n, problem.m)?;
-    let again = in_pieces(alloc, &lists, standing, budget, 1000)?;
+    let state = nothing(alloc, problem.n, problem.m)?;
+    let found = in_pieces(alloc, &lists, state, 0, 1)?;
+    let state = nothing(alloc, problem.n, problem.m)?;
+    let again = in_pieces(alloc, &lists, state, budget, 1000)?;
     assert_eq!(rt; found, again);
     Ok(found)
 }
@@ -176,12 +176,12 @@ fn a_stage_of_the_other_form_begins_anew(rt: HostRuntime) -> Result<(), Fail> {
         return Err("the costs are out of the limits".into());
     };
     for stage in 8..11 {
-        let mut standing = nothing(rt.alloc(), 30, 30)?;
-        standing.record = Record {
+        let mut state = nothing(rt.alloc(), 30, 30)?;
+        state.record = Record {
             stage,
             ..Record::cold()
         };
-        let found = in_pieces(rt.alloc(), &lists, standing, 0, 1)?;
+        let found = in_pieces(rt.alloc(), &lists, state, 0, 1)?;
         assert!(rt; matches!(found, Finding::Best(_)), "stage {stage}");
     }
     Ok(())

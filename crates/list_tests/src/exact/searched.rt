@@ -4,7 +4,7 @@ use super::drawn::{draw, drawn_cost, drawn_numbers, drawn_problem};
 use super::given::lent;
 use super::problem::{Problem, table_of};
 use super::slow::best_of;
-use list_solver::{Record, Standing};
+use list_solver::{Record, SearchState};
 use std::alloc::{AllocError, Global};
 use std::process::Abort;
 use std::test::Fail;
@@ -29,7 +29,7 @@ fn drawn_record(seed: &mut u64) -> Record {
         passes: u64::from(draw(seed, 4)),
         dummy_bids: draw(seed, 6),
         flags: draw(seed, 4),
-        looks: u64::from(draw(seed, 1000)),
+        arc_scans: u64::from(draw(seed, 1000)),
     }
 }
 
@@ -42,28 +42,28 @@ fn drawn_prices(alloc: Global, seed: &mut u64, m: u32) -> Result<Vec<i64>, Alloc
     Ok(prices)
 }
 
-fn drawn_standing(
+fn drawn_state(
     alloc: Global,
     seed: &mut u64,
     problem: &Problem,
     start: Start,
-) -> Result<Standing, AllocError> {
+) -> Result<SearchState, AllocError> {
     let (n, m) = (problem.n, problem.m);
-    let mut standing = nothing(alloc, n, m)?;
+    let mut state = nothing(alloc, n, m)?;
     if let Start::Nothing = start {
-        return Ok(standing);
+        return Ok(state);
     }
     let which = draw(seed, 3);
     if which != 1 {
-        standing.prices = drawn_prices(alloc, seed, m)?;
+        state.prices = drawn_prices(alloc, seed, m)?;
     }
     if which != 2 {
-        standing.objects = drawn_numbers(alloc, seed, n, m.wrapping_add(2))?;
+        state.objects = drawn_numbers(alloc, seed, n, m.wrapping_add(2))?;
     }
     if let Start::Record = start {
-        standing.record = drawn_record(seed);
+        state.record = drawn_record(seed);
     }
-    Ok(standing)
+    Ok(state)
 }
 
 // What the slow search finds.
@@ -87,8 +87,8 @@ fn solve_drawn(
     let Some(lists) = lent(&problem) else {
         return Err("a drawn problem is out of the limits".into());
     };
-    let standing = drawn_standing(alloc, seed, &problem, start)?;
-    let found = in_pieces(alloc, &lists, standing, budget, 2000)?;
+    let state = drawn_state(alloc, seed, &problem, start)?;
+    let found = in_pieces(alloc, &lists, state, budget, 2000)?;
     assert_eq!(rt; found, slow_finding(alloc, &problem)?);
     Ok(())
 }

@@ -12,10 +12,10 @@ use std::test::Fail;
 fn two_persons_and_three_objects(rt: HostRuntime) -> Result<(), Fail> {
     let problem = dense(rt.alloc(), Sense::Min, 2, 3, &[1, 5, 6, 2, 9, 20])?;
     let lists = costs_of(&problem)?;
-    let mut standing = nothing(rt.alloc(), 2, 3)?;
-    let found = call(rt.alloc(), &lists, &mut standing, 0)?;
+    let mut state = nothing(rt.alloc(), 2, 3)?;
+    let found = call(rt.alloc(), &lists, &mut state, 0)?;
     assert_eq!(rt; found, Finding::Best(7));
-    assert_eq!(rt; standing.objects.as_slice(), [2, 1].as_slice());
+    assert_eq!(rt; state.objects.as_slice(), [2, 1].as_slice());
     Ok(())
 }
 
@@ -25,12 +25,12 @@ fn two_persons_and_three_objects(rt: HostRuntime) -> Result<(), Fail> {
 fn prices_under_max_are_taken_from_gains(rt: HostRuntime) -> Result<(), Fail> {
     let problem = dense(rt.alloc(), Sense::Max, 2, 2, &[4, 7, 5, 6])?;
     let lists = costs_of(&problem)?;
-    let mut standing = nothing(rt.alloc(), 2, 2)?;
-    let found = call(rt.alloc(), &lists, &mut standing, 0)?;
+    let mut state = nothing(rt.alloc(), 2, 2)?;
+    let found = call(rt.alloc(), &lists, &mut state, 0)?;
     assert_eq!(rt; found, Finding::Best(12));
-    assert_eq!(rt; standing.objects.as_slice(), [2, 1].as_slice());
-    assert_eq!(rt; standing.prices.len(), 2);
-    let above = standing.prices[1].wrapping_sub(standing.prices[0]);
+    assert_eq!(rt; state.objects.as_slice(), [2, 1].as_slice());
+    assert_eq!(rt; state.prices.len(), 2);
+    let above = state.prices[1].wrapping_sub(state.prices[0]);
     assert!(rt; 1 <= above && above <= 3);
     Ok(())
 }
@@ -41,13 +41,13 @@ fn a_pair_given_twice_counts_at_its_best_cost(rt: HostRuntime) -> Result<(), Fai
     let (persons, objects, costs) = ([1, 1, 2], [1, 1, 2], [9, 3, 40]);
     let problem = sparse(rt.alloc(), Sense::Min, 2, 2, &persons, &objects, &costs)?;
     let lists = costs_of(&problem)?;
-    let mut standing = nothing(rt.alloc(), 2, 2)?;
-    let found = call(rt.alloc(), &lists, &mut standing, 0)?;
+    let mut state = nothing(rt.alloc(), 2, 2)?;
+    let found = call(rt.alloc(), &lists, &mut state, 0)?;
     assert_eq!(rt; found, Finding::Best(43));
     let problem = sparse(rt.alloc(), Sense::Max, 2, 2, &persons, &objects, &costs)?;
     let lists = costs_of(&problem)?;
-    let mut standing = nothing(rt.alloc(), 2, 2)?;
-    let found = call(rt.alloc(), &lists, &mut standing, 0)?;
+    let mut state = nothing(rt.alloc(), 2, 2)?;
+    let found = call(rt.alloc(), &lists, &mut state, 0)?;
     assert_eq!(rt; found, Finding::Best(49));
     Ok(())
 }
@@ -58,12 +58,12 @@ fn a_hall_set_names_its_persons_and_objects(rt: HostRuntime) -> Result<(), Fail>
     let (persons, objects, costs) = ([3, 2, 1, 2], [2, 1, 2, 2], [5, 6, 7, 8]);
     let problem = sparse(rt.alloc(), Sense::Min, 3, 3, &persons, &objects, &costs)?;
     let lists = costs_of(&problem)?;
-    let mut standing = nothing(rt.alloc(), 3, 3)?;
+    let mut state = nothing(rt.alloc(), 3, 3)?;
     let (n, m) = (lists.persons() as usize, lists.objects() as usize);
-    if standing.objects.len() != n || standing.prices.len() != m {
+    if state.objects.len() != n || state.prices.len() != m {
         return Err("lists of other lengths".into());
     }
-    let Found::Hall(set) = solve_lists(rt.alloc(), &lists, &mut standing, 0)? else {
+    let Found::Hall(set) = solve_lists(rt.alloc(), &lists, &mut state, 0)? else {
         return Err("no Hall set".into());
     };
     assert_eq!(rt; set.persons.as_slice(), [1, 3].as_slice());
@@ -83,11 +83,11 @@ fn prices_count_a_common_factor(rt: HostRuntime) -> Result<(), Fail> {
     ];
     let problem = sparse(rt.alloc(), Sense::Min, 2, 2, &persons, &objects, &costs)?;
     let lists = costs_of(&problem)?;
-    let mut standing = nothing(rt.alloc(), 2, 2)?;
-    let found = call(rt.alloc(), &lists, &mut standing, 0)?;
+    let mut state = nothing(rt.alloc(), 2, 2)?;
+    let found = call(rt.alloc(), &lists, &mut state, 0)?;
     assert_eq!(rt; found, Finding::Best(700_000_000_000));
-    assert_eq!(rt; standing.prices.len(), 2);
-    let above = standing.prices[0].wrapping_sub(standing.prices[1]);
+    assert_eq!(rt; state.prices.len(), 2);
+    let above = state.prices[0].wrapping_sub(state.prices[1]);
     assert!(rt; 400_000_000_000 <= above && above <= 700_000_000_000);
     Ok(())
 }

@@ -202,7 +202,7 @@ fn draw_record(seed: &mut u64) -> Record {
         has_assignment: draw_wide(seed, 2) == 0,
         place: (draw_wide(seed, 9) & 15) as u32,
         usual: (draw_wide(seed, 60) & 63) as u32,
-        looks: draw_wide(seed, 1000),
+        arc_scans: draw_wide(seed, 1000),
     }
 }
 
@@ -248,7 +248,7 @@ fn searches_from_any_record_find_the_best(rt: HostRuntime) -> Result<(), Fail> {
     Ok(())
 }
 
-// Calls of a few looks each from these prices, objects and record, up to the end.
+// Calls of a few arc scans each from these prices, objects and record, up to the end.
 fn in_pieces(
     alloc: Global,
     lists: &Lists,
@@ -325,7 +325,7 @@ const FOREIGN: [Foreign; 3] = [
     },
 ];
 
-// A problem in calls of a single look, next to one call from nothing.
+// A problem in calls of a single arc scan, next to one call from nothing.
 fn in_smallest_pieces(
     alloc: Global,
     seed: &mut u64,

@@ -82,7 +82,7 @@ pub fn is_hall_set(problem: SparseProblem<'_>, set: &HallSet) -> bool {
             .all(|person| are_among(problem.row(*person), objects))
 }
 
-// The least totals by sets of objects, a bit for each, once one more person is served.
+// The least totals by sets of objects, a bit for each, once one more person is assigned.
 fn serve_one(alloc: Global, row: &[Pair], totals: &[i64]) -> Result<Vec<i64>, AllocError> {
     let mut next = vec![in alloc; NO_TOTAL; totals.len()]?;
     for (set, total) in totals.iter().enumerate() {

@@ -6,14 +6,14 @@ use std::test::Fail;
 // Stops after so many looks at pairs.
 #[derive(Drop)]
 struct Stops {
-    looks: u64,
+    arc_scans: u64,
 }
 
 impl Observer for Stops {
     fn assigned(&self, _persons: u16) {}
 
-    fn looks(&self, _pairs: usize) -> u64 {
-        self.looks
+    fn arc_scans(&self, _pairs: usize) -> u64 {
+        self.arc_scans
     }
 }
 
@@ -22,10 +22,10 @@ fn found_in_pieces(
     alloc: Global,
     problem: &Problem,
     sense: Sense,
-    looks: u64,
+    arc_scans: u64,
     first: Option<&[Price]>,
 ) -> Result<(Finding, Vec<Price>), AllocError> {
-    match try_paths(alloc, problem, sense, first, &Stops { looks })? {
+    match try_paths(alloc, problem, sense, first, &Stops { arc_scans })? {
         Some(outcome) => {
             let prices = match &outcome {
                 Outcome::Best(best) => best.prices.as_slice().to_vec(alloc)?,
@@ -79,9 +79,9 @@ fn agree(alloc: Global, pairs: &[Pair], n: u16, sense: Sense) -> Result<bool, Al
     let (whole, prices) = found_in_pieces(alloc, &problem, sense, 0, None)?;
     let far = far_prices(alloc, n)?;
     let mut same = matches!(whole, Finding::Best(_));
-    for looks in [0, 1, 1000] {
+    for arc_scans in [0, 1, 1000] {
         for first in [None, Some(prices.as_slice()), Some(far.as_slice())] {
-            let (found, _) = found_in_pieces(alloc, &problem, sense, looks, first)?;
+            let (found, _) = found_in_pieces(alloc, &problem, sense, arc_scans, first)?;
             same = same && found == whole;
         }
     }
@@ -122,8 +122,8 @@ fn too_few_objects(rt: HostRuntime) -> Result<(), Fail> {
             }
         }
         let problem = problem_of(alloc, size(100), pairs.as_slice())?;
-        for looks in [0, 1000] {
-            let (found, _) = found_in_pieces(alloc, &problem, Sense::Max, looks, None)?;
+        for arc_scans in [0, 1000] {
+            let (found, _) = found_in_pieces(alloc, &problem, Sense::Max, arc_scans, None)?;
             assert_eq!(rt; found, Finding::Hall);
         }
     }

@@ -3,7 +3,7 @@ use super::*;
 use std::sync::atomic::{AtomicU64, Ordering};
 use std::test::Fail;
 
-// The number of pieces, each of as many looks as there are pairs.
+// The number of pieces, each of as many arc scans as there are pairs.
 #[derive(Drop)]
 struct Pieces {
     count: AtomicU64,
@@ -14,7 +14,7 @@ impl Observer for Pieces {
         self.count.fetch_add(1, Ordering::SeqCst);
     }
 
-    fn looks(&self, pairs: usize) -> u64 {
+    fn arc_scans(&self, pairs: usize) -> u64 {
         pairs as u64
     }
 }

@@ -156,7 +156,7 @@ impl Observer for Follower {
         }
     }
 
-    fn looks(&self, pairs: usize) -> u64 {
+    fn arc_scans(&self, pairs: usize) -> u64 {
         pairs as u64
     }
 }

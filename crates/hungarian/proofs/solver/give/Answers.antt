@@ -1,6 +1,6 @@
 use Rattle.std.proofs.Common.{◌∙◌}
 use Rattle.std.proofs.lemmas.List.{with_items_is}
-use Rattle.hungarian.proofs.Served.{end_within, flippable, planned_next, raise_fits, served_next}
+use Rattle.hungarian.proofs.Assigned.{end_within, flippable, planned_next, raise_fits, assigned_next}
 use Rattle.std.specs.Vec.{with_items}
 use Rattle.hungarian.proofs.solver.give.Goals as goal
 
@@ -56,10 +56,10 @@ returns-clause-plan c =
     (rw c.as_mut_slice.ensures.value at c.raise.auto.prices)
     (rw c.as_mut_slice-2.ensures.value at c.augment.auto.owners)
     (rw c.as_mut_slice-3.ensures.value at c.augment.auto.objects)
-    flips c.requires.served
+    flips c.requires.assigned
 
-pub returns-clause-served : goal.returns-clause-served
-returns-clause-served c =
+pub returns-clause-assigned : goal.returns-clause-assigned
+returns-clause-assigned c =
     let plan = c.args.plan.now in
     let raised = rw (
       c.as_mut_slice.ensures.value,
@@ -72,7 +72,7 @@ returns-clause-served c =
       c.as_slice.ensures.value,
       c.as_slice-ranks.ensures.value,
     ) at c.augment.ensures in
-    served_next c.args.lists.now plan c.args.tree.now c.args.person c.args.end c.persons-persons.ensures.rule
+    assigned_next c.args.lists.now plan c.args.tree.now c.args.person c.args.end c.persons-persons.ensures.rule
     c.requires.plan c.requires.person c.requires.tree c.requires.end
     c.raise.new.prices raised (record plan {
       prices = with_items plan.prices c.raise.new.prices;
@@ -86,4 +86,4 @@ returns-clause-served c =
     (rw c.as_mut_slice.ensures.value at c.raise.auto.prices)
     (rw c.as_mut_slice-2.ensures.value at c.augment.auto.owners)
     (rw c.as_mut_slice-3.ensures.value at c.augment.auto.objects)
-    flips c.requires.served
+    flips c.requires.assigned

@@ -1,5 +1,5 @@
 use Rattle.std.proofs.Common.{arith}
-use Rattle.hungarian.proofs.Served.{objects_within, refuted}
+use Rattle.hungarian.proofs.Assigned.{objects_within, refuted}
 use Rattle.hungarian.proofs.solver.refute.Goals as goal
 
 pub hall_set-requires-clause-within : goal.hall_set-requires-clause-within

@@ -1,6 +1,6 @@
 use Rattle.std.proofs.Common.{◌≡◌, ◌-◌, arith, length, subst}
-use Rattle.hungarian.specs.inside.Stored.{IsServedTo}
-use Rattle.hungarian.proofs.Served.{finished}
+use Rattle.hungarian.specs.inside.Stored.{IsAssignedTo}
+use Rattle.hungarian.proofs.Assigned.{finished}
 use Rattle.hungarian.proofs.solver.solve.Goals as goal
 
 pub returns : goal.returns
@@ -13,5 +13,5 @@ returns c =
     in
     finished lists loop.plan c.in_ok-best.best.objects.items c.in_ok-best.best.prices.items c.objects.ensures.rule
     loop.invariant.planned
-    (subst (λ k. IsServedTo k loop.plan.objects.items) all loop.invariant.served) c.in_ok-best.ensures.objects
+    (subst (λ k. IsAssignedTo k loop.plan.objects.items) all loop.invariant.assigned) c.in_ok-best.ensures.objects
     c.in_ok-best.ensures.prices

@@ -3,8 +3,8 @@ use Rattle.std.specs.Int.{w32}
 use Rattle.std.proofs.lemmas.Int.{to_z-of_z}
 use Rattle.exact_checker.specs.HallVerdicts.{IsHallVerdict}
 use Rattle.c_calls.specs.declared.lists.form.Form.{Form}
-use Rattle.c_calls.specs.lists.Faults.{IsOfGiven}
-use Rattle.c_calls.specs.lists.Given.{problem_alone}
+use Rattle.c_calls.specs.lists.Faults.{IsOfInput}
+use Rattle.c_calls.specs.lists.Input.{problem_alone}
 use Rattle.nushbaret.proofs.check.nushbaret_check_hall.Goals as goal
 
 pub returns-in-Ok : goal.returns-in-Ok
@@ -16,7 +16,7 @@ returns-in-Ok c =
       is = to_z-of_z w32 c.report_hall_verdict.result fits ∙ c.report_hall_verdict.ensures.code;
       names = c.report_hall_verdict.ensures.names;
       holds = subst
-          (λ (form : Form). IsOfGiven (problem_alone form 0 c.args.n c.args.m c.args.of_persons.now
+          (λ (form : Form). IsOfInput (problem_alone form 0 c.args.n c.args.m c.args.of_persons.now
           c.args.of_objects.now c.args.costs.now) (λ l. IsHallVerdict l c.args.persons.now c.args.objects.now v))
           c.form_of.ensures c.in-Ok.ensures.verdict;
     })

@@ -6,7 +6,7 @@ use Rattle.c_calls.proofs.doubles.solve.put_answer.Goals as goal
 
 pub put_hall-requires-clause-persons : goal.put_hall-requires-clause-persons
 put_hall-requires-clause-persons c =
-    let g = c.args.given.now in
+    let g = c.args.input.now in
     let found = subst (IsFound g) c.in-Hall.is c.requires.answer in
     let proof = found.holds.proof in
     let few = few_rise _ _ proof.persons_rise proof.within in
@@ -15,7 +15,7 @@ put_hall-requires-clause-persons c =
 
 pub put_hall-requires-clause-objects : goal.put_hall-requires-clause-objects
 put_hall-requires-clause-objects c =
-    let g = c.args.given.now in
+    let g = c.args.input.now in
     let found = subst (IsFound g) c.in-Hall.is c.requires.answer in
     let proof = found.holds.proof in
     let few = few_rise _ _ proof.persons_rise proof.within in

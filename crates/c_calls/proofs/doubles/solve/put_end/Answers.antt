@@ -8,7 +8,7 @@ use Rattle.c_calls.proofs.doubles.solve.put_end.Goals as goal
 pub returns-in-Err : goal.returns-in-Err
 returns-in-Err c =
     let fits : SFits w32 c.refuse.result = search rules in
-    let first = subst (λ r. IfErr r (HasFault c.args.given.now)) c.in-Err.is c.requires.fault in
+    let first = subst (λ r. IfErr r (HasFault c.args.input.now)) c.in-Err.is c.requires.fault in
     record {
       end = Err c.in-Err.fault;
       is = to_z-of_z w32 c.refuse.result fits ∙ c.refuse.ensures.code;

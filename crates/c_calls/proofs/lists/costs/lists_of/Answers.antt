@@ -2,7 +2,7 @@ use Rattle.std.proofs.Common.{length, ap, ◌∙◌}
 use Rattle.assign_core.proofs.DenseRows.{length-rows_cut}
 use Rattle.cost_lists.specs.Given.{triples_of}
 use Rattle.cost_lists.specs.ListedCosts.{ListedCosts}
-use Rattle.cost_lists.proofs.GivenRows.{length-rows_given}
+use Rattle.cost_lists.proofs.InputRows.{length-rows_given}
 use Rattle.c_calls.proofs.lists.costs.lists_of.Goals as goal
 
 pub returns-in-Dense-clause-persons : goal.returns-in-Dense-clause-persons
@@ -10,7 +10,7 @@ returns-in-Dense-clause-persons c = ap (λ (l : ListedCosts). length l.rows) c.d
 
 pub returns-in-Sparse-clause-persons : goal.returns-in-Sparse-clause-persons
 returns-in-Sparse-clause-persons c =
-    let g = c.given.inside in
+    let g = c.input.inside in
     let shape = c.args.shape in
     let long = length-rows_given shape.sense (triples_of g.persons.now g.objects.now g.costs.now) shape.m 1 shape.n in
     ap (λ (l : ListedCosts). length l.rows) c.sparse.ensures ∙ long ∙ c.requires.shape.persons

@@ -5,12 +5,12 @@ use Rattle.c_calls.proofs.lists.solve.put_answer.Goals as goal
 
 pub put_hall-requires-clause-persons : goal.put_hall-requires-clause-persons
 put_hall-requires-clause-persons c =
-    let proof = subst (IsFound c.args.lists.now c.args.standing.now) c.in-Hall.is c.requires.found in
+    let proof = subst (IsFound c.args.lists.now c.args.state.now) c.in-Hall.is c.requires.found in
     let few = few_rise _ _ proof.persons_rise proof.within in
     omega arith
 
 pub put_hall-requires-clause-objects : goal.put_hall-requires-clause-objects
 put_hall-requires-clause-objects c =
-    let proof = subst (IsFound c.args.lists.now c.args.standing.now) c.in-Hall.is c.requires.found in
+    let proof = subst (IsFound c.args.lists.now c.args.state.now) c.in-Hall.is c.requires.found in
     let few = few_rise _ _ proof.persons_rise proof.within in
     omega (arith, proof.fewer)

@@ -2,7 +2,7 @@ use Rattle.std.proofs.Common.{SFits, Err, Ok, rules, ap, ◌∙◌}
 use Rattle.std.specs.Int.{w32}
 use Rattle.std.proofs.lemmas.Int.{to_z-of_z}
 use Rattle.c_calls.specs.lists.Ends.{HoldsEnd, buffers}
-use Rattle.c_calls.proofs.Answering.{of_given}
+use Rattle.c_calls.proofs.Answering.{of_input}
 use Rattle.c_calls.proofs.lists.solve.solve_from.Goals as goal
 
 pub returns-in-Err-clause-reported : goal.returns-in-Err-clause-reported
@@ -24,7 +24,7 @@ returns-clause-reported c =
       is = to_z-of_z w32 c.code_of_found.result fits ∙ c.code_of_found.ensures;
       solved = (
         searched.allowed,
-        of_given c.args.given.now c.in-Ok.searched.shape c.lists_of-lists.result
+        of_input c.args.input.now c.in-Ok.searched.shape c.lists_of-lists.result
             (λ l. HoldsEnd l (buffers c.args.objects.now c.args.persons.now c.args.prices.now c.args.info.now)
             _ found) searched.shape searched.whole c.lists_of-lists.ensures.lists c.put_answer.ensures,
       );

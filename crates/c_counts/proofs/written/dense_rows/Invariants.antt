@@ -1,0 +1,6 @@
+use Rattle.std.proofs.Common.{◌≡◌, ◌+◌, ◌/◌, map}
+use Rattle.std.specs.List.{range_with_len}
+use Rattle.c_counts.proofs.written.dense_rows.Given as goal
+
+abbrev pub invariant-loop-place : goal.invariant-loop-place
+invariant-loop-place l = l.rows.items ≡ map (λ i. i / l.m + 1) (range_with_len 0 l.place)

@@ -1,0 +1,8 @@
+pub mod Input
+pub mod Lists
+pub mod Sums
+pub mod Answers
+pub mod Ends
+pub mod Checks
+pub mod Lent
+pub mod Ones

@@ -1,0 +1,32 @@
+-- What calls on a plan leave where memory was refused.
+use Rattle.std.proofs.Common.{◌≡◌, ℤ, pos, refl}
+use Rattle.c_calls.specs.declared.fault.Fault.TheVariants.{Memory}
+use Rattle.c_calls.specs.lists.Faults.{IsWhole}
+use Rattle.c_calls.specs.lists.Input.{InputLists}
+use Rattle.c_plans.specs.Next.{IsNextRefused, NextBuffers}
+use Rattle.c_plans.specs.Unique.{IsUniqueRefused, UniqueBuffers}
+
+-- buffers that are the same, part by part
+same_buffers : (a b : UniqueBuffers) → a.other ≡ b.other → a.ranks ≡ b.ranks → a.info ≡ b.info → a ≡ b
+same_buffers a b other ranks info = rw (other, ranks, info) refl
+
+pub memory_refused : (g : InputLists) (before after : UniqueBuffers) (code : ℤ) → IsWhole g → code ≡ pos 9 →
+    after.other ≡ before.other → after.ranks ≡ before.ranks → after.info ≡ before.info → IsUniqueRefused g before after code
+memory_refused g before after code whole is other ranks info = record {
+  fault = Memory;
+  is = is;
+  first = whole;
+  stays = same_buffers after before other ranks info;
+}
+
+same_next : (a b : NextBuffers) → a.other ≡ b.other → a.margin ≡ b.margin → a.info ≡ b.info → a ≡ b
+same_next a b other margin info = rw (other, margin, info) refl
+
+pub next_refused : (g : InputLists) (before after : NextBuffers) (code : ℤ) → IsWhole g → code ≡ pos 9 →
+    after.other ≡ before.other → after.margin ≡ before.margin → after.info ≡ before.info → IsNextRefused g before after code
+next_refused g before after code whole is other margin info = record {
+  fault = Memory;
+  is = is;
+  first = whole;
+  stays = same_next after before other margin info;
+}

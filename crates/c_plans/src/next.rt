@@ -1,0 +1,213 @@
+// Proved answers to which plan is the next best.
+ghost use Rattle.std.specs.Prelude.{◌≡◌, ◌≢◌, ◌-ℤ◌, List, ℕ, ℤ, true, IfOk, IfSome, IsTrue};
+ghost use Rattle.assign_core.specs.Assignment.{AreListed, IsAssignment};
+ghost use Rattle.cost_lists.specs.Exact.{IsOptimum};
+ghost use Rattle.cost_lists.specs.ListedCosts.{ListedCosts};
+ghost use Rattle.cost_lists.specs.Own.{minimised};
+ghost use Rattle.exact_checker.specs.Verdicts.{IsVerdict};
+ghost use Rattle.plan_checker.specs.Next.{IsOnlyAssignment};
+ghost use Rattle.plan_checker.specs.Ranks.{AreRanked};
+ghost use Rattle.c_plans.specs.NextAnswers.{CostsMore, IsNext, IsNextAnswer};
+
+use super::answer::differ;
+use assign_core::{Cost, Sense};
+use cost_lists::{CostLists, Object, Price};
+use exact_checker::{Verdict, check};
+use plan_checker::{NO_BOUND, Rank, are_ranked, ranks_mean_alone, ranks_mean_next};
+use plan_search::{Found, find_other};
+use std::alloc::{AllocError, Global};
+
+/// What another plan costs.
+#[derive(Clone, Copy)]
+pub struct NextCost {
+    /// The sum of its costs.
+    pub total: Cost,
+    /// How much more that is than the best plan's; under `Sense::Max`, how much less.
+    pub margin: Cost,
+}
+
+/// Which plan is the next best.
+#[derive(Drop)]
+pub enum Next {
+    /// The prices don't prove the plan.
+    Refused(Verdict),
+    /// There is no other plan.
+    Alone,
+    /// These objects, at this cost.
+    Another(Vec<Object>, NextCost),
+    /// None was shown.
+    Open,
+}
+
+// Whether lists of a verdict are an assignment, though it need not be best.
+fn is_assigned(verdict: Verdict) -> bool
+    ensures { (l : ListedCosts) (xs : List ℕ) (prices : List ℤ)
+        → IsVerdict l xs prices verdict → IsTrue result → IsAssignment l.rows xs }
+{
+    match verdict {
+        Verdict::Slack(_, _) => true,
+        Verdict::Overpriced(_) => true,
+        Verdict::Yes => true,
+        _ => false,
+    }
+}
+
+// Whether these objects are another assignment.
+fn is_another(
+    alloc: Global,
+    lists: &CostLists<'_>,
+    objects: &[Object],
+    prices: &[Price],
+    other: &[Object],
+) -> Result<bool, AllocError>
+    ensures assigned { IfOk result (λ is. IsTrue is → IsAssignment lists.now.rows other.now) }
+    ensures other { IfOk result (λ is. IsTrue is → other.now ≢ objects.now) }
+{
+    if !differ(other, objects) {
+        return Ok(false);
+    }
+    let verdict = check(alloc, lists, other, prices)?;
+    Ok(is_assigned(verdict))
+}
+
+// How much more a second sum is than the first one, if that fits; under Max, how much less.
+fn more_by(sense: Sense, first: Cost, second: Cost) -> Option<Cost>
+    ensures { IfSome result (λ more. more ≡ minimised sense second -ℤ minimised sense first) }
+{
+    match sense {
+        Sense::Min => second.checked_sub(first),
+        Sense::Max => first.checked_sub(second),
+    }
+}
+
+// What a second assignment costs, and how much more than the first one, if that fits.
+fn cost_of(
+    alloc: Global,
+    lists: &CostLists<'_>,
+    objects: &[Object],
+    other: &[Object],
+) -> Result<Option<NextCost>, AllocError>
+    requires objects { AreListed lists.now.rows objects.now }
+    requires other { AreListed lists.now.rows other.now }
+    ensures { IfOk result (λ found. IfSome found (CostsMore lists.now objects.now other.now)) }
+{
+    let first = lists.total(alloc, objects)?;
+    let total = lists.total(alloc, other)?;
+    match more_by(lists.sense(), first, total) {
+        Some(margin) => Ok(Some(NextCost { total, margin })),
+        None => Ok(None),
+    }
+}
+
+// Whether prices prove the plan, and these are its strict ranks below a margin.
+fn are_shown(
+    alloc: Global,
+    lists: &CostLists<'_>,
+    objects: &[Object],
+    prices: &[Price],
+    ranks: &[Rank],
+    margin: Cost,
+) -> Result<bool, AllocError>
+    ensures optimum { IfOk result (λ are. IsTrue are → IsOptimum lists.now objects.now prices.now) }
+    ensures ranked { IfOk result (λ are. IsTrue are
+        → AreRanked true margin lists.now objects.now prices.now ranks.now) }
+{
+    let verdict = check(alloc, lists, objects, prices)?;
+    if verdict != Verdict::Yes {
+        return Ok(false);
+    }
+    are_ranked(alloc, lists, objects, prices, ranks, true, margin)
+}
+
+// What another plan costs, if prices and ranks of the best one show that it is a next best one.
+fn next_cost(
+    alloc: Global,
+    lists: &CostLists<'_>,
+    objects: &[Object],
+    prices: &[Price],
+    ranks: &[Rank],
+    other: &[Object],
+) -> Result<Option<NextCost>, AllocError>
+    requires { AreListed lists.now.rows objects.now }
+    ensures { IfOk result (λ found. IfSome found (IsNext lists.now objects.now other.now)) }
+{
+    // These calls show the prover what ranks mean.
+    let _persons = lists.persons();
+    ranks_mean_next();
+    if !is_another(alloc, lists, objects, prices, other)? {
+        return Ok(None);
+    }
+    let Some(cost) = cost_of(alloc, lists, objects, other)? else {
+        return Ok(None);
+    };
+    if !are_shown(alloc, lists, objects, prices, ranks, cost.margin)? {
+        return Ok(None);
+    }
+    Ok(Some(cost))
+}
+
+// Whether prices and ranks show that there is no other plan.
+fn is_alone(
+    alloc: Global,
+    lists: &CostLists<'_>,
+    objects: &[Object],
+    prices: &[Price],
+    ranks: &[Rank],
+) -> Result<bool, AllocError>
+    ensures { IfOk result (λ is. IsTrue is → IsOnlyAssignment lists.now.rows objects.now) }
+{
+    // These calls show the prover what ranks mean.
+    let _persons = lists.persons();
+    ranks_mean_alone();
+    are_shown(alloc, lists, objects, prices, ranks, NO_BOUND)
+}
+
+// Searches for the next best plan, and checks what was found.
+fn next_of(
+    alloc: Global,
+    lists: &CostLists<'_>,
+    objects: &[Object],
+    prices: &[Price],
+    arc_scans: u64,
+) -> Result<Next, AllocError>
+    requires { IsOptimum lists.now objects.now prices.now }
+    ensures { IfOk result (IsNextAnswer lists.now objects.now prices.now) }
+{
+    let Found {
+        other,
+        ranks,
+        prices: shown,
+    } = find_other(alloc, lists, objects, prices, NO_BOUND, arc_scans)?;
+    let Some(ranks) = ranks else {
+        return Ok(Next::Open);
+    };
+    let (shown, ranks) = (shown.as_slice(), ranks.as_slice());
+    if let Some(other) = other {
+        let found = next_cost(alloc, lists, objects, shown, ranks, other.as_slice())?;
+        return match found {
+            Some(cost) => Ok(Next::Another(other, cost)),
+            None => Ok(Next::Open),
+        };
+    }
+    if is_alone(alloc, lists, objects, shown, ranks)? {
+        return Ok(Next::Alone);
+    }
+    Ok(Next::Open)
+}
+
+/// The next best plan after the one that these objects and prices are.
+pub fn next_after(
+    alloc: Global,
+    lists: &CostLists<'_>,
+    objects: &[Object],
+    prices: &[Price],
+    arc_scans: u64,
+) -> Result<Next, AllocError>
+    ensures { IfOk result (IsNextAnswer lists.now objects.now prices.now) }
+{
+    let verdict = check(alloc, lists, objects, prices)?;
+    if verdict != Verdict::Yes {
+        return Ok(Next::Refused(verdict));
+    }
+    next_of(alloc, lists, objects, prices, arc_scans)
+}

@@ -1,8 +1,0 @@
-pub mod Given
-pub mod Lists
-pub mod Sums
-pub mod Answers
-pub mod Ends
-pub mod Checks
-pub mod Lent
-pub mod Ones

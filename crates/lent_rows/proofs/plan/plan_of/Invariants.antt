@@ -1,6 +1,0 @@
-use Rattle.std.proofs.Common.{◌≡◌, take}
-use Rattle.lent_rows.specs.Given.{plan_of}
-use Rattle.lent_rows.proofs.plan.plan_of.Given as goal
-
-abbrev pub invariant-loop-number : goal.invariant-loop-number
-invariant-loop-number l = l.plan.items ≡ plan_of (take l.number-index l.numbers)

@@ -1,6 +1,0 @@
-use Rattle.std.proofs.Common.{◌≡◌}
-use Rattle.lent_rows.specs.Lists.{terms_from}
-use Rattle.lent_rows.proofs.rows.terms_from.Given as goal
-
-abbrev pub invariant-loop-i : goal.invariant-loop-i
-invariant-loop-i l = l.terms.items ≡ terms_from l.variables l.coefficients l.from l.i
