@@ -1,4 +1,4 @@
-/* The calls of c/nushbaret.h that bench/door.c makes, by version 3's library, whose calls bench/paths.py renames to begin with
+/* The calls of c/nushbaret.h that bench/calls.c makes, by version 3's library, whose calls bench/paths.py renames to begin with
    `earlier_`. Its numbers had 16 bits, and its prices 128, in the unit of the costs times m + 1: lists are turned into those,
    which takes far less time than a call. Of a solve only objects and the total are handed on; a check takes exact prices. */
 #include "../c/nushbaret.h"

@@ -34,15 +34,15 @@ def calls():
     costs = np.random.default_rng(1).random((3, 4))
     forms = [costs, costs.tolist(), costs.astype(np.float32), np.ma.array(costs)]
     listed = 3, 4, *np.nonzero(costs), costs.ravel()
-    doors = [*(partial(nushbaret.linear_sum_assignment, form) for form in forms),
+    calls = [*(partial(nushbaret.linear_sum_assignment, form) for form in forms),
              partial(nushbaret.solve_sparse, *listed), partial(nushbaret.solve, forms[2])]
-    for door in doors:
+    for call in calls:
         for _ in range(20000):
-            door()
+            call()
     before = held()
-    for _ in range(CALLS // len(doors)):
-        for door in doors:
-            door()
+    for _ in range(CALLS // len(calls)):
+        for call in calls:
+            call()
     more = held() - before
     print(f"{CALLS} small calls: {more} kB more")
     return more < 1024

@@ -7,7 +7,7 @@ Run it at the top of the repository after c/build.sh and `rt run` in crates/auct
 [shares | kinds | large | starts | neighbours | poor | calls | rectangles | memory | whole]]. It writes its inputs
 below bench/out and needs rustc, cc, binutils and the repository's history, which has the release (bench/earlier.c
 makes its calls). NUSHBARET_ARCHIVE in the environment names an archive to measure in place of c/out/libnushbaret.a.
-Calls, plain Rust and plain C take turns in one process (bench/door.c), one process for each library in turns; of each
+Calls, plain Rust and plain C take turns in one process (bench/calls.c), one process for each library in turns; of each
 the least processor time counts. Of the program it is that of the whole run, on one processor, less that of reading
 the same text with a word too many at its end. A run of more than LIMIT seconds is cut off, one of more than a second
 isn't repeated. Whole runs by shortest paths come last.
@@ -23,8 +23,8 @@ LIMIT = 10
 TIMES = 5
 # The release that this library is compared with, and its commit.
 RELEASE, COMMIT = "nushbaret-3.0.0-linux-x86_64", "4f4f0a2e"
-DOOR, EARLIER, KINDS, LIBRARY, PLAIN_C, RENAMED = (os.path.join(OUT, name) for name in (
-    "door", "door_earlier", "kinds", "libplain_paths.so", "lapjv.o", "libearlier.a"))
+CALLS, EARLIER, KINDS, LIBRARY, PLAIN_C, RENAMED = (os.path.join(OUT, name) for name in (
+    "calls", "calls_earlier", "kinds", "libplain_paths.so", "lapjv.o", "libearlier.a"))
 DENSE = (
     "to_10",
     "to_1000",
@@ -68,7 +68,7 @@ def unpack_release():
     return RENAMED
 
 
-def build_door():
+def build_calls():
     build(kinds=KINDS)
     plain = os.path.join(HERE, "plain", "paths.rs")
     subprocess.run(["rustc", "--edition", "2024", "-O", "-C", "target-cpu=x86-64-v2",
@@ -76,9 +76,9 @@ def build_door():
     subprocess.run(["cc", "-std=c99", "-O3", "-march=x86-64-v2", "-Wall", "-Wextra", "-c",
                    "-o", PLAIN_C, os.path.join(HERE, "plain", "lapjv.c")], check=True)
     ours = [os.environ.get("NUSHBARET_ARCHIVE", os.path.join(HERE, "..", "c", "out", "libnushbaret.a"))]
-    for program, archives in ((DOOR, ours), (EARLIER, [os.path.join(HERE, "earlier.c"), unpack_release()])):
+    for program, archives in ((CALLS, ours), (EARLIER, [os.path.join(HERE, "earlier.c"), unpack_release()])):
         subprocess.run(["cc", "-std=c99", "-O2", "-Wall", "-Wextra", "-o", program, os.path.join(HERE,
-                       "door.c"), PLAIN_C, *archives, LIBRARY, "-lm", f"-Wl,-rpath,{OUT}"], check=True)
+                       "calls.c"), PLAIN_C, *archives, LIBRARY, "-lm", f"-Wl,-rpath,{OUT}"], check=True)
 
 
 def text_of(kind, n):
@@ -89,7 +89,7 @@ def text_of(kind, n):
     return path
 
 
-def door(*words, stdin=None, program=DOOR):
+def timed(*words, stdin=None, program=CALLS):
     """Seconds of the library, of plain Rust, of plain C, and of a check, by name."""
     printed = subprocess.run([program, *map(str, words)], stdin=stdin,
                              stdout=subprocess.PIPE, check=True, text=True).stdout
@@ -101,11 +101,11 @@ def door(*words, stdin=None, program=DOOR):
 def both(words_of, path=None):
     """The least of each number of a line of this library, and of the earlier one, in turns of one call each."""
     least = {}
-    for program in (DOOR, EARLIER) * TIMES:
+    for program in (CALLS, EARLIER) * TIMES:
         with open(path or os.devnull) as file:
-            [(_, numbers)] = door(*words_of, stdin=file, program=program)
+            [(_, numbers)] = timed(*words_of, stdin=file, program=program)
         least[program] = [min(pair) for pair in zip(least.get(program, numbers), numbers)]
-    return least[DOOR], least[EARLIER]
+    return least[CALLS], least[EARLIER]
 
 
 def spent(words, path, statuses, limit=LIMIT):
@@ -143,13 +143,13 @@ def ratio(seconds, others):
     return f"{seconds / others:.2f}" if others else ""
 
 
-def kind(name, n, runs=TIMES, words_of_door=()):
+def kind(name, n, runs=TIMES, words_of_call=()):
     sparse = "=" in name
     path = text_of(name, n)
     bad = os.path.join(OUT, "bad.txt")
     with open(path, "rb") as source, open(bad, "wb") as file:
         file.write(source.read() + b"x\n")
-    (call, rust, c, _), (earlier, *_) = both(("text", 1, "sparse" if sparse else "dense", *words_of_door), path)
+    (call, rust, c, _), (earlier, *_) = both(("text", 1, "sparse" if sparse else "dense", *words_of_call), path)
     words = ["--sparse"] if sparse else []
     rounds, worker = (alone([*words, *mode], path, bad, runs) for mode in (ROUNDS, WORKER))
     print(f"| {name}, n = {n} | {call:.4f} | {ratio(call, earlier)} | {ratio(call, rust)} | {ratio(call, c)} | "
@@ -185,22 +185,22 @@ def shares():
 def memory():
     """The greatest memory of one call, as a share of the caller's list."""
     for n, most in ((1000, 10**6), (4000, 1000), (4000, 10**6), (4000, 10**12), (8192, 10**6)):
-        [(_, (solving, _, _, checking))] = door("memory", n, n, most)
+        [(_, (solving, _, _, checking))] = timed("memory", n, n, most)
         print(f"{n} x {n}, costs to {most}: {solving:.2f} of the list for a call, {checking:.2f} for a check",
               flush=True)
 
 
 def starts():
-    for name, (warm, cold, *_) in door("starts", TIMES):
+    for name, (warm, cold, *_) in timed("starts", TIMES):
         print(f"from first prices, {name}: {warm:.4f} s, {warm / cold:.2f} of {cold:.4f} s cold", flush=True)
-    for name, (seconds, *_) in door("wide"):
+    for name, (seconds, *_) in timed("wide"):
         print(f"first prices {name} of three equal objects: {seconds:.6f} s", flush=True)
 
 
 def neighbours():
     """Calls from the prices of a neighbour next to cold ones, six drawn problems each."""
     ratios = collections.defaultdict(list)
-    for name, (warm, cold, *_) in door("neighbours", TIMES):
+    for name, (warm, cold, *_) in timed("neighbours", TIMES):
         ratios[name].append(warm / cold)
     for name, those in ratios.items():
         print(f"from a neighbour's prices, {name}: {' '.join(f'{ratio:.2f}' for ratio in those)}", flush=True)
@@ -211,7 +211,7 @@ def poor():
     print("| kind | drawn | drawn up to 10^21 | one of 10^21 | turned round |")
     for name in DENSE:
         with open(text_of(name, 1000)) as file:
-            ratios = [f"{warm / cold:.2f}" for _, (warm, cold, *_) in door("poor", TIMES, stdin=file)]
+            ratios = [f"{warm / cold:.2f}" for _, (warm, cold, *_) in timed("poor", TIMES, stdin=file)]
         print(f"| {name} | {' | '.join(ratios)} |", flush=True)
 
 
@@ -224,7 +224,7 @@ def calls():
 def rectangles():
     """Calls on n persons, each with so many pairs, and m objects: from first prices, as shares of cold ones."""
     for n, m, each in RECTANGLES:
-        for name, (warm, cold, *_) in door("rectangle", n, m, each, 10**6, TIMES):
+        for name, (warm, cold, *_) in timed("rectangle", n, m, each, 10**6, TIMES):
             print(f"{n} persons of {each} pairs, {m} objects, from first prices, {name}: {warm:.4f} s, "
                   f"{warm / cold:.2f} of {cold:.4f} s cold",
                   flush=True)
@@ -238,7 +238,7 @@ def whole():
 
 
 def main():
-    build_door()
+    build_calls()
     parts = {
     "shares": shares,
     "kinds": kinds,

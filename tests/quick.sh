@@ -115,7 +115,7 @@ run tests/interrupts.sh "$program"
 needs python3 tests/progress.sh "$program"
 needs cc tests/refused_growths.sh "$program"
 needs_kit "$(type -P rt)" cc tests/programs.sh
-needs 'cc c++ python3 nm' tests/door.sh built
+needs 'cc c++ python3 nm' tests/c.sh built
 needs python3 tests/pages.py "$program"
 needs python3 tests/python.sh
 needs python3 tests/planted.py

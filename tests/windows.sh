@@ -1,6 +1,6 @@
 #!/usr/bin/env bash
 # The library for Windows as c/build_windows.sh left it in c/out/windows: under Wine the worked example, 20,000 drawn problems over
-# the DLL against a search over sets, the DLL loaded as Python does, and the calls of tests/door over its object, each growth
+# the DLL against a search over sets, the DLL loaded as Python does, and the calls of tests/c over its object, each growth
 # refused. On Linux the DLL's code, which tests/windows/loader.c runs, with rows and with some tests of the Python package:
 #     tests/windows.sh [TEST..]
 # TEST is a file of tests/python, or 'test_*.py' for all of them, which takes minutes. Nothing of it ran under Windows itself.
@@ -42,16 +42,16 @@ over_the_dll() {
     "$gnu-gcc" -std=c99 -O2 -Wall -Wextra -Werror -I"$top/c" "$1" "$built/nushbaret.lib" -o "$work/$(basename "$1" .c).exe"
 }
 
-# The calls of tests/door over the library's object. The test's own malloc stands in for that of the library alone, since mingw's
+# The calls of tests/c over the library's object. The test's own malloc stands in for that of the library alone, since mingw's
 # start-up calls malloc too; so does its emulated thread-local data, which clang can do without. Windows rounds stacks up itself.
-door() {
-    mkdir "$work/door"
+calls() {
+    mkdir "$work/calls"
     "$gnu-objcopy" --redefine-sym malloc=__wrap_malloc --redefine-sym realloc=__wrap_realloc --redefine-sym free=__wrap_free \
-        "$built/nushbaret.o" "$work/door/library.o"
-    (cd "$work/door" && clang --target="$gnu" -fno-emulated-tls -std=c99 -O1 -DPTHREAD_STACK_MIN=0 -I"$top/c" -c "$top"/tests/door/*.c)
+        "$built/nushbaret.o" "$work/calls/library.o"
+    (cd "$work/calls" && clang --target="$gnu" -fno-emulated-tls -std=c99 -O1 -DPTHREAD_STACK_MIN=0 -I"$top/c" -c "$top"/tests/c/*.c)
     "$gnu-objcopy" --redefine-sym __real_malloc=malloc --redefine-sym __real_realloc=realloc --redefine-sym __real_free=free \
-        "$work/door/memory.o"
-    "$gnu-gcc-posix" "$work"/door/*.o -pthread -static -o "$work/calls.exe"
+        "$work/calls/memory.o"
+    "$gnu-gcc-posix" "$work"/calls/*.o -pthread -static -o "$work/calls.exe"
 }
 
 under_wine() {
@@ -61,7 +61,7 @@ under_wine() {
     over_the_dll "$top/c/example.c"
     over_the_dll "$top/tests/windows/drawn.c"
     over_the_dll "$top/tests/windows/load.c"
-    door
+    calls
     cd "$work"
     expect 'example under Wine' "$example" "$wine" example.exe
     expect 'drawn problems under Wine' ', as a search over sets says' "$wine" drawn.exe 20000
@@ -69,7 +69,7 @@ under_wine() {
     expect 'calls under Wine' 'calls: all as wanted' "$wine" calls.exe
     # Its server, of this prefix alone, would stay for some seconds.
     "$(dirname "$wine")/wineserver" -k 2> /dev/null || true
-    ran="$ran; under Wine the example, 20,000 drawn problems, loading as Python does, and the calls of tests/door"
+    ran="$ran; under Wine the example, 20,000 drawn problems, loading as Python does, and the calls of tests/c"
 }
 
 # The sources of the package and its tests, in a folder whose library is the loader.
@@ -88,7 +88,7 @@ tested() {
 
 copy
 export NUSHBARET_DLL=$built/nushbaret.dll PYTHONPATH=$work/top/python PYTHONDONTWRITEBYTECODE=1
-"$python" "$top/tests/door/rows.py" "$work/top/c/out/libnushbaret.so" > "$work/log" 2>&1 || fail "rows: $(tail -5 "$work/log")"
+"$python" "$top/tests/c/rows.py" "$work/top/c/out/libnushbaret.so" > "$work/log" 2>&1 || fail "rows: $(tail -5 "$work/log")"
 for each in "${tests[@]}"; do
     tested "$each"
 done

@@ -21,7 +21,7 @@ fn a_dense_problem(rt: HostRuntime) -> Result<(), Fail> {
     for cost in problem.costs.iter_mut() {
         *cost = Cost::from(draw(&mut seed, 1_000_000));
     }
-    let Some(lists) = lent(&problem) else {
+    let Some(lists) = caller_lists(&problem) else {
         return Err("the problem is out of the limits".into());
     };
     let standing = nothing(rt.alloc(), $size, $size)?;

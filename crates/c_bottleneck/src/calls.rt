@@ -1,4 +1,4 @@
-// A bottleneck of a lent problem.
+// A bottleneck of a caller's problem.
 ghost use Rattle.std.specs.Prelude.{◌≡◌, ◌≢◌, ◌≤◌, ◌++◌, IfOk, drop, length, pos};
 ghost use Rattle.c_calls.specs.lists.Input.{HasLengths};
 ghost use Rattle.c_bottleneck.specs.Answers.{IsAnswer};

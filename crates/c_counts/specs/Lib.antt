@@ -4,5 +4,5 @@ pub mod Sums
 pub mod Answers
 pub mod Ends
 pub mod Checks
-pub mod Lent
+pub mod Outputs
 pub mod Ones

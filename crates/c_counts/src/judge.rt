@@ -2,7 +2,7 @@
 ghost use Rattle.std.specs.Prelude.{◌≡◌, ◌↔◌, Some, IfErr, IfOk, IsTrue, OnOk};
 ghost use Rattle.c_counts.specs.Ends.{HasFault, HasRoom};
 ghost use Rattle.c_counts.specs.Input.{HasDense, sense_of};
-ghost use Rattle.c_counts.specs.Lent.{lent_buffers};
+ghost use Rattle.c_counts.specs.Outputs.{buffers_of};
 
 use crate::fault::Fault;
 use crate::info::CountsInfo;
@@ -29,7 +29,7 @@ pub fn is_shaped(input: &Input<'_>) -> bool
 
 /// The caller's buffers as they are before an answer.
 #[derive(Clone, Copy)]
-pub struct Lent<'a> {
+pub struct Outputs<'a> {
     pub plan: &'a [u8],
     pub row_numbers: &'a [i64],
     pub column_numbers: &'a [i64],
@@ -39,23 +39,23 @@ pub struct Lent<'a> {
 }
 
 // Whether each buffer has its length.
-fn has_room(input: &Input<'_>, lent: Lent<'_>) -> bool
-    ensures { IsTrue result ↔ HasRoom input.now (lent_buffers lent.entry) }
+fn has_room(input: &Input<'_>, outputs: Outputs<'_>) -> bool
+    ensures { IsTrue result ↔ HasRoom input.now (buffers_of outputs.entry) }
 {
     let (n, m) = (input.row_least.len(), input.column_least.len());
-    lent.plan.len() == input.costs.len()
-        && lent.row_numbers.len() == n
-        && lent.column_numbers.len() == m
-        && lent.row_marks.len() == n
-        && lent.column_marks.len() == m
+    outputs.plan.len() == input.costs.len()
+        && outputs.row_numbers.len() == n
+        && outputs.column_numbers.len() == m
+        && outputs.row_marks.len() == n
+        && outputs.column_marks.len() == m
 }
 
 /// The sense of a problem that has its pairs and its buffers, or else the first fault.
-pub fn judge(input: &Input<'_>, lent: Lent<'_>) -> Result<Sense, Fault>
+pub fn judge(input: &Input<'_>, outputs: Outputs<'_>) -> Result<Sense, Fault>
     ensures sense { IfOk result (λ s. sense_of input.now.sense ≡ Some s) }
     ensures dense { OnOk result (HasDense input.now) }
-    ensures room { OnOk result (HasRoom input.now (lent_buffers lent.entry)) }
-    ensures fault { IfErr result (HasFault input.now (lent_buffers lent.entry)) }
+    ensures room { OnOk result (HasRoom input.now (buffers_of outputs.entry)) }
+    ensures fault { IfErr result (HasFault input.now (buffers_of outputs.entry)) }
 {
     let Some(sense) = sense_by(input.sense) else {
         return Err(Fault::Sense);
@@ -63,7 +63,7 @@ pub fn judge(input: &Input<'_>, lent: Lent<'_>) -> Result<Sense, Fault>
     if !is_shaped(input) {
         return Err(Fault::Dense);
     }
-    if !has_room(input, lent) {
+    if !has_room(input, outputs) {
         return Err(Fault::Buffer);
     }
     Ok(sense)

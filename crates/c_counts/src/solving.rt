@@ -4,14 +4,14 @@ ghost use Rattle.count_checker.specs.declared.lists.CountLists.{CountLists};
 ghost use Rattle.c_counts.specs.Answers.{IsAnswer};
 ghost use Rattle.c_counts.specs.Ends.{HasFault, HoldsEnd, IsLack, IsSearchFault, Solves, buffers};
 ghost use Rattle.c_counts.specs.Input.{HasDense, IsOfInput, sense_of};
-ghost use Rattle.c_counts.specs.Lent.{lent_buffers};
+ghost use Rattle.c_counts.specs.Outputs.{buffers_of};
 ghost use Rattle.c_counts.specs.declared.info.CountsInfo.{CountsInfo};
 
 use crate::end::{End, code_of_end, refuse};
 use crate::fault::Fault;
 use crate::info::{CountsInfo, record_sum};
 use crate::input::Input;
-use crate::judge::{Lent, judge};
+use crate::judge::{Outputs, judge};
 use crate::search::{Answer, answer_on, start_of};
 use crate::written::{lists_of, written_of};
 use assign_core::Sense;
@@ -163,18 +163,18 @@ fn solved(
     alloc: Global,
     input: &Input<'_>,
     budget: u64,
-    lent: Lent<'_>,
+    outputs: Outputs<'_>,
     record: Record,
 ) -> Result<Answer, Fault>
     ensures answer { IfOk result (λ a. IsOfInput input.now (λ l. IsAnswer l budget a)) }
-    ensures fault { IfErr result (HasFault input.now (lent_buffers lent.entry)) }
+    ensures fault { IfErr result (HasFault input.now (buffers_of outputs.entry)) }
 {
-    let sense = judge(input, lent)?;
+    let sense = judge(input, outputs)?;
     let start = start_of(
         alloc,
-        lent.plan,
-        lent.row_numbers,
-        lent.column_numbers,
+        outputs.plan,
+        outputs.row_numbers,
+        outputs.column_numbers,
         record,
     )?;
     let answer = answer_input(alloc, input, sense, start, budget)?;
@@ -202,7 +202,7 @@ pub fn solve(
         result }
     ensures progress { result ≢ pos 16 → progress.new ≡ progress.old }
 {
-    let lent = Lent {
+    let outputs = Outputs {
         plan,
         row_numbers,
         column_numbers,
@@ -210,7 +210,7 @@ pub fn solve(
         column_marks,
         info,
     };
-    let answer = match solved(alloc, input, budget, lent, *progress) {
+    let answer = match solved(alloc, input, budget, outputs, *progress) {
         Ok(answer) => answer,
         Err(fault) => return refuse(fault, info),
     };

@@ -1,4 +1,4 @@
-// The next best plan after a lent one.
+// The next best plan after a caller's one.
 ghost use Rattle.std.specs.Prelude.{◌≡◌, ◌⊎◌, length};
 ghost use Rattle.c_calls.specs.lists.Input.{HasLengths};
 ghost use Rattle.c_plans.specs.Next.{IsNextShown, JudgesNext, next_buffers};

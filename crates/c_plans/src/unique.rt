@@ -1,4 +1,4 @@
-// Whether a lent plan is the only best one.
+// Whether a caller's plan is the only best one.
 ghost use Rattle.std.specs.Prelude.{◌≡◌, ◌⊎◌, length};
 ghost use Rattle.c_calls.specs.lists.Input.{HasLengths};
 ghost use Rattle.c_plans.specs.Answers.{IsAnswer};

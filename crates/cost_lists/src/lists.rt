@@ -1,4 +1,4 @@
-// Lists of costs, lent by a caller.
+// Lists of costs, borrowed from a caller.
 ghost use Rattle.std.specs.Prelude.{◌≡◌, length};
 ghost use Rattle.assign_core.specs.Dense.{rows_cut};
 ghost use Rattle.cost_lists.specs.ListedCosts.{AreInLimits, IsCount};

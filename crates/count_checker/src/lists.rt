@@ -1,4 +1,4 @@
-// Lists of a problem with counts, lent by a caller.
+// Lists of a problem with counts, borrowed from a caller.
 use assign_core::{Cost, Sense};
 
 /// A problem with counts and groups in a caller's lists. None of it has been checked.

@@ -1,4 +1,4 @@
-//! Optimal assignments with exact prices, and Hall sets, over lent lists of costs: an untrusted
+//! Optimal assignments with exact prices, and Hall sets, over borrowed lists of costs: an untrusted
 //! search finds them, and the checker of exact prices accepts them. Else a proved search answers.
 #![tactic(auto)]
 

@@ -45,7 +45,7 @@ fn pairs_of(n: u32, m: u32) -> usize
 }
 
 /// The costs of a problem, if all is in the limits.
-pub fn lent(problem: &Problem) -> Option<CostLists<'_>> {
+pub fn caller_lists(problem: &Problem) -> Option<CostLists<'_>> {
     let (n, m) = (problem.n, problem.m);
     let (persons, objects) = (problem.persons.as_slice(), problem.objects.as_slice());
     let costs = problem.costs.as_slice();
@@ -75,7 +75,7 @@ pub fn lent(problem: &Problem) -> Option<CostLists<'_>> {
 
 /// The costs of a problem in the limits.
 pub fn costs_of(problem: &Problem) -> Result<CostLists<'_>, Fail> {
-    match lent(problem) {
+    match caller_lists(problem) {
         Some(lists) => Ok(lists),
         None => Err("the problem is out of the limits".into()),
     }

@@ -1,7 +1,7 @@
 // Larger drawn problems: exact prices and Hall sets are proofs, so no slow search is asked.
 use super::called::{Finding, in_pieces, nothing};
 use super::drawn::{draw, drawn_cost};
-use super::given::lent;
+use super::given::caller_lists;
 use super::problem::Problem;
 use assign_core::{Cost, Sense};
 use list_solver::Record;
@@ -94,7 +94,7 @@ fn solve_twice(
     budget: u64,
 ) -> Result<Finding, Fail> {
     let alloc = rt.alloc();
-    let Some(lists) = lent(problem) else {
+    let Some(lists) = caller_lists(problem) else {
         return Err("a drawn problem is out of the limits".into());
     };
     let state = nothing(alloc, problem.n, problem.m)?;
@@ -172,7 +172,7 @@ fn more_persons_than_objects_have_no_assignment(rt: HostRuntime) -> Result<(), F
 fn a_stage_of_the_other_form_begins_anew(rt: HostRuntime) -> Result<(), Fail> {
     let mut seed = 69;
     let rows = dense_problem(rt.alloc(), &mut seed, 0, 30, 30)?;
-    let Some(lists) = lent(&rows) else {
+    let Some(lists) = caller_lists(&rows) else {
         return Err("the costs are out of the limits".into());
     };
     for stage in 8..11 {

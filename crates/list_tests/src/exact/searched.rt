@@ -1,7 +1,7 @@
 // Drawn problems of every shape, solved from every start and in pieces, and compared with the slow search.
 use super::called::{Finding, in_pieces, nothing};
 use super::drawn::{draw, drawn_cost, drawn_numbers, drawn_problem};
-use super::given::lent;
+use super::given::caller_lists;
 use super::problem::{Problem, table_of};
 use super::slow::best_of;
 use list_solver::{Record, SearchState};
@@ -84,7 +84,7 @@ fn solve_drawn(
 ) -> Result<(), Fail> {
     let alloc = rt.alloc();
     let problem = drawn_problem(alloc, seed)?;
-    let Some(lists) = lent(&problem) else {
+    let Some(lists) = caller_lists(&problem) else {
         return Err("a drawn problem is out of the limits".into());
     };
     let state = drawn_state(alloc, seed, &problem, start)?;

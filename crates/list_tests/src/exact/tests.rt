@@ -1,7 +1,7 @@
 // Drawn problems compared with the slow searches and checkers.
 use super::confirmed::{confirmed, is_hall};
 use super::drawn::{change_one, change_price, draw, drawn_numbers, drawn_problem};
-use super::given::lent;
+use super::given::caller_lists;
 use super::problem::{Problem, table_of};
 use super::slow::{best_of, prices_of, verdict_of};
 use super::slow_hall::{hall_set_of, hall_verdict_of};
@@ -95,7 +95,7 @@ fn check_drawn(rt: &(impl Abort + AllocGlobal), seed: &mut u64) -> Result<(), Fa
     let alloc = rt.alloc();
     let problem = drawn_problem(alloc, seed)?;
     let table = table_of(alloc, &problem)?;
-    let Some(lists) = lent(&problem) else {
+    let Some(lists) = caller_lists(&problem) else {
         return Err("a drawn problem is out of the limits".into());
     };
     check_any(rt, seed, &problem, table.as_slice(), &lists)?;

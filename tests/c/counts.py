@@ -1,7 +1,7 @@
 #!/usr/bin/env python3
 """Calls nushbaret_counts, nushbaret_counts_from, nushbaret_check_counts and nushbaret_check_shortage over the shared
 library: each fault of the lists, and drawn problems, each against a plain slow program that looks at all plans and
-reads the definitions. tests/door/counts.py LIBRARY [PROBLEMS]"""
+reads the definitions. tests/c/counts.py LIBRARY [PROBLEMS]"""
 import ctypes
 import itertools
 import random

@@ -3,7 +3,7 @@
 # problems, square and not, each fault and each code, each growth refused, eight threads at a time; once more with the
 # compiler's own checks of addresses and of undefined behaviour on the C side, where cc has them; and once more as built for
 # 64-bit ARM, where its compiler and qemu are. Prints what differs; the last line says what ran.
-# Needs cc with the binutils, c++ and python3, and the kit: tests/door.sh [gate], with c/build.sh's word. With the word
+# Needs cc with the binutils, c++ and python3, and the kit: tests/c.sh [gate], with c/build.sh's word. With the word
 # `built` it takes c/out as it stands, and needs no kit.
 set -euo pipefail
 top=$(cd "$(dirname "$0")/.." && pwd)
@@ -37,7 +37,7 @@ shows() {
 on_arm() {
     local built=$top/c/out/aarch64 cc=aarch64-linux-gnu-gcc emulated
     emulated=(qemu-aarch64 -L "$(dirname "$(dirname "$("$cc" -print-file-name=libc.so.6)")")")
-    run 'header for ARM' python3 "$top/tests/door/header.py" "$built"
+    run 'header for ARM' python3 "$top/tests/c/header.py" "$built"
     run 'ARM: build' "$cc" "${c99[@]}" "${flags[@]}" "${calls[@]}" "$built/libnushbaret.a" "${wrapped[@]}" -o "$work/calls_on_arm"
     run 'ARM' "${emulated[@]}" "$work/calls_on_arm"
     run 'example for ARM: build' "$cc" -std=c99 -pedantic "${flags[@]}" "$top/c/example.c" -L"$built" -lnushbaret -Wl,-rpath,"$built" -o "$work/example_on_arm"
@@ -51,11 +51,11 @@ asks_for_its_compiler() {
 
 [ "${1-}" = built ] || "$top/c/build.sh" "$@"
 archive=$top/c/out/libnushbaret.a
-run header python3 "$top/tests/door/header.py"
+run header python3 "$top/tests/c/header.py"
 
 flags=(-O1 -Wall -Wextra -Werror "-I$top/c" -pthread)
 wrapped=(-Wl,--wrap=malloc,--wrap=realloc,--wrap=free)
-calls=("$top"/tests/door/*.c)
+calls=("$top"/tests/c/*.c)
 c99=(-std=c99 -D_POSIX_C_SOURCE=200809L)
 run 'C99: build' cc "${c99[@]}" "${flags[@]}" "${calls[@]}" "$archive" "${wrapped[@]}" -o "$work/calls"
 run 'C99' "$work/calls"
@@ -82,15 +82,15 @@ if [ "$("$work/example_rows" 2> /dev/null)" != $'cost -1, and no plan costs less
     echo 'example of rows: another answer'
     failed=$((failed + 1))
 fi
-run 'rows: calls' python3 "$top/tests/door/rows.py" "$top/c/out/libnushbaret.so"
+run 'rows: calls' python3 "$top/tests/c/rows.py" "$top/c/out/libnushbaret.so"
 
 # The example of counts, and problems with counts against a plain program.
 run 'counts: build' cc -std=c99 -pedantic "${flags[@]}" "$top/c/example_counts.c" "$archive" -o "$work/example_counts"
 run 'counts: example' "$work/example_counts"
-run 'counts: calls' python3 "$top/tests/door/counts.py" "$top/c/out/libnushbaret.so"
+run 'counts: calls' python3 "$top/tests/c/counts.py" "$top/c/out/libnushbaret.so"
 
 # Costs in doubles: each code, and drawn problems.
-run 'doubles' python3 "$top/tests/door/doubles.py" "$top/c/out/libnushbaret.so"
+run 'doubles' python3 "$top/tests/c/doubles.py" "$top/c/out/libnushbaret.so"
 
 if ! type -P aarch64-linux-gnu-gcc > /dev/null; then
     run 'no compiler for ARM' asks_for_its_compiler
@@ -104,5 +104,5 @@ else
     on_arm
     ran="$ran, on ARM under qemu"
 fi
-echo "door: $ran"
+echo "c: $ran"
 [ "$failed" = 0 ]

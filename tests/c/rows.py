@@ -1,7 +1,7 @@
 #!/usr/bin/env python3
 """Calls nushbaret_rows over the shared library: a table of rows, plans and trees with each code, and 2,000 drawn ones,
 each against a plain slow program that reads the definitions and, where a tree is shown, looks at all plans.
-tests/door/rows.py LIBRARY"""
+tests/c/rows.py LIBRARY"""
 import ctypes
 import itertools
 import random

@@ -1,18 +1,18 @@
 /* Times calls of the library for C, plain Rust (bench/plain/paths.rs as a library) and plain C (bench/plain/lapjv.c):
    processor time of this thread, the least of so many calls in turns. What they find is compared. Each line ends with four
    numbers: seconds of the library, of plain Rust, of plain C, and of a check of the library's answer. 0: it wasn't called.
-     door text TIMES FORM [alone]   a problem from standard input, dense or sparse; with the word alone the library alone
-     door drawn N M MOST COUNT TIMES [alone]   so many dense problems of N persons and M objects, costs 1..MOST; MOST 0:
+     calls text TIMES FORM [alone]   a problem from standard input, dense or sparse; with the word alone the library alone
+     calls drawn N M MOST COUNT TIMES [alone]   so many dense problems of N persons and M objects, costs 1..MOST; MOST 0:
                                 distances of points drawn in a square, MOST -1: i * j
-     door memory N M MOST       the greatest memory of a call and of a check, next to the caller's lists, as shares of the costs
-     door starts TIMES          N = 2000, costs 1..1000: cold, then from the prices of the same problem, of one with one
+     calls memory N M MOST       the greatest memory of a call and of a check, next to the caller's lists, as shares of the costs
+     calls starts TIMES          N = 2000, costs 1..1000: cold, then from the prices of the same problem, of one with one
                                 redrawn row, and with more and more of them; seconds
-     door neighbours TIMES      N = 1000, six drawn problems each: cold, then from the prices before one row in 200, 50, 30
+     calls neighbours TIMES      N = 1000, six drawn problems each: cold, then from the prices before one row in 200, 50, 30
                                 and 20 was redrawn; seconds
-     door poor TIMES            a dense problem from standard input: cold, then from first prices of
+     calls poor TIMES            a dense problem from standard input: cold, then from first prices of
                                 it: drawn, drawn up to 9 * 10^18, one of these, and the prices of it turned round; seconds
-     door wide                  three equal objects with first prices 0, 0 and 9 * 10^18, and prices 1, 5 and 7: seconds
-     door rectangle N M EACH MOST TIMES   N persons with EACH pairs of M objects, costs 1..MOST: cold, then from the prices of the
+     calls wide                  three equal objects with first prices 0, 0 and 9 * 10^18, and prices 1, 5 and 7: seconds
+     calls rectangle N M EACH MOST TIMES   N persons with EACH pairs of M objects, costs 1..MOST: cold, then from the prices of the
                                 same problem and of ones with redrawn rows, and from useless prices; seconds */
 #define _DEFAULT_SOURCE
 #include "../c/nushbaret.h"

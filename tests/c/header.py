@@ -1,6 +1,6 @@
 #!/usr/bin/env python3
 """Compares the header for C, the names that the built library shows, and the crates: signatures, structs, codes,
-version and SONAME. Prints what differs and ends with 1 then. Needs the built library (c/build.sh): tests/door/header.py
+version and SONAME. Prints what differs and ends with 1 then. Needs the built library (c/build.sh): tests/c/header.py
 [FOLDER], where it isn't in c/out."""
 import pathlib
 import re

@@ -1,7 +1,7 @@
 #!/usr/bin/env python3
 """Calls nushbaret_doubles, nushbaret_doubles_from and nushbaret_check_doubles over the shared library: each code, and
 drawn problems of many kinds, each against all plans in fractions. What a call doesn't write stays as it was.
-tests/door/doubles.py LIBRARY [HOW MANY]"""
+tests/c/doubles.py LIBRARY [HOW MANY]"""
 import ctypes
 import fractions
 import itertools

@@ -1,4 +1,4 @@
-/* What the files of tests/door share, as C and as C++. */
+/* What the files of tests/c share, as C and as C++. */
 #ifndef CALLS_H
 #define CALLS_H
 #include "nushbaret.h"
