@@ -3,7 +3,7 @@
 
     large      60,000 x 60,000 uniform costs and 30,000 points in the plane (squared), a process each: passes,
                processor time and peak memory, which may be 400 MB
-    looks      looks at pairs, those for first prices among them, divided by n * m, at 1,000 and 2,000
+    arc_scans  looks at pairs, those for first prices among them, divided by n * m, at 1,000 and 2,000
     drawn      the cost next to `solve`'s on 300 drawn problems to 400 rows, of ten kinds
     changes    500 changed prices, plans or costs, each of which `check` refuses
     pairs      a file of listed pairs of 240 MB in a process that may have 100 MB more than it begins with
@@ -94,8 +94,8 @@ class LowRank:
         return (self.left[first:last, None] * self.right.T).sum(2) * 1e6 // 1 + noise
 
 
-def looks_of(n):
-    """Costs of each kind, and how many looks they may take (0: no promise)."""
+def arc_scans_of(n):
+    """Costs of each kind, and how many arc scans they may take (0: no promise)."""
     small = n == 1000
     yield "uniform", Uniform(n, n), 2
     yield "ten values", Uniform(n, n, 10), 2
@@ -136,17 +136,17 @@ def run(kind):
     costs = Uniform(n, n) if kind == "uniform" else Squares(n)
     found = beyond.solve(costs, costs.shape,
                          progress=lambda *said: print("pass {}: gap {}, {} pairs".format(*said), file=sys.stderr))
-    print(f"{found}, {found.looks:.1f} looks")
+    print(f"{found}, {found.arc_scans:.1f} arc scans")
     return found.proved and found.passes <= most
 
 
-def looks(kept):
+def arc_scans(kept):
     for n in (1000, 2000):
-        for kind, costs, most in looks_of(n):
+        for kind, costs, most in arc_scans_of(n):
             before = time.process_time()
             found = beyond.solve(costs, costs.shape)
-            kept.say(f"{kind}, {n}: {found.passes} passes, {found.looks:.1f} looks, {found.pairs / n:.0f} pairs a row, "
-                     f"{time.process_time() - before:.1f} s", found.proved and (not most or found.looks <= most + 0.05))
+            kept.say(f"{kind}, {n}: {found.passes} passes, {found.arc_scans:.1f} arc scans, {found.pairs / n:.0f} pairs a row, "
+                     f"{time.process_time() - before:.1f} s", found.proved and (not most or found.arc_scans <= most + 0.05))
 
 
 def drawn(kept):
@@ -259,7 +259,7 @@ def readers(kept):
             print("Parquet: no reader is there")
 
 
-PARTS = {part.__name__: part for part in (large, looks, drawn, changes, pairs, kills, calls, readers)}
+PARTS = {part.__name__: part for part in (large, arc_scans, drawn, changes, pairs, kills, calls, readers)}
 
 
 def main():

@@ -66,11 +66,12 @@
 
    IN PIECES
 
-   A budget is a number of arc scans (looks at a pair), 0 for no limit. A `_from` call that spends it returns NUSHBARET_STOPPED; the same
-   call, with what it wrote to objects, prices and record, goes on from there. first counts only where record->stage is 0,
-   prices only where it isn't. The passes over all pairs with which a call begins come on top of its budget: give it ten
-   or more times the number of pairs, since many short calls may take longer than one. Set the record to 0 before the
-   first call of a problem. Whatever first prices it has, and whatever objects, prices and record hold, an answer is as good.
+   A budget is a number of arc scans (looks at a pair), 0 for no limit. A `_from` call that spends it returns
+   NUSHBARET_STOPPED; the same call, with what it wrote to objects, prices and record, goes on from there. first counts only
+   where record->stage is 0, prices only where it isn't. The passes over all pairs with which a call begins come on top of
+   its budget: give it ten or more times the number of pairs, since many short calls may take longer than one. Set the
+   record to 0 before the first call of a problem. Whatever first prices it has, and whatever objects, prices and record
+   hold, an answer is as good.
    That calls come to one is only tested.
 
        struct nushbaret_record record = {0, 0, 0, 0, 0, 0, 0, 0};   (and all objects are 0)
@@ -154,7 +155,7 @@ enum nushbaret_code {
 };
 
 /* Where a search stands that a budget stopped. All 0: it begins. What the fields mean is the library's own affair, and may
-   change with its version; `arc_scans` counts the arc scans: looks at a pair. */
+   change with its version; `arc_scans` counts the arc scans so far. */
 struct nushbaret_record {
     uint32_t stage;
     uint32_t shift;

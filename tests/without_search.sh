@@ -10,7 +10,7 @@ trap 'rm -rf "$work"' EXIT
 . "$top/programs/over_crates.sh"
 copy_crates "$top" "$work" list_tests
 solver=$work/crates/list_solver/src/solver.rt
-sed -i 's/    judge(alloc, lists, standing, budget, ended)/    let _ = ended;\n    judge(alloc, lists, standing, budget, Ended::Lost)/' "$solver"
+sed -i 's/    judge(alloc, lists, state, budget, ended)/    let _ = ended;\n    judge(alloc, lists, state, budget, Ended::Lost)/' "$solver"
 grep -q 'Ended::Lost' "$solver" || { echo "the search is as it was"; exit 1; }
 cat >> "$work/crates/list_tests/src/exact/larger.rt" << END
 
@@ -24,8 +24,8 @@ fn a_dense_problem(rt: HostRuntime) -> Result<(), Fail> {
     let Some(lists) = caller_lists(&problem) else {
         return Err("the problem is out of the limits".into());
     };
-    let standing = nothing(rt.alloc(), $size, $size)?;
-    let found = in_pieces(rt.alloc(), &lists, standing, 0, 1)?;
+    let state = nothing(rt.alloc(), $size, $size)?;
+    let found = in_pieces(rt.alloc(), &lists, state, 0, 1)?;
     assert!(rt; matches!(found, Finding::Best(_)));
     Ok(())
 }

@@ -94,7 +94,7 @@ static void starts(void) {
                 memcpy(c.first, firsts[first], sizeof firsts[first]);
                 memcpy(c.objects, plans[plan], sizeof plans[plan]);
                 WANT(solve(&c) == NUSHBARET_BEST && c.info.total == (form & 1 ? 3 : 5) && check(&c) == NUSHBARET_BEST);
-                WANT(c.objects[0] == 2 && c.objects[1] == 1 && c.record.stage == 0 && c.record.looks == 0);
+                WANT(c.objects[0] == 2 && c.objects[1] == 1 && c.record.stage == 0 && c.record.arc_scans == 0);
             }
 }
 

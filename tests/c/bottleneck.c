@@ -126,7 +126,7 @@ static void make_wild(struct asked *a, unsigned *seed) {
     a->record.stage = drawn(seed) % 5;
     a->record.slackness = (int64_t)(drawn(seed) % 60) - 30;
     a->record.bids = drawn(seed) % 3 ? ((uint64_t)1 << 62) + drawn(seed) % 60 - 30 : ~(uint64_t)drawn(seed);
-    a->record.looks = drawn(seed) % 2 ? drawn(seed) : ~(uint64_t)drawn(seed);
+    a->record.arc_scans = drawn(seed) % 2 ? drawn(seed) : ~(uint64_t)drawn(seed);
     for (i = 0; i < a->n; i++) a->objects[i] = drawn(seed) % (a->m + 2);
 }
 

@@ -77,8 +77,8 @@ static void start_anywhere(struct call *c, unsigned *seed) {
     if (drawn(seed) % 4) return;
     c->record.stage = drawn(seed) % 16, c->record.shift = drawn(seed) % 80, c->record.slackness = (int64_t)drawn(seed) - 500;
     c->record.bids = drawn(seed), c->record.passes = drawn(seed), c->record.dummy_bids = drawn(seed);
-    c->record.flags = drawn(seed), c->record.looks = drawn(seed);
-    if (drawn(seed) % 4 == 0) c->record.slackness = INT64_MIN, c->record.bids = UINT64_MAX, c->record.looks = UINT64_MAX;
+    c->record.flags = drawn(seed), c->record.arc_scans = drawn(seed);
+    if (drawn(seed) % 4 == 0) c->record.slackness = INT64_MIN, c->record.bids = UINT64_MAX, c->record.arc_scans = UINT64_MAX;
 }
 
 /* Whether each person has an object, or none yet (0), and no two the same. */

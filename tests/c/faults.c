@@ -5,7 +5,7 @@
 static int32_t spoilt(struct call c) {
     struct call before;
     int32_t code;
-    c.info.place = 99, c.record.looks = 98, c.objects[1] = 97, c.prices[1] = -96;
+    c.info.place = 99, c.record.arc_scans = 98, c.objects[1] = 97, c.prices[1] = -96;
     before = c;
     code = solve(&c);
     if (memcmp(c.objects, before.objects, sizeof c.objects) != 0) return -2;

@@ -9,11 +9,11 @@ import sys
 
 TOP = pathlib.Path(__file__).resolve().parent.parent.parent
 CALLS = TOP / "crates/nushbaret/src"
-LENT = TOP / "crates/c_calls/src"
-LISTS = LENT / "lists"
+BASE = TOP / "crates/c_calls/src"
+LISTS = BASE / "lists"
 SOLVER = TOP / "crates/list_solver/src"
 ROWS = TOP / "crates/c_rows/src/info.rt"
-DOUBLES = LENT / "doubles"
+DOUBLES = BASE / "doubles"
 COUNTS = TOP / "crates/c_counts/src"
 PLANS = TOP / "crates/c_plans/src"
 SEARCH = TOP / "crates/count_search/src"
@@ -65,7 +65,7 @@ def header_calls():
 
 
 def crate_codes():
-    for file in [LENT / "codes.rt", LISTS / "codes.rt", LISTS / "check.rt"]:
+    for file in [BASE / "codes.rt", LISTS / "codes.rt", LISTS / "check.rt"]:
         text = file.read_text()
         for kind, variant, number in re.findall(r"(Fault|Found|HallVerdict|Verdict)::(\w+)(?:\([^)]*\))?\)? => "
                                                 r"(?:\{[^}]*?\n\s*)?(\d+)[,\n]", text):
@@ -108,7 +108,7 @@ def plan_codes():
 def double_codes():
     """The codes of calls over doubles: most of them are those of other calls."""
     called = {"Verdict::Price": "PRICE_RANGE"}
-    for file in [LENT / "codes.rt", DOUBLES / "codes.rt", DOUBLES / "check.rt"]:
+    for file in [BASE / "codes.rt", DOUBLES / "codes.rt", DOUBLES / "check.rt"]:
         text = file.read_text()
         named = r"(Fault|Answer|Verdict)::(\w+)(?:\([^)]*\))? => (?:\{[^}]*?\n\s*)?(\d+)[,\n]"
         for kind, variant, number in re.findall(named, text):
@@ -155,7 +155,7 @@ for crate, name, named in [("cost_lists", "MOST_PERSONS", "GREATEST_NUMBER"),
     value = re.search(rf"{named.replace('_', '')}: \w+ = (\d+)(?: << (\d+))?", text)
     compare(name, int(re.search(rf"NUSHBARET_{name} (?:INT64_C\()?(\d+)", HEADER)[1]),
             int(value[1]) << int(value[2] or 0))
-judged = (LENT / "size.rt").read_text()
+judged = (BASE / "size.rt").read_text()
 for name in ["MIN", "MAX"]:
     number = re.search(rf"#define NUSHBARET_{name} (\d+)u", HEADER)[1]
     compare(name, number, re.search(rf"(\d+) => Some\(Sense::{name.title()}\)", judged)[1])

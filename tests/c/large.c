@@ -80,7 +80,7 @@ static void pieces(void) {
     memcpy(plan, full_objects, sizeof plan);
     answer = room(), problem.budget = 400000;
     cold = pieces_of(&problem, &answer);
-    WANT(cold > 1 && answer.info.total == total && answer.record.looks > 0);
+    WANT(cold > 1 && answer.info.total == total && answer.record.arc_scans > 0);
     for (problem.sense = NUSHBARET_MIN; problem.sense <= NUSHBARET_MAX; problem.sense++) {
         answer = room(), problem.first = first;
         memcpy(full_objects, plan, sizeof plan);

@@ -6,9 +6,9 @@ from typing import Any
 import numpy
 
 from ..api.solve import solve_sparse
-from . import bounds, looks
+from . import bounds, tasks
 from .core import Duals, Plan
-from .looks import Asked, Pairs
+from .tasks import Asked, Pairs
 from .search import BETTER, Search
 
 # All other pairs may be so many units cheaper.
@@ -78,7 +78,7 @@ class DoublesSearch(Search):
         lowest = bounds.below(least if duals.out is None else numpy.minimum(least, duals.out))
         numbers = numpy.nextafter(numpy.nextafter(lowest + width, numpy.inf), numpy.inf)
         most = max(64, NEAR // self.form.n)
-        near = looks.joined([each.better for each in self.look(Asked(duals.prices, numbers, most=most))[0]])
+        near = tasks.joined([each.better for each in self.look(Asked(duals.prices, numbers, most=most))[0]])
         if most < self.form.m and numpy.bincount(near.rows, minlength=1).max() >= most:
             return
         self._solve_near(near, duals)

@@ -9,7 +9,7 @@ from typing import Any
 
 import numpy
 
-from . import bounds, looks
+from . import bounds, tasks
 from .core import Core, Duals, Form, Plan
 from .sources import Part
 
@@ -40,7 +40,7 @@ def first_prices(search: Any) -> Any:
 
 def raised(search: Any, rows: Any, numbers: Any) -> Any:
     """The least prices of all columns at which these rows, at their numbers, gain nowhere."""
-    found = [prices for prices in search.run_tasks(looks.raised, rows, numbers) if prices is not None]
+    found = [prices for prices in search.run_tasks(tasks.raised, rows, numbers) if prices is not None]
     search.looked += len(rows) * search.form.m
     prices = numpy.max(found, 0)
     return numpy.maximum(prices, 0) if search.form.n < search.form.m else prices - prices.min()

@@ -29,7 +29,7 @@ class BeyondResult(NamedTuple):
         How often all pairs were looked at, also for the first pairs and for the proof.
     pairs : int
         How many pairs the core has.
-    looks : float
+    arc_scans : float
         Looks at pairs, also those for first prices, divided by rows times columns.
     labels : tuple of two lists, or None
         The names of the rows and of the columns, where pairs have names.
@@ -44,7 +44,7 @@ class BeyondResult(NamedTuple):
     gap: Cost
     passes: int
     pairs: int
-    looks: float
+    arc_scans: float
     labels: Optional[Tuple[List[Any], List[Any]]] = None
 
     @property

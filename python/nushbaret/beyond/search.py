@@ -9,12 +9,12 @@ import numpy
 
 from ..api.infeasible import Infeasible
 from ..lap import library
-from . import blocks, bounds, looks
+from . import blocks, bounds, tasks
 from .bounds import Units
 from .core import Core, Duals, Form, Plan, Short
 from .engines import Engine
 from .halves import first_prices
-from .looks import Answer, Asked
+from .tasks import Answer, Asked
 from .result import BeyondResult, OutOfTime
 
 Progress = Optional[Callable[[int, Any, int], Any]]
@@ -42,7 +42,7 @@ class Passed(NamedTuple):
     """What a pass found: better pairs, the least sums of cost and price of all rows, and which of them have their own
     pairs."""
 
-    better: looks.Pairs
+    better: tasks.Pairs
     least: Any
     shown: Any
     is_whole: bool
@@ -73,16 +73,16 @@ class Search:
         sent = [(self.shared, number, block, *shared) for number, block in enumerate(self.blocks)]
         return self.engine.run(task, sent, self.options.end)
 
-    def look(self, asked: Asked) -> Tuple[List[Answer], List[looks.Cheap]]:
+    def look(self, asked: Asked) -> Tuple[List[Answer], List[tasks.Cheap]]:
         """The answers of all blocks in their order, and of all columns the cheap pairs."""
         digest, answers = asked.digest(), []
-        cheap: List[looks.Cheap] = []
-        for found in self.run_tasks(looks.answer, asked):
+        cheap: List[tasks.Cheap] = []
+        for found in self.run_tasks(tasks.answer, asked):
             if found.digest != digest:
                 raise RuntimeError("a block was asked with other prices than it was sent")
             cheap = [one.merge(other) for one, other in zip(cheap, found.cheap)] if cheap and found.cheap else (
                 cheap or found.cheap)
-            self.looked += found.looks
+            self.looked += found.arc_scans
             answers.append(found._replace(cheap=[]))
             if self.source.splits_rows:
                 self._hold_fewer(answers, asked)
@@ -91,16 +91,16 @@ class Search:
 
     def _hold_fewer(self, answers: List[Answer], asked: Asked) -> None:
         """Keeps of all better pairs so far the best ones of each row, where there are many."""
-        if sum(len(each.better.rows) for each in answers) <= max(looks.MOST_HELD, 2 * asked.most * self.form.n):
+        if sum(len(each.better.rows) for each in answers) <= max(tasks.MOST_HELD, 2 * asked.most * self.form.n):
             return
-        best = looks.cheapest(looks.joined([each.better for each in answers]), asked.prices, asked.most)
-        none = looks.joined([])
+        best = tasks.cheapest(tasks.joined([each.better for each in answers]), asked.prices, asked.most)
+        none = tasks.joined([])
         answers[:] = [each._replace(better=none) for each in answers]
         answers[0] = answers[0]._replace(better=best)
 
     def combined(self, answers: List[Answer]) -> Passed:
         """What all blocks say together."""
-        better = looks.joined([each.better for each in answers])
+        better = tasks.joined([each.better for each in answers])
         top = math.inf if self.units is None or self.units.are_doubles else blocks.GREATEST
         least = numpy.full(self.form.n, top, numpy.float64 if top == math.inf else numpy.int64)
         shown = numpy.zeros(self.form.n, bool)
@@ -129,8 +129,8 @@ class Search:
         pairs = [each.better for each in answers]
         for each in cheap:
             columns = numpy.flatnonzero(each.rows >= 0)
-            pairs.append(looks.Pairs(each.rows[columns], columns, each.costs[columns]))
-        self.core.add(*looks.joined(pairs))
+            pairs.append(tasks.Pairs(each.rows[columns], columns, each.costs[columns]))
+        self.core.add(*tasks.joined(pairs))
 
     # Plans of the core.
 
@@ -160,10 +160,10 @@ class Search:
             columns = ~columns
         else:
             rows = ~rows
-        answers = sorted(self.run_tasks(looks.outside, rows, columns, BETTER), key=lambda each: int(each[0]))
+        answers = sorted(self.run_tasks(tasks.outside, rows, columns, BETTER), key=lambda each: int(each[0]))
         self.looked += sum(each[2] for each in answers)
         self.passes += 1
-        if not self.core.add(*looks.joined([each[1] for each in answers])):
+        if not self.core.add(*tasks.joined([each[1] for each in answers])):
             raise Infeasible([(short.rows, short.columns)])
 
     # The search.

@@ -132,12 +132,12 @@ class Passes(unittest.TestCase):
     """How often all pairs are looked at, and what a caller sees of it."""
 
     def test_structure_needs_few_looks(self):
-        # The most looks at all pairs that each kind may take, those of halves among them.
+        # The most arc scans, divided by all pairs, that each kind may take, those of halves among them.
         for costs, most in ((Points(1000, 1000, squared=True), 3.1), (Points(1000, 1000), 6),
                             (Products(1000, 1000), 18), (Points(1000, 1000, clustered=True), 13)):
             found = beyond.solve(costs, costs.shape)
             self.assertTrue(found.proved)
-            self.assertLessEqual(found.looks, most)
+            self.assertLessEqual(found.arc_scans, most)
 
     def test_progress_and_start(self):
         costs, seen = Points(300, 300, squared=True), []

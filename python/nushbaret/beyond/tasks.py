@@ -9,7 +9,7 @@ from . import blocks
 from .blocks import GREATEST
 from .frames import Listing
 
-# So many pairs begin their looks at one column.
+# So many pairs begin their scans at one column.
 TOGETHER = 2**13
 # Above so many better pairs of a task only the best ones of each row are kept.
 MOST_HELD = 2**18
@@ -75,7 +75,7 @@ class Answer(NamedTuple):
     rows: Any
     least: Any
     shown: Any
-    looks: int
+    arc_scans: int
     size: float
     is_whole: bool
     digest: bytes
@@ -115,7 +115,7 @@ class _Gathered:
         self.better: List[Pairs] = []
         self.seen: List[Tuple[Any, Any, Any]] = []
         self.cheap: List[Cheap] = []
-        self.looks, self.size, self.is_whole = 0, 0.0, True
+        self.arc_scans, self.size, self.is_whole = 0, 0.0, True
 
     def add(self, band: Any) -> None:
         """Adds what a band of rows, or a list of pairs, says."""
@@ -124,7 +124,7 @@ class _Gathered:
             return
         rows, costs = numpy.arange(band.first, band.first + len(band.costs)), band.costs
         self._look_at_sizes(rows, costs)
-        self.looks += costs.size
+        self.arc_scans += costs.size
         least, shown = numpy.empty(len(rows), costs.dtype), numpy.empty(len(rows), bool)
         for part in parts_of(len(rows), costs.shape[1], self.asked.numbers is None):
             found = self._looked(rows[part], costs[part])
@@ -194,7 +194,7 @@ class _Gathered:
         if not len(rows):
             return
         self._look_at_sizes(rows, costs)
-        self.looks += len(costs)
+        self.arc_scans += len(costs)
         names, local = numpy.unique(rows, return_inverse=True)
         numbers = numpy.full(len(names), numpy.inf) if asked.numbers is None else asked.numbers[names]
         found = blocks.look_listed(len(names), local, columns, costs, asked.of_rows(names)._replace(numbers=numbers))
@@ -220,7 +220,7 @@ class _Gathered:
     def answer(self, task: int) -> Answer:
         seen = self.seen or [(numpy.empty(0, numpy.int64), numpy.empty(0), numpy.empty(0, bool))]
         rows, least, shown = (numpy.concatenate(values) for values in zip(*seen))
-        return Answer(task, joined(self.better), self.cheap, rows, least, shown, self.looks, self.size, self.is_whole,
+        return Answer(task, joined(self.better), self.cheap, rows, least, shown, self.arc_scans, self.size, self.is_whole,
                       self.asked.digest())
 
 
