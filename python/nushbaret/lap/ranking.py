@@ -134,7 +134,7 @@ def next_part(ranking: Ranking, margin: Optional[int] = None) -> Optional[Subpro
     whole = ranking.whole
     if margin is not None:
         ranking.longest = margin
-        ranking.paths = ranking.paths.within(whole.row_duals, whole.column_duals, margin)
+        ranking.paths = ranking.paths.within(whole.row_duals, whole.column_duals, margin, ranking.problem.numpy)
     ranking.split(whole, 1)
     part = ranking.take()
     if margin is not None and (part is None or part.cost != whole.cost + margin):
