@@ -118,6 +118,9 @@ class Paths:
                 if other not in reached:
                     reached[other] = column
                     go(other, length - rows[other], self.choices(other))
+            # No way is shorter than what was left last.
+            if far[target] == length:
+                return PathSearch(length, taker, reached, far)
         return PathSearch(None, taker, reached, far)
 
     def asked(self, columns: List[int], holder: List[int], column: int, row: int) -> Sequence[int]:
