@@ -154,8 +154,8 @@ void as_printed(const float *from, Py_ssize_t step, Py_ssize_t count, double *to
     }
 }
 
-/* printed(floats, doubles): writes what the floats of an array of 32 bits print as into an array of as many doubles; false where they are no
-   such arrays of one dimension. */
+/* printed(floats, doubles): writes what the floats of an array of 32 bits print as into an array of as many doubles; false where these are
+   no such arrays of one dimension. */
 PyObject *printed(PyObject *module, PyObject *arguments) {
     State *state = PyModule_GetState(module);
     PyObject *from, *to;
