@@ -45,7 +45,7 @@ class Paths:
     def within(self, rows: List[int], columns: List[int], most: int, numpy: Any = None) -> "Paths":
         """The paths along pairs of a reduced cost of at most so much: all that are no longer."""
         limits = [most + dual for dual in columns]
-        is_small = max(map(abs, limits + rows)) < 2**62
+        is_small = max(abs(bound) for bound in limits + rows) < 2**62
         bounds = numpy.array(limits[:self.n_columns], numpy.int64) if numpy and is_small else None
         lists = []
         for row, dual in enumerate(rows[:self.n_rows]):
