@@ -145,7 +145,8 @@ int of_numbers(const Matrix *matrix, const char *from, Py_ssize_t step, Py_ssize
 int whole_of_numbers(int kind, int swapped, const char *from, Py_ssize_t step, Py_ssize_t count, int64_t *to);
 
 /* printed.c */
-int as_printed(const float *from, Py_ssize_t step, Py_ssize_t count, double *to);
+void as_printed(const float *from, Py_ssize_t step, Py_ssize_t count, double *to);
+PyObject *printed(PyObject *module, PyObject *arguments);
 
 /* searching.c */
 void ask(const State *state);

@@ -269,6 +269,7 @@ static PyMethodDef methods[] = {
     {"found", found, METH_VARARGS, NULL},
     {"batch", batch, METH_VARARGS, NULL},
     {"listed", listed, METH_VARARGS, NULL},
+    {"printed", printed, METH_VARARGS, NULL},
     {NULL, NULL, 0, NULL},
 };
 

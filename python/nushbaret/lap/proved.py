@@ -130,16 +130,34 @@ def _searched(asked: Instance, maximize: bool, lists: Sequence[Any],
     return code, info, HallSet(persons[:info.persons], objects[:info.objects]) if code == "HALL" else None
 
 
-def is_only(problem: AssignmentProblem, best: Assignment) -> Optional[bool]:
-    """Whether `nushbaret_unique` proves that no other plan is as good as an answer without dummies, or names one that
-    is; None where it says neither, as of costs beyond its range."""
-    if best.prices is None or problem.costs.of_64_bits() is None or best.m != max(problem.n_rows, problem.n_columns):
+def _asked_about(problem: AssignmentProblem, best: Assignment) -> Optional[Tuple[Any, ...]]:
+    """What the library is asked about an answer without dummies: the sense, how many persons and objects there are, the
+    lists, the answer's objects and its prices; None where it can't be asked, as of costs beyond its range."""
+    if best.prices is None or not best.n or best.m != max(problem.n_rows, problem.n_columns):
+        return None
+    if problem.costs.of_64_bits() is None:
         return None
     asked = instance_of(problem)
-    other, ranks = array("I", bytes(4 * asked.n)), array("i", bytes(4 * asked.m))
-    code, _ = library.call("unique", problem.maximize, asked.n, asked.m, *asked[2:], best.objects, best.prices, other,
-                           ranks)
+    return problem.maximize, asked.n, asked.m, asked[2:], best.objects, best.prices
+
+
+def is_only(problem: AssignmentProblem, best: Assignment) -> Optional[bool]:
+    """Whether `nushbaret_unique` proves that no other plan is as good as an answer, or names one that is; None where it
+    says neither."""
+    about = _asked_about(problem, best)
+    if about is None:
+        return None
+    sense, n, m, lists, objects, prices = about
+    code, _ = library.call("unique", sense, n, m, *lists, objects, prices, array("I", bytes(4 * n)),
+                           array("i", bytes(4 * m)))
     return {"BEST": True, "TIED": False}.get(code)
+
+
+def next_margin(problem: AssignmentProblem, best: Assignment) -> Tuple[str, int]:
+    """What `nushbaret_next` says of an answer, and by how much the next best plan is worse; nothing where it can't be
+    asked."""
+    about = _asked_about(problem, best)
+    return ("", 0) if about is None else library.next_margin(*about)
 
 
 def best_of(asked: Instance) -> Assignment:

@@ -54,8 +54,9 @@ def worst_needed(problem: AssignmentProblem, served: int) -> Any:
         return found
     # Only the order of costs matters.
     values, ranks = _ranks(problem)
-    found = _worst(problem._replace(costs=WholeNumbers(ranks, numpy=problem.numpy)), served)
-    return values[found or 0]
+    place = _worst(problem._replace(costs=WholeNumbers(ranks, numpy=problem.numpy)), served)
+    assert place is not None, "places of costs are in the library's range"
+    return values[place]
 
 
 def _worst(problem: AssignmentProblem, served: int) -> Optional[int]:
