@@ -1,11 +1,11 @@
 // Which pairs of a block are its persons' best ones. Nothing of it has to be right.
-use super::selection::{Selected, Selection, select_of_row};
+use super::selection::{Selected, Selection, Sums, select_of_row};
 use assign_core::{Cost, Sense};
 use cost_lists::{CostLists, Pairs, Price, Source};
 use std::alloc::{AllocError, Global};
 
 // The sum of a cost, turned so that less is better, and a price.
-fn sum_at(sense: Sense, cost: Cost, price: Price) -> Cost {
+fn sum_of(sense: Sense, cost: Cost, price: Price) -> Cost {
     match sense {
         Sense::Min => price.wrapping_add(cost),
         Sense::Max => price.wrapping_sub(cost),
@@ -20,10 +20,52 @@ fn number_at(numbers: &[Cost], place: usize) -> Cost {
     }
 }
 
-// Sets the sums of a row.
-fn set_sums(sums: &mut [Cost], sense: Sense, costs: &[Cost], prices: &[Price]) {
-    for (sum, (cost, price)) in sums.iter_mut().zip(costs.iter().zip(prices.iter())) {
-        *sum = sum_at(sense, *cost, *price);
+// The sums of a row.
+#[derive(Clone, Copy)]
+struct RowSums<'a> {
+    sense: Sense,
+    costs: &'a [Cost],
+    prices: &'a [Price],
+}
+
+impl Sums for RowSums<'_> {
+    fn count(&self) -> usize {
+        self.costs.len()
+    }
+
+    fn sum_at(&self, place: usize) -> Cost {
+        sum_of(self.sense, number_at(self.costs, place), number_at(self.prices, place))
+    }
+
+    fn lower(&self, numbers: &mut [Cost], from: usize) {
+        let (_, costs) = self.costs.split_at(from.min(self.costs.len()));
+        let (_, prices) = self.prices.split_at(from.min(self.prices.len()));
+        for (number, (cost, price)) in numbers.iter_mut().zip(costs.iter().zip(prices.iter())) {
+            *number = (*number).min(sum_of(self.sense, *cost, *price));
+        }
+    }
+}
+
+// Sums that stand in a list.
+#[derive(Clone, Copy)]
+struct ListedSums<'a> {
+    sums: &'a [Cost],
+}
+
+impl Sums for ListedSums<'_> {
+    fn count(&self) -> usize {
+        self.sums.len()
+    }
+
+    fn sum_at(&self, place: usize) -> Cost {
+        number_at(self.sums, place)
+    }
+
+    fn lower(&self, numbers: &mut [Cost], from: usize) {
+        let (_, sums) = self.sums.split_at(from.min(self.sums.len()));
+        for (number, sum) in numbers.iter_mut().zip(sums.iter()) {
+            *number = (*number).min(*sum);
+        }
     }
 }
 
@@ -38,21 +80,17 @@ fn select_of_rows(
     most: usize,
 ) -> Result<Vec<Selected>, AllocError> {
     let (mut selected, mut selection) = (Vec::new(alloc), Selection::new(alloc));
-    let mut sums = vec![in alloc; 0; prices.len()]?;
     let mut rest = costs;
     for (row, number) in numbers.iter().enumerate() {
         let (costs, others) = rest.split_at(prices.len().min(rest.len()));
         rest = others;
         if number_at(least, row) < *number {
-            set_sums(sums.as_mut_slice(), sense, costs, prices);
-            select_of_row(
-                &mut selected,
-                &mut selection,
-                row,
-                sums.as_slice(),
-                *number,
-                most,
-            )?;
+            let sums = RowSums {
+                sense,
+                costs,
+                prices,
+            };
+            select_of_row(&mut selected, &mut selection, row, &sums, *number, most)?;
         }
     }
     Ok(selected)
@@ -90,7 +128,7 @@ fn better_sum(
     at: usize,
 ) -> Option<(usize, Cost)> {
     let price = number_at(prices, place_of(number_in(pairs.objects, at)));
-    let sum = sum_at(sense, number_at(pairs.costs, at), price);
+    let sum = sum_of(sense, number_at(pairs.costs, at), price);
     let person = place_of(number_in(pairs.persons, at));
     if sum < number_at(numbers, person) {
         Some((person, sum))
@@ -176,7 +214,7 @@ fn select_of_pairs(
         let (some, other_sums) = sums.split_at(count.min(sums.len()));
         let (some_places, other_places) = places.split_at(count.min(places.len()));
         (sums, places) = (other_sums, other_places);
-        selection.best_of(some, Cost::MAX, most)?;
+        selection.best_of(&ListedSums { sums: some }, Cost::MAX, most)?;
         for at in selection.best.iter() {
             if let Some(place) = some_places.get(*at) {
                 selected.push(Selected { row: 0, at: *place })?;

@@ -14,6 +14,18 @@ pub struct Selected {
     pub at: usize,
 }
 
+/// The sums of a row, as whole numbers in their order.
+pub trait Sums {
+    /// How many there are.
+    fn count(&self) -> usize;
+
+    /// The sum at a place; any number if there is none.
+    fn sum_at(&self, place: usize) -> i64;
+
+    /// Lowers numbers to the sums from a place on, one after another, as far as both reach.
+    fn lower(&self, numbers: &mut [i64], from: usize);
+}
+
 /// What the search of one row after another needs. A row is cut into lanes: the sums whose places differ
 /// by multiples of one number.
 #[derive(Drop)]
@@ -76,33 +88,28 @@ fn cut_off(numbers: &mut [i64], count: usize, most: usize, more: usize) -> Cut {
     let (mut from, mut to) = (0, count);
     for _ in 0..count {
         let bound = middle(numbers, from, to);
-        let below = split(numbers, from, to, bound);
-        if below >= most {
-            if below.wrapping_sub(most) <= more {
-                return Cut { bound, equal: 0 };
-            }
-            to = below;
-        } else {
-            let end = split(numbers, below, to, bound.saturating_add(1));
+        let mut below = split(numbers, from, to, bound);
+        if below == from {
+            let end = split(numbers, from, to, bound.saturating_add(1));
             if end >= most {
                 return Cut {
                     bound,
-                    equal: most.wrapping_sub(below),
+                    equal: most.wrapping_sub(from),
                 };
             }
-            from = end;
+            below = end;
+        }
+        if below < most {
+            from = below;
+        } else if below.wrapping_sub(most) <= more {
+            return Cut { bound, equal: 0 };
+        } else {
+            to = below;
         }
     }
     Cut {
         bound: i64::MAX,
         equal: 0,
-    }
-}
-
-// Lowers the least sums of lanes to sums.
-fn lower(lanes: &mut [i64], sums: &[i64]) {
-    for (lane, sum) in lanes.iter_mut().zip(sums.iter()) {
-        *lane = (*lane).min(*sum);
     }
 }
 
@@ -118,52 +125,58 @@ impl Selection {
     }
 
     // Finds the least sum of each lane.
-    fn look_at_lanes(&mut self, sums: &[i64], count: usize) -> Result<(), AllocError> {
+    fn look_at_lanes<S: Sums>(&mut self, sums: &S, lanes: usize) -> Result<(), AllocError> {
         self.lanes.clear();
-        self.lanes.resize(count, i64::MAX)?;
-        let mut rest = sums;
-        for _ in 0..sums.len() {
-            if rest.is_empty() {
+        self.lanes.resize(lanes, i64::MAX)?;
+        let mut from = 0usize;
+        for _ in 0..sums.count() {
+            if from >= sums.count() {
                 break;
             }
-            let (some, others) = rest.split_at(count.min(rest.len()));
-            lower(self.lanes.as_mut_slice(), some);
-            rest = others;
+            sums.lower(self.lanes.as_mut_slice(), from);
+            from = from.saturating_add(lanes);
         }
         Ok(())
     }
 
-    // A bound with at least `most` lanes up to it, which isn't above the number.
+    // A bound up to which at least `most` lanes are, if so many are below the number; else the number.
     fn bound_of(&mut self, number: i64, most: usize) -> Result<i64, AllocError> {
         self.few.clear();
-        self.few.extend_from_slice(self.lanes.as_slice())?;
+        for least in self.lanes.iter() {
+            if *least < number {
+                self.few.push(*least)?;
+            }
+        }
         let count = self.few.len();
-        let below = split(self.few.as_mut_slice(), 0, count, number);
-        if below <= most {
+        if count <= most {
             return Ok(number);
         }
-        Ok(cut_off(self.few.as_mut_slice(), below, most, most / 2).bound)
+        Ok(cut_off(self.few.as_mut_slice(), count, most, most / 2).bound)
     }
 
     // Finds the sums of a lane below a bound.
-    fn find_in_lane(&mut self, sums: &[i64], lane: usize, bound: i64) -> Result<(), AllocError> {
+    fn find_in_lane<S: Sums>(
+        &mut self,
+        sums: &S,
+        lane: usize,
+        bound: i64,
+    ) -> Result<(), AllocError> {
         let mut place = lane;
-        for _ in 0..sums.len() {
-            match sums.get(place) {
-                Some(sum) => {
-                    if *sum < bound {
-                        self.found.push((place, *sum))?;
-                    }
-                }
-                None => { break; }
+        for _ in 0..sums.count() {
+            if place >= sums.count() {
+                break;
             }
-            place = place.wrapping_add(self.lanes.len());
+            let sum = sums.sum_at(place);
+            if sum < bound {
+                self.found.push((place, sum))?;
+            }
+            place = place.saturating_add(self.lanes.len());
         }
         Ok(())
     }
 
     // Finds the sums below a bound.
-    fn find_below(&mut self, sums: &[i64], bound: i64) -> Result<(), AllocError> {
+    fn find_below<S: Sums>(&mut self, sums: &S, bound: i64) -> Result<(), AllocError> {
         self.found.clear();
         for lane in 0..self.lanes.len() {
             if number_at(self.lanes.as_slice(), lane) < bound {
@@ -173,16 +186,19 @@ impl Selection {
         Ok(())
     }
 
-    // Finds the first sums that equal a bound.
-    fn find_equal(&mut self, sums: &[i64], bound: i64, count: usize) -> Result<(), AllocError> {
-        let mut left = count;
-        for (place, sum) in sums.iter().enumerate() {
-            if left == 0 {
+    // Adds sums that equal a bound, until there are `most`.
+    fn find_equal<S: Sums>(
+        &mut self,
+        sums: &S,
+        bound: i64,
+        most: usize,
+    ) -> Result<(), AllocError> {
+        for place in 0..sums.count() {
+            if self.found.len() >= most {
                 break;
             }
-            if *sum == bound {
-                self.found.push((place, *sum))?;
-                left = left.wrapping_sub(1);
+            if sums.sum_at(place) == bound {
+                self.found.push((place, bound))?;
             }
         }
         Ok(())
@@ -206,44 +222,48 @@ impl Selection {
 
     // Keeps what is cut off, by places.
     fn keep(&mut self, cut: Cut) -> Result<(), AllocError> {
-        self.found.sort_unstable();
         let mut equal = cut.equal;
         for (place, sum) in self.found.iter() {
-            if *sum < cut.bound {
-                self.best.push(*place)?;
-            } else if *sum == cut.bound && equal > 0 {
-                equal = equal.wrapping_sub(1);
+            let is_equal = *sum == cut.bound && equal > 0;
+            if *sum < cut.bound || is_equal {
+                equal = equal.wrapping_sub(usize::from(is_equal));
                 self.best.push(*place)?;
             }
         }
+        self.best.sort_unstable();
         Ok(())
     }
 
-    /// Finds the places, rising, of the `most` least sums below a number, of equal ones the first.
-    pub fn best_of(&mut self, sums: &[i64], number: i64, most: usize) -> Result<(), AllocError> {
+    /// Finds the places, rising, of the `most` least sums below a number.
+    pub fn best_of<S: Sums>(
+        &mut self,
+        sums: &S,
+        number: i64,
+        most: usize,
+    ) -> Result<(), AllocError> {
         self.best.clear();
         if most == 0 {
             return Ok(());
         }
-        let lanes = LANES.max(sums.len() / LANE).max(most.saturating_mul(4));
-        self.look_at_lanes(sums, lanes.min(sums.len()))?;
+        let count = sums.count();
+        let lanes = LANES.max(count / LANE).max(most.saturating_mul(4));
+        self.look_at_lanes(sums, lanes.min(count))?;
         let bound = self.bound_of(number, most)?;
         self.find_below(sums, bound)?;
-        let count = self.found.len();
-        if bound < number && count < most {
-            self.find_equal(sums, bound, most.wrapping_sub(count))?;
+        if bound < number && self.found.len() < most {
+            self.find_equal(sums, bound, most)?;
         }
         let cut = self.cut_found(most)?;
         self.keep(cut)
     }
 }
 
-/// Adds the places of the `most` least sums of a row below a number, of equal ones the first.
-pub fn select_of_row(
+/// Adds the places of the `most` least sums of a row below a number.
+pub fn select_of_row<S: Sums>(
     selected: &mut Vec<Selected>,
     selection: &mut Selection,
     row: usize,
-    sums: &[i64],
+    sums: &S,
     number: i64,
     most: usize,
 ) -> Result<(), AllocError> {

@@ -1,7 +1,7 @@
 // Which pairs are their persons' best ones, by rounded sums. Nothing of it has to be right: each pair is
 // looked at once more, exactly, before it is written.
 use assign_core::Sense;
-use block_checker::{Selected, Selection, select_of_row};
+use block_checker::{Selected, Selection, Sums, select_of_row};
 use cost_lists::Object;
 use double_checker::{is_number, is_sum_less, turned};
 use std::alloc::{AllocError, Global};
@@ -11,13 +11,6 @@ use std::num::f64_to_bits_with_nan;
 fn rank(x: f64) -> i64 {
     let bits = f64_to_bits_with_nan(x).cast_signed();
     if bits < 0 { bits ^ i64::MAX } else { bits }
-}
-
-// Sets the ranks of a row's sums.
-fn set_ranks(ranks: &mut [i64], sense: Sense, costs: &[f64], prices: &[f64]) {
-    for (one, (cost, price)) in ranks.iter_mut().zip(costs.iter().zip(prices.iter())) {
-        *one = rank(turned(sense, *cost) + *price);
-    }
 }
 
 // The double at a place, or 0.
@@ -46,19 +39,40 @@ fn is_below(sense: Sense, cost: f64, price: f64, number_cost: f64, number_price:
     is_sum_less(cost, price, number_cost, number_price)
 }
 
-// Sets those sums aside that round to the number and aren't below it.
-fn set_aside(
-    ranks: &mut [i64],
+// The ranks of a row's rounded sums.
+#[derive(Clone, Copy)]
+struct RowSums<'a> {
     sense: Sense,
-    costs: &[f64],
-    prices: &[f64],
+    costs: &'a [f64],
+    prices: &'a [f64],
     number_cost: f64,
     number_price: f64,
+    // That of the person's number.
     number: i64,
-) {
-    for (one, (cost, price)) in ranks.iter_mut().zip(costs.iter().zip(prices.iter())) {
-        if *one == number && !is_below(sense, *cost, *price, number_cost, number_price) {
-            *one = i64::MAX;
+}
+
+impl Sums for RowSums<'_> {
+    fn count(&self) -> usize {
+        self.costs.len()
+    }
+
+    // The greatest number for a sum that rounds to the person's number and isn't below it.
+    fn sum_at(&self, place: usize) -> i64 {
+        let (cost, price) = (double_at(self.costs, place), double_at(self.prices, place));
+        let sum = rank(turned(self.sense, cost) + price);
+        if sum == self.number
+            && !is_below(self.sense, cost, price, self.number_cost, self.number_price)
+        {
+            return i64::MAX;
+        }
+        sum
+    }
+
+    fn lower(&self, numbers: &mut [i64], from: usize) {
+        let (_, costs) = self.costs.split_at(from.min(self.costs.len()));
+        let (_, prices) = self.prices.split_at(from.min(self.prices.len()));
+        for (number, (cost, price)) in numbers.iter_mut().zip(costs.iter().zip(prices.iter())) {
+            *number = (*number).min(rank(turned(self.sense, *cost) + *price));
         }
     }
 }
@@ -90,26 +104,25 @@ pub fn select(
     most: usize,
 ) -> Result<Vec<Selected>, AllocError> {
     let (mut selected, mut selection) = (Vec::new(alloc), Selection::new(alloc));
-    let mut ranks = vec![in alloc; 0; prices.len()]?;
     let mut rest = costs;
     for (row, object) in least_objects.iter().enumerate() {
         let (costs, others) = rest.split_at(prices.len().min(rest.len()));
         rest = others;
         let least = double_at(least_costs, row);
-        let (cost, price) = (double_at(number_costs, row), double_at(number_prices, row));
-        if is_any_below(sense, prices, *object, least, cost, price) {
-            let number = rank(turned(sense, cost) + price);
-            let some = ranks.as_mut_slice();
-            set_ranks(some, sense, costs, prices);
-            set_aside(some, sense, costs, prices, cost, price, number);
-            select_of_row(
-                &mut selected,
-                &mut selection,
-                row,
-                ranks.as_slice(),
-                number.saturating_add(1),
-                most,
-            )?;
+        let number_cost = double_at(number_costs, row);
+        let number_price = double_at(number_prices, row);
+        if is_any_below(sense, prices, *object, least, number_cost, number_price) {
+            let number = rank(turned(sense, number_cost) + number_price);
+            let sums = RowSums {
+                sense,
+                costs,
+                prices,
+                number_cost,
+                number_price,
+                number,
+            };
+            let bound = number.saturating_add(1);
+            select_of_row(&mut selected, &mut selection, row, &sums, bound, most)?;
         }
     }
     Ok(selected)
