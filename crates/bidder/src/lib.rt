@@ -1,10 +1,10 @@
 //! What a person of the auction offers under a table of prices, and why its bids keep slackness.
 #![tactic(auto)]
 
-mod lanes;
 mod law;
 mod offers;
 mod scan;
+mod skipping;
 
 pub use law::{
     accepted_bid_is_slack, best_two_is_determined, computed_offer_is_the_offer,

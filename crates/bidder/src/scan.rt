@@ -7,11 +7,11 @@ ghost use Rattle.assign_core.specs.Rows.{Listing};
 ghost use Rattle.assign_core.specs.Benefits.{IsBenefit};
 ghost use Rattle.assign_core.specs.Prices.{IsNarrow, IsPrice, price_of};
 ghost use Rattle.scaled_values.specs.Scaled.{IsBenefitRow};
-ghost use Rattle.bidder.specs.declared.lanes.TheConstants.{LANES};
+ghost use Rattle.bidder.specs.declared.skipping.TheConstants.{LANES};
 ghost use Rattle.bidder.specs.BestTwo.{IsBestTwo, best_two, greater_of};
 ghost use Rattle.bidder.specs.inside.Limits.{IsLimit};
 
-use super::lanes::{LANES, none_above};
+use super::skipping::{LANES, none_above};
 use assign_core::{Benefit, Object, Price, Prices};
 
 /// The best object of a row under a table of prices. An object's value is its benefit less its

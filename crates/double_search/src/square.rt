@@ -5,7 +5,7 @@ ghost use Rattle.std.specs.Prelude.{◌≡◌, ◌≤◌, length};
 
 use super::best::lowest;
 use super::hall::as_number;
-use super::lanes::{MOST, first_of, greater_of, lesser_of, put_first, row_of, zero_to};
+use super::skipping::{MOST, first_of, greater_of, lesser_of, put_first, row_of, zero_to};
 use super::range::{Range, greatest_of};
 use super::small::BIG_COST;
 use super::solver::Problem;

@@ -326,13 +326,20 @@ def kept(problem: AssignmentProblem, places: Any) -> AssignmentProblem:
 
 def within(problem: AssignmentProblem, worst: Ratio) -> AssignmentProblem:
     """The problem without the pairs that are worse than a cost."""
-    problem = listed(problem if problem.numpy else in_whole_numbers(problem))
+    problem = problem if problem.numpy else in_whole_numbers(problem)
     return no_worse(problem, problem.costs.bound(Fraction(*worst), problem.maximize))
 
 
-def no_worse(pairs: AssignmentProblem, bound: Any) -> AssignmentProblem:
-    """A problem of listed pairs without those that are worse than a bound of its costs."""
-    return kept(pairs, pairs.costs.no_worse(bound, pairs.maximize))
+def no_worse(problem: AssignmentProblem, bound: Any) -> AssignmentProblem:
+    """The pairs of a problem that are no worse than a bound of its costs, listed."""
+    numpy = problem.numpy
+    if not numpy or problem.persons is not None:
+        problem = listed(problem)
+        return kept(problem, problem.costs.no_worse(bound, problem.maximize))
+    found = problem.costs.no_worse(bound, problem.maximize)
+    rows, columns = found.reshape(problem.n_rows, problem.n_columns).nonzero()
+    return problem._replace(costs=problem.costs.at(found), persons=(rows + 1).astype(numpy.uint32),
+                            objects=(columns + 1).astype(numpy.uint32))
 
 
 def without_pair(problem: AssignmentProblem, row: int, column: int) -> AssignmentProblem:

@@ -1,5 +1,6 @@
 """Arrays of every kind mean what lists of Python's numbers mean: drawn ones in all calls, and the ends of each kind."""
 import ctypes
+import itertools
 import math
 import struct
 import sys
@@ -7,6 +8,7 @@ import unittest
 from array import array
 from decimal import Decimal
 from fractions import Fraction
+from unittest import mock
 
 import nushbaret
 from nushbaret.costs import printing, problem as _problem, reading
@@ -287,6 +289,24 @@ class Views(unittest.TestCase):
                 self.assertEqual(result.without(*result.pairs[0]).cost, other)
                 self.assertEqual(nushbaret.assign_counts(form, 1, 1, maximize=maximize).cost, wanted)
                 self.assertEqual(nushbaret.bottleneck(form, maximize).cost, 3)
+
+
+@unittest.skipUnless(np, "NumPy isn't there")
+class Bottlenecks(unittest.TestCase):
+    def test_worse_pairs_at_a_price(self):
+        """The search over all pairs, where a plan avoids the worse ones and where it doesn't, beside all plans."""
+        for seed in range(200):
+            dice = np.random.default_rng(seed)
+            n, m = sorted(map(int, dice.integers(1, 6, 2)))
+            costs, maximize = dice.integers(-9, 10, (n, m)), seed % 2 == 0
+            plans = [costs[range(n), own] for own in itertools.permutations(range(m), n)]
+            sign = -1 if maximize else 1
+            wanted = min((int((sign * own).max()), int((sign * own).sum())) for own in plans)
+            for away in 0, 8:
+                with mock.patch("nushbaret.api.bottleneck._AWAY", away):
+                    result = nushbaret.bottleneck(costs, maximize)
+                own = [int(sign * costs[pair]) for pair in result.pairs]
+                self.assertEqual((max(own), sum(own), bool(result.verify())), (*wanted, True))
 
 
 @unittest.skipUnless(np, "NumPy isn't there")

@@ -1,8 +1,8 @@
-// Blocks of a full row that change nothing.
+// Blocks of a full row that change nothing, and may be skipped.
 ghost use Rattle.std.specs.Prelude.{◌≡◌, ℕ, ℤ, ◌-ℤ◌, ◌≤ℤ◌, ◌+◌, ◌≤◌, ◌<◌, length, All, IsTrue, slice_index_or};
 ghost use Rattle.assign_core.specs.Benefits.{IsBenefit};
 ghost use Rattle.assign_core.specs.Prices.{IsNarrow};
-ghost use Rattle.bidder.specs.declared.lanes.TheConstants.{LANES};
+ghost use Rattle.bidder.specs.declared.skipping.TheConstants.{LANES};
 
 use assign_core::Benefit;
 use std::simd::prelude::*;

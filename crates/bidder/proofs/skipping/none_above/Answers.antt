@@ -1,6 +1,6 @@
 use Rattle.std.proofs.Common.{refl}
 use Rattle.bidder.proofs.Lanes.{lanes_none}
-use Rattle.bidder.proofs.lanes.none_above.Goals as goal
+use Rattle.bidder.proofs.skipping.none_above.Goals as goal
 
 pub returns : goal.returns
 returns c none = lanes_none c.args.benefits.now c.args.narrow.now c.args.from c.args.limit _ _ c.requires.room
