@@ -153,7 +153,7 @@ impl<'a> Square<'a> {
         let size = finite_size(rows);
         let big_cost = size * BIG_COST;
         self.size = size;
-        self.big_cost = big_cost;
+        self.dear = big_cost;
         cap_all(self.rows, big_cost);
     }
 
