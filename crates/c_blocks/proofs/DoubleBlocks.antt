@@ -14,7 +14,7 @@ use Rattle.double_checker.specs.Verdicts.{price_units}
 use Rattle.block_doubles.specs.Pairs.{AreLeastPairs, AreMarks, AreWritten, PairLists, numbers_in}
 use Rattle.c_calls.specs.doubles.Faults.{IsWhole}
 use Rattle.c_calls.specs.doubles.Input.{InputDoubles, rows_in}
-use Rattle.c_blocks.specs.DoubleBlocks.{AreFinite, AreShown, NamesPair, Numbers, Shown}
+use Rattle.c_blocks.specs.DoubleBlocks.{AreFinite, AreShown, HasNoMemory, NamesPair, Numbers, Shown}
 
 -- the first pair of rows for so many persons and objects
 abbrev pub OfFirst : Sense → List ℤ → List ℤ → List Listing → ℕ → ℕ → Option (ℕ × ℕ) → Type 0
@@ -86,3 +86,17 @@ shown g sense numbers most count before after code f costs whole same ns cs ms f
       better = here;
       named = named sense p v (rows_in g) g.m most count before after code f three here told;
     }
+
+-- where memory was refused, all stays
+pub memory_refused : (g : InputDoubles) (sense : Sense) (numbers : Numbers) (before after : Shown) → IsWhole g sense →
+    AreFinite numbers.prices → AreFinite numbers.of_costs → AreFinite numbers.of_prices →
+    after.objects ≡ before.objects → after.costs ≡ before.costs → after.own ≡ before.own →
+    after.better.persons ≡ before.better.persons → after.better.objects ≡ before.better.objects →
+    after.better.costs ≡ before.better.costs → after.info ≡ before.info → HasNoMemory g numbers before after (pos 9)
+memory_refused g sense numbers before after whole fp fc fq objects costs own persons others paid info = record {
+  whole = record { sense = sense; whole = whole };
+  prices_finite = fp;
+  numbers_finite = (fc, fq);
+  is = refl;
+  stays = rw (objects, costs, own, persons, others, paid, info) refl;
+}
