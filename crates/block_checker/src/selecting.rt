@@ -34,7 +34,11 @@ impl Sums for RowSums<'_> {
     }
 
     fn sum_at(&self, place: usize) -> Cost {
-        sum_of(self.sense, number_at(self.costs, place), number_at(self.prices, place))
+        sum_of(
+            self.sense,
+            number_at(self.costs, place),
+            number_at(self.prices, place),
+        )
     }
 
     fn lower(&self, numbers: &mut [Cost], from: usize) {

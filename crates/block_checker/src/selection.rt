@@ -4,6 +4,7 @@ use std::alloc::{AllocError, Global};
 
 // At least so many lanes has a row, if it has as many sums; and so many sums has a lane.
 const LANES: usize = 128;
+
 const LANE: usize = 16;
 
 /// A pair by its places: the place of its person and that of its cost in the person's row, or the place
@@ -187,12 +188,7 @@ impl Selection {
     }
 
     // Adds sums that equal a bound, until there are `most`.
-    fn find_equal<S: Sums>(
-        &mut self,
-        sums: &S,
-        bound: i64,
-        most: usize,
-    ) -> Result<(), AllocError> {
+    fn find_equal<S: Sums>(&mut self, sums: &S, bound: i64, most: usize) -> Result<(), AllocError> {
         for place in 0..sums.count() {
             if self.found.len() >= most {
                 break;

@@ -49,7 +49,13 @@ fn better_pair(
     }
     let costs = row_part(costs, row, prices.len());
     let cost = costs[at];
-    if !is_under(sense, cost, prices[at], number_costs[row], number_prices[row]) {
+    if !is_under(
+        sense,
+        cost,
+        prices[at],
+        number_costs[row],
+        number_prices[row],
+    ) {
         return None;
     }
     Some(Pair {
@@ -152,14 +158,8 @@ fn write_selected(
 {
     let mut count = 0;
     for one in selected {
-        if let Some(pair) = better_pair(
-            sense,
-            costs,
-            number_costs,
-            number_prices,
-            prices,
-            *one,
-        ) && is_next(persons, objects, most, count, pair.person, pair.object)
+        if let Some(pair) = better_pair(sense, costs, number_costs, number_prices, prices, *one)
+            && is_next(persons, objects, most, count, pair.person, pair.object)
         {
             persons[count] = pair.person;
             objects[count] = pair.object;
