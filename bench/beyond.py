@@ -8,10 +8,12 @@
     changes    500 changed prices, plans or costs, each of which `check` refuses
     pairs      a file of listed pairs of 240 MB in a process that may have 100 MB more than it begins with
     kills      five workers killed in five passes: the same bytes
-    calls      the time of nushbaret_block next to that of nushbaret_check over the same block
+    calls      the time of the calls on blocks next to that of the checks of the same costs
     readers    arrays of zarr, and frames of Parquet, where their readers are there
 
 It needs NumPy, for `kills` distributed with its commands, and ends with status 1 where a promise isn't kept."""
+import ctypes
+import math
 import os
 import pathlib
 import subprocess
@@ -32,6 +34,7 @@ import nushbaret  # noqa: E402
 from nushbaret import beyond  # noqa: E402
 from nushbaret.beyond import blocks  # noqa: E402
 from nushbaret.lap import library  # noqa: E402
+from nushbaret.lap.doubles import DoublesInfo  # noqa: E402
 
 MOST_MEMORY = 400
 # Peaks grow with memory that a fork shares, so each large run is a new process.
@@ -210,19 +213,37 @@ def kills(kept):
 
 
 def calls(kept):
-    """The least ratio of several in one process: rows without a better pair, and with a dozen of them each."""
-    random, (n, m) = numpy.random.default_rng(85), (32, 8000)
-    costs, prices, own = random.integers(0, 10**6, (n, m)), random.integers(0, 10**5, m), random.permutation(m)[:n]
-    costs[numpy.arange(n), own] = (costs + prices).min(1) - 1 - prices[own]
-    sums, objects = numpy.sort(costs + prices, 1), (own + 1).astype(numpy.uint32)
-    none = numpy.empty(0, numpy.uint32)
+    """The least ratio of several in one process: rows without a better pair, with a dozen of them each, and with nearly
+    all; of whole costs and of doubles."""
+    for dtype, name in ((numpy.int64, "whole costs"), (numpy.float64, "doubles")):
+        random, (n, m) = numpy.random.default_rng(85), (32, 8000)
+        costs, prices = random.integers(0, 10**6, (n, m)).astype(dtype), numpy.zeros(m, dtype)
+        own = random.permutation(m)[:n]
+        prices[own] = random.integers(0, 10**5, n)
+        costs[numpy.arange(n), own] = (costs + prices).min(1) - 1 - prices[own]
+        sums, check = numpy.sort(costs + prices, 1), checked(costs, own, prices)
+        rests = None if dtype is numpy.int64 else numpy.zeros(n)
+        for case, place, most in (("none is better", 0, 2), ("12 of each row", 12, 2), ("nearly all", m - 1, math.inf)):
+            asked = blocks.Asked(sums[:, place].copy(), rests, own, prices, 24)
+            ratio = min(seconds(lambda: blocks.look(costs, asked)) / seconds(check) for _ in range(5))
+            kept.say(f"calls: {name}, {case}: {ratio:.2f} of the check's time", ratio <= most)
+
+
+def checked(costs, own, prices):
+    """The check of an optimal plan."""
+    (n, m), none = costs.shape, numpy.empty(0, numpy.uint32)
+    objects, flat = (own + 1).astype(numpy.uint32), costs.ravel()
+    kinds = ctypes.c_uint32, ctypes.c_size_t, ctypes.c_size_t, *(ctypes.c_void_p, ctypes.c_size_t) * 3, ctypes.c_void_p
+    of_doubles = ctypes.CFUNCTYPE(ctypes.c_int32, *kinds)(library.address("nushbaret_check_doubles"))
+    words = [word for values in (flat, objects, prices) for word in (values.ctypes.data, values.size)]
 
     def check():
-        assert library.call("check", False, n, m, none, none, costs.ravel(), objects, prices)[0] == "OVERPRICED"
-    for name, place in (("none is better", 0), ("12 of each row", 12)):
-        asked = blocks.Asked(sums[:, place].copy(), None, own, prices, 24)
-        ratio = min(seconds(lambda: blocks.look(costs, asked)) / seconds(check) for _ in range(5))
-        kept.say(f"calls: {name}: {ratio:.2f} of nushbaret_check's time", ratio <= 2)
+        if costs.dtype.kind == "i":
+            code = library.call("check", False, n, m, none, none, flat, objects, prices)[0]
+        else:
+            code = library.CODES[of_doubles(0, n, m, *words, ctypes.addressof(DoublesInfo()))]
+        assert code == "BEST", code
+    return check
 
 
 def seconds(call):

@@ -433,29 +433,34 @@ int32_t nushbaret_check_doubles(uint32_t sense, size_t n, size_t m,
    NUSHBARET_MAX its negative) and a price, as those of its own pair: number_costs and number_prices have n values each.
 
    code                  written
-   NUSHBARET_BEST        no pair is better: least_objects, least_costs and own
-   NUSHBARET_SLACK       info->person, the lowest, has the better pair of info->object, its lowest one; and the same lists
+   NUSHBARET_BEST        no pair is better: least_objects, least_costs, own, and info->persons, which is 0
+   NUSHBARET_SLACK       info->person, the lowest, has the better pair of info->object, its lowest one: the same lists, and
+                         info->persons better pairs at the beginning of better_persons, better_objects and better_costs
    NUSHBARET_PRICE_RANGE info->object: its price isn't finite
    NUSHBARET_PRICE       info->person: a part of its number isn't finite
-   NUSHBARET_SENSE, NUSHBARET_SIZE, NUSHBARET_LENGTH; NUSHBARET_COST: info->place
+   NUSHBARET_SENSE, NUSHBARET_SIZE, NUSHBARET_LENGTH, NUSHBARET_MEMORY; NUSHBARET_COST: info->place
 
-   Of several faults the first of NUSHBARET_SENSE to NUSHBARET_COST is named, then prices, then numbers. least_objects[i] is an
-   object whose sum of cost and price no other pair of the person is below, and least_costs[i] its cost; object 0 if all of its
-   pairs are forbidden. These sums bound all plans as those of nushbaret_block do. own[i] is 1 if the person's own pair isn't
-   forbidden and its sum is the number, else 0. It takes no memory.
+   Of several faults the first of NUSHBARET_SENSE to NUSHBARET_COST is named, then prices, numbers, memory. least_objects[i] is
+   an object whose sum of cost and price no other pair of the person is below, and least_costs[i] its cost; object 0 if all of
+   its pairs are forbidden. These sums bound all plans as those of nushbaret_block do. own[i] is 1 if the person's own pair
+   isn't forbidden and its sum is the number, else 0. No better pair is written twice; sums that round to one double count as
+   equal where the least ones are chosen.
 
    A block may have some of the objects, with their prices. So listed pairs are packed into blocks: a few persons with the
-   objects that one of them lists, other pairs forbidden. Which pairs are better a caller finds by rounded sums: a wrong
-   choice costs a further look, and no proof. */
+   objects that one of them lists, other pairs forbidden. */
 int32_t nushbaret_block_doubles(uint32_t sense, size_t n, size_t m,
     const double *costs, size_t costs_count,
     const uint32_t *objects, size_t objects_count,
     const double *number_costs, size_t number_costs_count,
     const double *number_prices, size_t number_prices_count,
     const double *prices, size_t prices_count,
+    size_t most,
     uint32_t *least_objects, size_t least_objects_count,
     double *least_costs, size_t least_costs_count,
     uint8_t *own, size_t own_count,
+    uint32_t *better_persons, size_t better_persons_count,
+    uint32_t *better_objects, size_t better_objects_count,
+    double *better_costs, size_t better_costs_count,
     struct nushbaret_doubles_info *info);
 
 /* Writes the version of the library and a 0 into the room if they fit, leaves a smaller room as it is, and

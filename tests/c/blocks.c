@@ -48,8 +48,8 @@ static void shown(void) {
     WANT(b.least[0] == 3 && b.least[1] == 2 && b.own[0] == 1 && b.own[1] == 1);
     b.numbers[0] = 11, b.objects[1] = 2;
     WANT(look(&b) == NUSHBARET_SLACK && b.info.person == 1 && b.info.object == 1 && b.info.persons == 2);
-    WANT(b.better_persons[0] == 1 && b.better_objects[0] == 2 && b.better_costs[0] == 1);
-    WANT(b.better_persons[1] == 1 && b.better_objects[1] == 1 && b.better_costs[1] == 4);
+    WANT(b.better_persons[0] == 1 && b.better_objects[0] == 1 && b.better_costs[0] == 4);
+    WANT(b.better_persons[1] == 1 && b.better_objects[1] == 2 && b.better_costs[1] == 1);
     WANT(b.own[0] == 0 && b.own[1] == 0);
     b.sense = NUSHBARET_MAX, b.numbers[0] = -8, b.numbers[1] = -8, b.objects[0] = b.objects[1] = 3;
     WANT(look(&b) == NUSHBARET_BEST && b.least[0] == -8 && b.least[1] == -8 && b.own[0] == 1 && b.own[1] == 1);
@@ -135,17 +135,20 @@ static size_t count_better(const struct block *b, size_t i, uint32_t *first) {
     return under;
 }
 
-/* How many of the written pairs are of a person; each is better, and they rise. */
+/* How many of the written pairs are of a person; each is better, and no pair that is left out is
+   better than one of them. */
 static size_t count_written(const struct block *b, size_t i) {
-    int64_t last = INT64_MIN;
-    size_t k, count = 0;
+    int64_t worst = INT64_MIN;
+    size_t k, lower = 0, count = 0;
     for (k = 0; k < b->info.persons; k++) {
         struct block one = *b;
         if (b->better_persons[k] != i + 1) continue;
         one.of_objects[0] = b->better_objects[k], one.costs[0] = b->better_costs[k];
-        WANT(last <= sum(&one, 0) && sum(&one, 0) < b->numbers[i]);
-        last = sum(&one, 0), count++;
+        WANT(sum(&one, 0) < b->numbers[i]);
+        worst = worst < sum(&one, 0) ? sum(&one, 0) : worst, count++;
     }
+    for (k = 0; k < b->pairs; k++) lower += b->of_persons[k] == i + 1 && sum(b, k) < worst;
+    WANT(lower < count || count == 0);
     return count;
 }
 

@@ -6,7 +6,7 @@ use Rattle.cost_lists.specs.ListedCosts.{ListedCosts}
 use Rattle.block_checker.specs.Pairs.{AreWritten, IsBetterPair, PairLists}
 
 -- what follows the written part stays after one more entry
-rest_stays : {A : Type 0} (xs before : List A) (count : ℕ) (x : A) → drop count xs ≡ drop count before → drop (count + 1) (set xs count x) ≡ drop (count + 1) before
+pub rest_stays : {A : Type 0} (xs before : List A) (count : ℕ) (x : A) → drop count xs ≡ drop count before → drop (count + 1) (set xs count x) ≡ drop (count + 1) before
 rest_stays xs before count x e =
     drop-set-lt (count + 1) xs count x (omega arith) ∙ sym (drop-drop 1 count xs) ∙ ap (drop 1) e ∙ drop-drop 1 count before
 

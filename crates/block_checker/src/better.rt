@@ -9,7 +9,8 @@ ghost use Rattle.cost_lists.specs.Source.{AreCosts, ArePairs, triples_in};
 ghost use Rattle.block_checker.specs.Pairs.{AreWritten, IsBetterPair};
 ghost use Rattle.block_checker.specs.inside.Reading.{IsRead};
 
-use super::selection::{Selected, select};
+use super::selecting::select;
+use super::selection::Selected;
 use assign_core::Cost;
 use cost_lists::{CostLists, Object, Pairs, Person, Price, Source, part};
 use exact_checker::sum_of;

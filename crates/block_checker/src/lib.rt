@@ -8,6 +8,7 @@ mod bounded;
 mod closed;
 mod least;
 mod marks;
+mod selecting;
 mod selection;
 
 pub use better::write_better;
@@ -15,3 +16,4 @@ pub use bounded::first_better;
 pub use closed::bounds_show_closed;
 pub use least::least_sums;
 pub use marks::own_marks;
+pub use selection::{Selected, Selection, Sums, select_of_row};

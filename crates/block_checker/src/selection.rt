@@ -1,11 +1,11 @@
-// Which pairs below their persons' numbers are worth a look: the best ones of each person. Nothing of it
-// has to be right: each is looked at once more before it is written.
-use assign_core::{Cost, Sense};
-use cost_lists::{CostLists, Pairs, Price, Source};
+// Which sums of a row are its least ones. Nothing of it has to be right: each pair is looked at once more
+// before it is written.
 use std::alloc::{AllocError, Global};
 
-// So many costs of a row are looked at together.
-const PART: usize = 32;
+// At least so many lanes has a row, if it has as many sums; and so many sums has a lane.
+const LANES: usize = 128;
+
+const LANE: usize = 16;
 
 /// A pair by its places: the place of its person and that of its cost in the person's row, or the place
 /// of a listed pair.
@@ -15,237 +15,257 @@ pub struct Selected {
     pub at: usize,
 }
 
-// A sum, and the place of its cost.
-#[derive(Clone, Copy)]
-struct Found {
-    sum: Cost,
-    at: usize,
+/// The sums of a row, as whole numbers in their order.
+pub trait Sums {
+    /// How many there are.
+    fn count(&self) -> usize;
+
+    /// The sum at a place; any number if there is none.
+    fn sum_at(&self, place: usize) -> i64;
+
+    /// Lowers numbers to the sums from a place on, one after another, as far as both reach.
+    fn lower(&self, numbers: &mut [i64], from: usize);
 }
 
-// The sum of a cost, turned so that less is better, and a price.
-fn sum_at(sense: Sense, cost: Cost, price: Price) -> Cost {
-    match sense {
-        Sense::Min => price.wrapping_add(cost),
-        Sense::Max => price.wrapping_sub(cost),
-    }
+/// What the search of one row after another needs. A row is cut into lanes: the sums whose places differ
+/// by multiples of one number.
+#[derive(Drop)]
+pub struct Selection {
+    // The least sum of each lane.
+    lanes: Vec<i64>,
+    // Sums to be cut.
+    few: Vec<i64>,
+    // Places and sums below a bound.
+    found: Vec<(usize, i64)>,
+    /// The places of the least sums.
+    pub best: Vec<usize>,
+}
+
+// The sums below a bound, and so many that equal it.
+#[derive(Clone, Copy)]
+struct Cut {
+    bound: i64,
+    equal: usize,
 }
 
 // What stands at a place, or 0.
-fn number_at(numbers: &[Cost], place: usize) -> Cost {
+fn number_at(numbers: &[i64], place: usize) -> i64 {
     match numbers.get(place) {
         Some(number) => *number,
         None => 0,
     }
 }
 
-// Moves the last one forward to its place among those before it, which rise.
-fn sift(found: &mut [Found]) {
-    for k in (1..found.len()).rev() {
-        if found[k].sum >= found[k - 1].sum {
-            break;
+// Sets what stands at a place, if there is one.
+fn set_at(numbers: &mut [i64], place: usize, number: i64) {
+    if let Some(old) = numbers.get_mut(place) {
+        *old = number;
+    }
+}
+
+// Moves the numbers below a bound to the front of a part, and says where they end. It has no branches.
+fn split(numbers: &mut [i64], from: usize, to: usize, bound: i64) -> usize {
+    let mut end = from;
+    for k in from..to {
+        let (number, other) = (number_at(numbers, k), number_at(numbers, end));
+        set_at(numbers, k, other);
+        set_at(numbers, end, number);
+        end = end.wrapping_add(usize::from(number < bound));
+    }
+    end
+}
+
+// The middle one of three numbers of a part.
+fn middle(numbers: &[i64], from: usize, to: usize) -> i64 {
+    let half = to.wrapping_sub(from) / 2;
+    let a = number_at(numbers, from);
+    let b = number_at(numbers, from.wrapping_add(half));
+    let c = number_at(numbers, to.wrapping_sub(1));
+    a.min(b).max(a.max(b).min(c))
+}
+
+// Cuts off the `most` least ones of the first numbers, or up to so many more (Hoare's quickselect).
+fn cut_off(numbers: &mut [i64], count: usize, most: usize, more: usize) -> Cut {
+    let (mut from, mut to) = (0, count);
+    for _ in 0..count {
+        let bound = middle(numbers, from, to);
+        let mut below = split(numbers, from, to, bound);
+        if below == from {
+            let end = split(numbers, from, to, bound.saturating_add(1));
+            if end >= most {
+                return Cut {
+                    bound,
+                    equal: most.wrapping_sub(from),
+                };
+            }
+            below = end;
         }
-        let (one, other) = (found[k - 1], found[k]);
-        found[k - 1] = other;
-        found[k] = one;
+        if below < most {
+            from = below;
+        } else if below.wrapping_sub(most) <= more {
+            return Cut { bound, equal: 0 };
+        } else {
+            to = below;
+        }
+    }
+    Cut {
+        bound: i64::MAX,
+        equal: 0,
     }
 }
 
-// Whether a sum belongs to the `most` least ones.
-fn belongs(found: &[Found], most: usize, sum: Cost) -> bool {
-    match found.last() {
-        Some(last) => found.len() < most || sum < last.sum,
-        None => most > 0,
+impl Selection {
+    /// Nothing is found yet.
+    pub fn new(alloc: Global) -> Selection {
+        Selection {
+            lanes: Vec::new(alloc),
+            few: Vec::new(alloc),
+            found: Vec::new(alloc),
+            best: Vec::new(alloc),
+        }
+    }
+
+    // Finds the least sum of each lane.
+    fn look_at_lanes<S: Sums>(&mut self, sums: &S, lanes: usize) -> Result<(), AllocError> {
+        self.lanes.clear();
+        self.lanes.resize(lanes, i64::MAX)?;
+        let mut from = 0usize;
+        for _ in 0..sums.count() {
+            if from >= sums.count() {
+                break;
+            }
+            sums.lower(self.lanes.as_mut_slice(), from);
+            from = from.saturating_add(lanes);
+        }
+        Ok(())
+    }
+
+    // A bound up to which at least `most` lanes are, if so many are below the number; else the number.
+    fn bound_of(&mut self, number: i64, most: usize) -> Result<i64, AllocError> {
+        self.few.clear();
+        for least in self.lanes.iter() {
+            if *least < number {
+                self.few.push(*least)?;
+            }
+        }
+        let count = self.few.len();
+        if count <= most {
+            return Ok(number);
+        }
+        Ok(cut_off(self.few.as_mut_slice(), count, most, most / 2).bound)
+    }
+
+    // Finds the sums of a lane below a bound.
+    fn find_in_lane<S: Sums>(
+        &mut self,
+        sums: &S,
+        lane: usize,
+        bound: i64,
+    ) -> Result<(), AllocError> {
+        let mut place = lane;
+        for _ in 0..sums.count() {
+            if place >= sums.count() {
+                break;
+            }
+            let sum = sums.sum_at(place);
+            if sum < bound {
+                self.found.push((place, sum))?;
+            }
+            place = place.saturating_add(self.lanes.len());
+        }
+        Ok(())
+    }
+
+    // Finds the sums below a bound.
+    fn find_below<S: Sums>(&mut self, sums: &S, bound: i64) -> Result<(), AllocError> {
+        self.found.clear();
+        for lane in 0..self.lanes.len() {
+            if number_at(self.lanes.as_slice(), lane) < bound {
+                self.find_in_lane(sums, lane, bound)?;
+            }
+        }
+        Ok(())
+    }
+
+    // Adds sums that equal a bound, until there are `most`.
+    fn find_equal<S: Sums>(&mut self, sums: &S, bound: i64, most: usize) -> Result<(), AllocError> {
+        for place in 0..sums.count() {
+            if self.found.len() >= most {
+                break;
+            }
+            if sums.sum_at(place) == bound {
+                self.found.push((place, bound))?;
+            }
+        }
+        Ok(())
+    }
+
+    // Where what was found is cut.
+    fn cut_found(&mut self, most: usize) -> Result<Cut, AllocError> {
+        if self.found.len() <= most {
+            return Ok(Cut {
+                bound: i64::MAX,
+                equal: 0,
+            });
+        }
+        self.few.clear();
+        for (_, sum) in self.found.iter() {
+            self.few.push(*sum)?;
+        }
+        let count = self.few.len();
+        Ok(cut_off(self.few.as_mut_slice(), count, most, 0))
+    }
+
+    // Keeps what is cut off, by places.
+    fn keep(&mut self, cut: Cut) -> Result<(), AllocError> {
+        let mut equal = cut.equal;
+        for (place, sum) in self.found.iter() {
+            let is_equal = *sum == cut.bound && equal > 0;
+            if *sum < cut.bound || is_equal {
+                equal = equal.wrapping_sub(usize::from(is_equal));
+                self.best.push(*place)?;
+            }
+        }
+        self.best.sort_unstable();
+        Ok(())
+    }
+
+    /// Finds the places, rising, of the `most` least sums below a number.
+    pub fn best_of<S: Sums>(
+        &mut self,
+        sums: &S,
+        number: i64,
+        most: usize,
+    ) -> Result<(), AllocError> {
+        self.best.clear();
+        if most == 0 {
+            return Ok(());
+        }
+        let count = sums.count();
+        let lanes = LANES.max(count / LANE).max(most.saturating_mul(4));
+        self.look_at_lanes(sums, lanes.min(count))?;
+        let bound = self.bound_of(number, most)?;
+        self.find_below(sums, bound)?;
+        if bound < number && self.found.len() < most {
+            self.find_equal(sums, bound, most)?;
+        }
+        let cut = self.cut_found(most)?;
+        self.keep(cut)
     }
 }
 
-// Adds a sum to the `most` least ones, which rise.
-fn keep(found: &mut Vec<Found>, most: usize, one: Found) -> Result<(), AllocError> {
-    if !belongs(found.as_slice(), most, one.sum) {
-        return Ok(());
-    }
-    if found.len() >= most {
-        let _last = found.pop();
-    }
-    found.push(one)?;
-    sift(found.as_mut_slice());
-    Ok(())
-}
-
-// The number that a sum has to be below to be kept.
-fn bound_of(found: &[Found], most: usize, number: Cost) -> Cost {
-    match found.last() {
-        Some(last) => { if found.len() < most { number } else { last.sum } }
-        None => number,
-    }
-}
-
-// Whether a sum is below a number. It reads on after one that is, so that several are looked at in one
-// step.
-fn is_any_below(sense: Sense, costs: &[Cost], prices: &[Price], number: Cost) -> bool {
-    let mut any = false;
-    for (cost, price) in costs.iter().zip(prices.iter()) {
-        any = (sum_at(sense, *cost, *price) < number) | any;
-    }
-    any
-}
-
-// The least sums below a number, of a part of a row that begins at a place.
-fn keep_of_part(
-    found: &mut Vec<Found>,
-    sense: Sense,
-    start: usize,
-    costs: &[Cost],
-    prices: &[Price],
-    number: Cost,
+/// Adds the places of the `most` least sums of a row below a number.
+pub fn select_of_row<S: Sums>(
+    selected: &mut Vec<Selected>,
+    selection: &mut Selection,
+    row: usize,
+    sums: &S,
+    number: i64,
     most: usize,
 ) -> Result<(), AllocError> {
-    if !is_any_below(
-        sense,
-        costs,
-        prices,
-        bound_of(found.as_slice(), most, number),
-    ) {
-        return Ok(());
-    }
-    for (k, (cost, price)) in costs.iter().zip(prices.iter()).enumerate() {
-        let sum = sum_at(sense, *cost, *price);
-        if sum < number {
-            let at = start.wrapping_add(k);
-            keep(found, most, Found { sum, at })?;
-        }
+    selection.best_of(sums, number, most)?;
+    for at in selection.best.iter() {
+        selected.push(Selected { row, at: *at })?;
     }
     Ok(())
-}
-
-// The least sums of a row below a number.
-fn keep_of_row(
-    found: &mut Vec<Found>,
-    sense: Sense,
-    row: &[Cost],
-    prices: &[Price],
-    number: Cost,
-    most: usize,
-) -> Result<(), AllocError> {
-    found.clear();
-    let (mut costs, mut rest) = (row, prices);
-    for part in 0..row.len() / PART + 1 {
-        let (some, others) = costs.split_at(PART.min(costs.len()));
-        let (some_prices, other_prices) = rest.split_at(PART.min(rest.len()));
-        keep_of_part(
-            found,
-            sense,
-            part.wrapping_mul(PART),
-            some,
-            some_prices,
-            number,
-            most,
-        )?;
-        (costs, rest) = (others, other_prices);
-    }
-    Ok(())
-}
-
-// Adds what was found of a person.
-fn add(selected: &mut Vec<Selected>, row: usize, found: &[Found]) -> Result<(), AllocError> {
-    for one in found {
-        selected.push(Selected { row, at: one.at })?;
-    }
-    Ok(())
-}
-
-// The best pairs of rows of `m` costs, of those persons whose least sum is below their number.
-fn select_of_rows(
-    alloc: Global,
-    sense: Sense,
-    costs: &[Cost],
-    numbers: &[Cost],
-    prices: &[Price],
-    least: &[Cost],
-    most: usize,
-) -> Result<Vec<Selected>, AllocError> {
-    let (mut selected, mut found) = (Vec::new(alloc), Vec::new(alloc));
-    let mut rest = costs;
-    for (row, number) in numbers.iter().enumerate() {
-        let (costs, others) = rest.split_at(prices.len().min(rest.len()));
-        rest = others;
-        if number_at(least, row) < *number {
-            keep_of_row(&mut found, sense, costs, prices, *number, most)?;
-            add(&mut selected, row, found.as_slice())?;
-        }
-    }
-    Ok(selected)
-}
-
-// The place of a person or an object.
-fn place_of(number: u32) -> usize {
-    (number as usize).wrapping_sub(1)
-}
-
-// The better ones of listed pairs: person, sum and place of each, in this order.
-fn better_of_pairs(
-    alloc: Global,
-    sense: Sense,
-    pairs: Pairs<'_>,
-    numbers: &[Cost],
-    prices: &[Price],
-) -> Result<Vec<(u32, Cost, usize)>, AllocError> {
-    let mut better = Vec::new(alloc);
-    for (at, cost) in pairs.costs.iter().enumerate() {
-        let person = match pairs.persons.get(at) {
-            Some(person) => *person,
-            None => 0,
-        };
-        let object = match pairs.objects.get(at) {
-            Some(object) => *object,
-            None => 0,
-        };
-        let sum = sum_at(sense, *cost, number_at(prices, place_of(object)));
-        if sum < number_at(numbers, place_of(person)) {
-            better.push((person, sum, at))?;
-        }
-    }
-    better.sort_unstable();
-    Ok(better)
-}
-
-// The first `most` of each person.
-fn select_of_pairs(
-    alloc: Global,
-    better: &[(u32, Cost, usize)],
-    most: usize,
-) -> Result<Vec<Selected>, AllocError> {
-    let mut selected = Vec::new(alloc);
-    let (mut last, mut count) = (0, 0usize);
-    for (person, _, at) in better {
-        if *person != last {
-            last = *person;
-            count = 0;
-        }
-        if count < most {
-            count += 1;
-            selected.push(Selected { row: 0, at: *at })?;
-        }
-    }
-    Ok(selected)
-}
-
-/// At most `most` pairs of each person whose sums are below its number, those of the least sums.
-pub fn select(
-    alloc: Global,
-    lists: &CostLists<'_>,
-    numbers: &[Cost],
-    prices: &[Price],
-    least: &[Cost],
-    most: usize,
-) -> Result<Vec<Selected>, AllocError> {
-    let sense = lists.sense();
-    match lists.source() {
-        Source::Dense(costs) => {
-            select_of_rows(alloc, sense, costs, numbers, prices, least, most)
-        }
-        Source::Listed(pairs) => {
-            let better = better_of_pairs(alloc, sense, pairs, numbers, prices)?;
-            select_of_pairs(alloc, better.as_slice(), most)
-        }
-    }
 }

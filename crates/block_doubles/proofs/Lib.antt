@@ -1,2 +1,3 @@
 mod BestPairs
 mod RowPairs
+mod Written

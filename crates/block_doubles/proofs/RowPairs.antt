@@ -1,5 +1,5 @@
 -- From pairs by places to pairs of rows.
-use Rattle.std.proofs.Common.{◌≡◌, ℕ, ℤ, pos, ◌+ℤ◌, ◌≤ℤ◌, ◌<◌, ◌≤◌, ◌+◌, ◌-◌, ◌*◌, ◌⊎◌, zero, suc, List, [], ◌∷◌, Option, None, Some, IsSome, MatchOption}
+use Rattle.std.proofs.Common.{◌≡◌, ℕ, ℤ, pos, ◌+ℤ◌, ◌<ℤ◌, ◌≤ℤ◌, ◌<◌, ◌≤◌, ◌+◌, ◌-◌, ◌*◌, ◌⊎◌, zero, suc, List, [], ◌∷◌, Option, None, Some, IsSome, MatchOption}
 use Rattle.std.proofs.Common.{length, get_or, IsTrue, inl, inr, refl, arith, ap, sym, subst, ◌∙◌}
 use Rattle.std.proofs.lemmas.Int.{ints}
 use lib.Ieee.{Float, nan}
@@ -19,7 +19,7 @@ use Rattle.double_costs.proofs.DoublePairs.{length-rows_of_doubles, part_length}
 use Rattle.double_checker.specs.Verdicts.{price_units}
 use Rattle.double_checker.specs.inside.Pairs.{at, paid, row_part}
 use Rattle.double_checker.proofs.PlanRows.{IsEntry, entry_of, listed_at, price_at, row_is}
-use Rattle.block_doubles.specs.Pairs.{AreLeastPairs, AreMarks, IsLeastListed, ListsNothing, numbers_in}
+use Rattle.block_doubles.specs.Pairs.{AreLeastPairs, AreMarks, IsBetterPair, IsLeastListed, ListsNothing, numbers_in}
 use Rattle.block_doubles.specs.inside.Places.{AreAbove, IsFirstBetter, IsLeastAt, IsMarkAt, IsOwnAt, IsUnderAt, NoneBelow, NoneFinite, number_at}
 use mathlib.Core.Bool.{true≢false}
 
@@ -162,6 +162,40 @@ module _ (sense : Sense) (costs prices of_costs of_prices : List Float) (n : ℕ
         listed = from_row i j (units_of c) number (listed_here (row_part (length prices) (i - 1) costs) j object u.0);
         under = omega (arith, ints);
       }
+
+  better_here : (i j : ℕ) (number : IsNumber n i) → IsNumber (length prices) j →
+      IsUnderAt sense (number_at sense of_costs of_prices (i - 1)) (row_part (length prices) (i - 1) costs) prices (j - 1) →
+      IsBetterPair sense (rows_of_doubles (length prices) n costs) (price_units prices) (numbers_in sense of_costs of_prices)
+      i j (at (row_part (length prices) (i - 1) costs) (j - 1))
+  better_here i j number object u =
+      let c : Float = at (row_part (length prices) (i - 1) costs) (j - 1) in
+      let inside = subst (λ (k : ℕ). IsNumber k j) (sym (wide i number)) object in
+      let s = sum_here sense prices j c object in
+      let v = number_here i number in
+      let l = u.1 in
+      record {
+        finite = u.0;
+        listed = from_row i j (units_of c) number (listed_here (row_part (length prices) (i - 1) costs) j inside u.0);
+        under = omega (arith, ints);
+      }
+
+  -- the same by places
+  pub better_at : (i k : ℕ) (line : List Float) → i < n → k < length prices → line ≡ row_part (length prices) i costs →
+      IsTrue (is_number (at line k)) → paid sense (at line k) (at prices k) <ℤ number_at sense of_costs of_prices i →
+      IsBetterPair sense (rows_of_doubles (length prices) n costs) (price_units prices) (numbers_in sense of_costs of_prices)
+      (i + 1) (k + 1) (at line k)
+  better_at i k line lt inside e finite below =
+      let a : i + 1 - 1 ≡ i = omega arith in
+      let b : k + 1 - 1 ≡ k = omega arith in
+      let here : IsUnderAt sense (number_at sense of_costs of_prices i) (row_part (length prices) i costs) prices k =
+      subst (λ (r : List Float). IsUnderAt sense (number_at sense of_costs of_prices i) r prices k) e (finite, below) in
+      let there : IsUnderAt sense (number_at sense of_costs of_prices (i + 1 - 1)) (row_part (length prices) (i + 1 - 1) costs) prices (k + 1 - 1) =
+      rw (a, b) here in
+      let same : at (row_part (length prices) (i + 1 - 1) costs) (k + 1 - 1) ≡ at line k =
+      rw (a, b) (ap (λ (r : List Float). at r k) (sym e)) in
+      subst (λ (c : Float). IsBetterPair sense (rows_of_doubles (length prices) n costs) (price_units prices)
+      (numbers_in sense of_costs of_prices) (i + 1) (k + 1) c) same
+      (better_here (i + 1) (k + 1) (record { first = omega arith; last = omega arith }) (record { first = omega arith; last = omega arith }) there)
 
   not_under : (i most j : ℕ) (number : IsNumber n i) →
       NoneBelow sense (number_at sense of_costs of_prices (i - 1)) (row_part (length prices) (i - 1) costs) prices most → j ≤ most →

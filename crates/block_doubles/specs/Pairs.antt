@@ -1,5 +1,5 @@
 -- What a block over doubles shows, in units of 2 ^ -1074.
-use Rattle.std.specs.Prelude.{◌≡◌, ◌↔◌, ◌⊎◌, ℕ, ℤ, pos, ◌≤ℤ◌, List, [], ◌∷◌, Some, length, false, IsTrue}
+use Rattle.std.specs.Prelude.{◌≡◌, ◌↔◌, ◌⊎◌, ℕ, ℤ, pos, ◌+◌, ◌<◌, ◌≤◌, ◌<ℤ◌, ◌≤ℤ◌, List, [], ◌∷◌, Some, drop, length, slice_index_or, false, IsTrue}
 use lib.Ieee.{Float, nan}
 use Rattle.assign_core.specs.declared.sense.Sense.{Sense}
 use Rattle.assign_core.specs.Numbered.{IsNumber, numbered}
@@ -48,3 +48,32 @@ pub record AreMarks (sense : Sense) (rows : List Listing) (prices : List ℤ) (x
 -- at place i, from 1, one of two lists has no finite number
 abbrev pub IsInfiniteIn : List Float → List Float → ℕ → Type 0
 IsInfiniteIn xs ys i = (is_number (numbered xs i nan) ≡ false) ⊎ (is_number (numbered ys i nan) ≡ false)
+
+-- person i lists object j at this cost, at a sum below its number
+pub record IsBetterPair (sense : Sense) (rows : List Listing) (prices numbers : List ℤ) (i j : ℕ) (c : Float) : Type 0 where
+  pub finite : IsTrue (is_number c)
+  pub listed : listed_in (row_of rows i) j ≡ Some (units_of c)
+  pub under : reduced_sum sense prices j (units_of c) <ℤ numbered numbers i (pos 0)
+
+-- three lists as triples of a person, an object and a cost
+pub record PairLists : Type 0 where
+  pub persons : List ℕ
+  pub objects : List ℕ
+  pub costs : List Float
+
+-- a pair has a lower person than another, or the same one and a lower object
+abbrev pub IsLower : ℕ → ℕ → ℕ → ℕ → Type 0
+IsLower i j k l = (i < k) ⊎ ((i ≡ k) × (j < l))
+
+-- the first entries are better pairs, which rise, so that none stands twice, and at most so many of a person; the
+-- others are those of before
+pub record AreWritten (sense : Sense) (rows : List Listing) (prices numbers : List ℤ) (most count : ℕ) (before after : PairLists) : Type 0 where
+  pub few : count ≤ length after.persons
+  pub better : (q : ℕ) → q < count → IsBetterPair sense rows prices numbers
+      (slice_index_or after.persons q 0) (slice_index_or after.objects q 0) (slice_index_or after.costs q nan)
+  pub rise : (p q : ℕ) → p < q → q < count → IsLower (slice_index_or after.persons p 0) (slice_index_or after.objects p 0)
+      (slice_index_or after.persons q 0) (slice_index_or after.objects q 0)
+  pub at_most : (q : ℕ) → q + most < count → slice_index_or after.persons q 0 < slice_index_or after.persons (q + most) 0
+  pub persons : drop count after.persons ≡ drop count before.persons
+  pub objects : drop count after.objects ≡ drop count before.objects
+  pub costs : drop count after.costs ≡ drop count before.costs

@@ -11,7 +11,7 @@ use cost_lists::{Object, Person};
 use double_checker::{is_number, row_part};
 
 // Whether a cost is finite, and its sum with the price below a number.
-fn is_under(sense: Sense, cost: f64, price: f64, number_cost: f64, number_price: f64) -> bool
+pub fn is_under(sense: Sense, cost: f64, price: f64, number_cost: f64, number_price: f64) -> bool
     requires price { IsTrue (is_number price) }
     requires number_cost { IsTrue (is_number number_cost) }
     requires number_price { IsTrue (is_number number_price) }
@@ -53,7 +53,7 @@ fn first_under(
 }
 
 // Whether a least pair, if there is one, is below a number.
-fn is_least_under(
+pub fn is_least_under(
     sense: Sense,
     prices: &[f64],
     object: Object,

@@ -8,6 +8,9 @@ mod finite;
 mod least;
 mod looking;
 mod marks;
+mod selecting;
+mod writing;
 
 pub use finite::first_infinite;
 pub use looking::look;
+pub use writing::write_better;

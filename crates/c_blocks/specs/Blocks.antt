@@ -25,6 +25,14 @@ pub record BlockBuffers : Type 0 where
   pub better : PairLists
   pub info : Info
 
+abbrev pub buffers : List ℤ → List ℕ → List ℕ → List ℕ → List ℤ → Info → BlockBuffers
+buffers least own persons objects costs info = record {
+  least = least;
+  own = own;
+  better = record { persons = persons; objects = objects; costs = costs };
+  info = info;
+}
+
 -- what a caller gives: a problem of either form, as many own objects, row numbers, least sums and marks as
 -- persons, a price for each object, and three lists of one length for better pairs
 abbrev pub block_input : ℕ → ℕ → ℕ → List ℕ → List ℕ → List ℤ → List ℕ → List ℤ → List ℤ → BlockBuffers → InputLists

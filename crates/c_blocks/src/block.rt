@@ -8,7 +8,7 @@ ghost use Rattle.c_calls.specs.lists.Faults.{HasFault, IsOfInput};
 ghost use Rattle.c_calls.specs.lists.Input.{HasLengths};
 ghost use Rattle.block_checker.specs.Pairs.{AreWritten};
 ghost use Rattle.block_checker.specs.Sums.{AreLeastSums};
-ghost use Rattle.c_blocks.specs.Blocks.{IsBlockShown, IsNamed, JudgesBlock, one_length};
+ghost use Rattle.c_blocks.specs.Blocks.{IsBlockShown, IsNamed, JudgesBlock, buffers, one_length};
 
 use assign_core::Cost;
 use block_checker::{first_better, least_sums, own_marks, write_better};
@@ -103,26 +103,10 @@ fn show(
     requires better_objects { length better_objects.old ≡ length better_persons.old }
     requires better_costs { length better_costs.old ≡ length better_persons.old }
     ensures shown { IfOk result (IsBlockShown lists.now objects.now numbers.now prices.now
-        (record {
-          least = least.old;
-          own = own.old;
-          better = record {
-            persons = better_persons.old;
-            objects = better_objects.old;
-            costs = better_costs.old;
-          };
-          info = info.old;
-        })
-        (record {
-          least = least.new;
-          own = own.new;
-          better = record {
-            persons = better_persons.new;
-            objects = better_objects.new;
-            costs = better_costs.new;
-          };
-          info = info.new;
-        })) }
+        (buffers least.old own.old
+        better_persons.old better_objects.old better_costs.old info.old)
+        (buffers least.new own.new
+        better_persons.new better_objects.new better_costs.new info.new)) }
     ensures stays { IfErr result (λ e. (least.new ≡ least.old) × (own.new ≡ own.old)
         × (better_persons.new ≡ better_persons.old) × (better_objects.new ≡ better_objects.old)
         × (better_costs.new ≡ better_costs.old) × (info.new ≡ info.old)) }
@@ -175,26 +159,10 @@ pub fn block_on(
     requires better_costs { HasLengths input.now
         → length better_costs.old ≡ length better_persons.old }
     ensures { JudgesBlock input.now objects.now numbers.now
-        (record {
-          least = least.old;
-          own = own.old;
-          better = record {
-            persons = better_persons.old;
-            objects = better_objects.old;
-            costs = better_costs.old;
-          };
-          info = info.old;
-        })
-        (record {
-          least = least.new;
-          own = own.new;
-          better = record {
-            persons = better_persons.new;
-            objects = better_objects.new;
-            costs = better_costs.new;
-          };
-          info = info.new;
-        }) result }
+        (buffers least.old own.old
+        better_persons.old better_objects.old better_costs.old info.old)
+        (buffers least.new own.new
+        better_persons.new better_objects.new better_costs.new info.new) result }
 {
     let shape = match judge(input) {
         Ok(shape) => shape,

@@ -1,6 +1,6 @@
 // The calls on a block of a greater problem, as `c/nushbaret.h` declares them.
-ghost use Rattle.c_blocks.specs.Blocks.{BlockBuffers, JudgesBlock, block_input};
-ghost use Rattle.c_blocks.specs.DoubleBlocks.{JudgesDoubles, Numbers, Shown, double_block};
+ghost use Rattle.c_blocks.specs.Blocks.{JudgesBlock, block_input, buffers};
+ghost use Rattle.c_blocks.specs.DoubleBlocks.{JudgesDoubles, Numbers, double_block, shown_in};
 
 use assign_core::Cost;
 use c_blocks::{block_on, doubles_block_on, one_length};
@@ -31,26 +31,10 @@ pub extern "C" fn nushbaret_block(
     better_costs: &mut [Cost],
     info: &mut Info,
 ) -> i32
-    ensures { let before : BlockBuffers = record {
-      least = least.old;
-      own = own.old;
-      better = record {
-        persons = better_persons.old;
-        objects = better_objects.old;
-        costs = better_costs.old;
-      };
-      info = info.old;
-    } in
-        let after : BlockBuffers = record {
-          least = least.new;
-          own = own.new;
-          better = record {
-            persons = better_persons.new;
-            objects = better_objects.new;
-            costs = better_costs.new;
-          };
-          info = info.new;
-        } in
+    ensures { let before = buffers least.old own.old
+        better_persons.old better_objects.old better_costs.old info.old in
+        let after = buffers least.new own.new
+        better_persons.new better_objects.new better_costs.new info.new in
         JudgesBlock (block_input sense n m of_persons.now of_objects.now costs.now objects.now numbers.now prices.now before)
         objects.now numbers.now before after result }
 {
@@ -95,6 +79,7 @@ pub extern "C" fn nushbaret_block(
 /// than its person's row number at these prices of all `m` objects.
 #[unsafe(no_mangle)]
 pub extern "C" fn nushbaret_block_doubles(
+    alloc: Global,
     sense: u32,
     n: usize,
     m: usize,
@@ -103,9 +88,13 @@ pub extern "C" fn nushbaret_block_doubles(
     number_costs: &[f64],
     number_prices: &[f64],
     prices: &[f64],
+    most: usize,
     least_objects: &mut [Object],
     least_costs: &mut [f64],
     own: &mut [u8],
+    better_persons: &mut [Person],
+    better_objects: &mut [Object],
+    better_costs: &mut [f64],
     info: &mut DoublesInfo,
 ) -> i32
     ensures { let numbers : Numbers = record {
@@ -114,20 +103,14 @@ pub extern "C" fn nushbaret_block_doubles(
       of_prices = number_prices.now;
       prices = prices.now;
     } in
-        let before : Shown = record {
-          objects = least_objects.old;
-          costs = least_costs.old;
-          own = own.old;
-          info = info.old;
-        } in
-        let after : Shown = record {
-          objects = least_objects.new;
-          costs = least_costs.new;
-          own = own.new;
-          info = info.new;
-        } in
-        JudgesDoubles (double_block sense n m costs.now numbers before) numbers before after result }
+        let before = shown_in least_objects.old least_costs.old own.old
+        better_persons.old better_objects.old better_costs.old info.old in
+        let after = shown_in least_objects.new least_costs.new own.new
+        better_persons.new better_objects.new better_costs.new info.new in
+        JudgesDoubles (double_block sense n m costs.now numbers before) numbers most before after result }
 {
+    let is_one = better_objects.len() == better_persons.len()
+        && better_costs.len() == better_persons.len();
     let by_person = [
         objects.len(),
         number_costs.len(),
@@ -135,6 +118,7 @@ pub extern "C" fn nushbaret_block_doubles(
         least_objects.len(),
         least_costs.len(),
         own.len(),
+        one_length(is_one, n),
     ];
     let by_object = [prices.len()];
     let input = InputDoubles {
@@ -146,14 +130,19 @@ pub extern "C" fn nushbaret_block_doubles(
         costs,
     };
     doubles_block_on(
+        alloc,
         &input,
         objects,
         number_costs,
         number_prices,
         prices,
+        most,
         least_objects,
         least_costs,
         own,
+        better_persons,
+        better_objects,
+        better_costs,
         info,
     )
 }

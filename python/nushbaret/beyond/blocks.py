@@ -1,6 +1,5 @@
-"""Which pairs of some rows are better than their own ones at given prices, by the library's calls over blocks. Over
-doubles the library says whether there is one, and which ones are chosen here; listed pairs are packed for it into small
-matrices."""
+"""Which pairs of some rows are better than their own ones at given prices, by the library's calls over blocks. Listed
+pairs of doubles are packed for it into small matrices."""
 import ctypes
 import math
 from typing import Any, Dict, List, NamedTuple, Optional, Tuple
@@ -37,7 +36,7 @@ class Asked(NamedTuple):
     numbers : array
         A number for each row: int64, or float64.
     rests : array or None
-        To doubles these are added without rounding. None: they are 0, and the look proves nothing.
+        To doubles these are added without rounding. None: they are 0.
     own : array or None
         Each row's own column, or -1.
     prices : array
@@ -65,7 +64,7 @@ def look_listed(n: int, rows: Any, columns: Any, costs: Any, asked: Asked) -> Lo
     """The same of listed pairs: row rows[k] of n lists column columns[k] at costs[k]. A pair may stand there several
     times."""
     if costs.dtype.kind == "f":
-        return _of_doubles(n, rows, columns, costs, asked)
+        return _looked_at_packs(n, rows, columns, costs, asked)
     return _looked(n, (rows + 1).astype(numpy.uint32), (columns + 1).astype(numpy.uint32), costs, asked)
 
 
@@ -73,7 +72,8 @@ def look_listed(n: int, rows: Any, columns: Any, costs: Any, asked: Asked) -> Lo
 
 
 _LIST = (ctypes.c_void_p, ctypes.c_size_t)
-_KINDS = {"nushbaret_block": (*_LIST * 6, ctypes.c_size_t, *_LIST * 5), "nushbaret_block_doubles": _LIST * 8}
+_KINDS = {"nushbaret_block": (*_LIST * 6, ctypes.c_size_t, *_LIST * 5),
+          "nushbaret_block_doubles": (*_LIST * 5, ctypes.c_size_t, *_LIST * 6)}
 
 
 def _call(name: str) -> Any:
@@ -86,23 +86,31 @@ def _call(name: str) -> Any:
 def _looked(n: int, persons: Any, objects: Any, costs: Any, asked: Asked) -> Look:
     """What the library says of a block."""
     own = _own_objects(n, asked.own)
-    held = min(n * asked.most, len(costs))
+    better = _room(min(n * asked.most, len(costs)), numpy.int64)
     given = persons, objects, costs, own, asked.numbers, asked.prices
-    written = (numpy.empty(n, numpy.int64), numpy.empty(n, numpy.uint8), numpy.empty(held, numpy.uint32),
-               numpy.empty(held, numpy.uint32), numpy.empty(held, numpy.int64))
+    least, shown = numpy.empty(n, numpy.int64), numpy.empty(n, numpy.uint8)
     info = library.Info()
     code = library.CODES[_call("nushbaret_block")(0, n, len(asked.prices), *_addresses(given), asked.most,
-                                                  *_addresses(written), ctypes.addressof(info))]
+                                                  *_addresses((least, shown, *better)), ctypes.addressof(info))]
     if code == "COST":
         raise ValueError(f"a cost is {costs[info.place]}, beyond 10**12")
+    return _look(code, info, better, least, shown)
+
+
+def _look(code: str, info: Any, better: Any, least: Any, shown: Any) -> Look:
+    """What a call wrote."""
     if code == "MEMORY":
         raise MemoryError("the library was refused memory")
     if code not in ("BEST", "SLACK"):
         raise RuntimeError(f"the library says {code} of a block, at place {info.place}")
-    least, shown, rows, columns, paid = written
-    count = info.persons
-    return Look(rows[:count].astype(numpy.int64) - 1, columns[:count].astype(numpy.int64) - 1, paid[:count], least,
+    rows, columns, paid = (values[:info.persons] for values in better)
+    return Look(rows.astype(numpy.int64) - 1, columns.astype(numpy.int64) - 1, paid, least,
                 (info.person - 1, info.object - 1) if code == "SLACK" else None, shown.view(bool))
+
+
+def _room(count: int, dtype: Any) -> Any:
+    """Lists for so many better pairs."""
+    return numpy.empty(count, numpy.uint32), numpy.empty(count, numpy.uint32), numpy.empty(count, dtype)
 
 
 def are_joint(columns: Any, paid: Any, prices: Any) -> bool:
@@ -125,8 +133,7 @@ def _addresses(lists: Any) -> List[int]:
     return [word for values in lists for word in (values.__array_interface__["data"][0], values.size)]
 
 
-# Doubles. The library says whether a pair is better. Which ones are: rounding keeps the order of sums; where two
-# rounded sums are equal, what they lost decides.
+# Doubles.
 
 
 def two_sum(first: Any, second: Any) -> Tuple[Any, Any]:
@@ -137,119 +144,32 @@ def two_sum(first: Any, second: Any) -> Tuple[Any, Any]:
         return sums, (first - (sums - back)) + (second - back)
 
 
-def proved(costs: Any, asked: Asked) -> Look:
-    """What the library says of a matrix of doubles in exact arithmetic; no better pair is among it. A number that isn't
-    finite is beyond all sums."""
+def _looked_at_doubles(costs: Any, asked: Asked) -> Look:
+    """What the library says of a matrix of doubles, in exact arithmetic. A number that isn't finite is beyond all
+    sums."""
     n, m = costs.shape
     most = numpy.finfo(numpy.float64).max
     is_finite = numpy.isfinite(asked.numbers)
     numbers = numpy.clip(asked.numbers, -most, most)
     rests = numpy.where(is_finite, 0.0 if asked.rests is None else asked.rests, numbers)
     given = costs.ravel(), _own_objects(n, asked.own), numbers, rests, asked.prices
+    better = _room(min(n * asked.most, costs.size), numpy.float64)
     objects, paid, shown = numpy.empty(n, numpy.uint32), numpy.empty(n), numpy.empty(n, numpy.uint8)
     info = DoublesInfo()
-    code = library.CODES[_call("nushbaret_block_doubles")(0, n, m, *_addresses((*given, objects, paid, shown)),
-                                                          ctypes.addressof(info))]
+    code = library.CODES[_call("nushbaret_block_doubles")(
+        0, n, m, *_addresses(given), asked.most, *_addresses((objects, paid, shown, *better)), ctypes.addressof(info))]
     if code == "COST":
         raise ValueError(f"a cost is {costs.ravel()[info.place]}")
-    if code not in ("BEST", "SLACK"):
-        raise RuntimeError(f"the library says {code} of a block of doubles")
-    has = objects > 0
-    least = numpy.full(n, numpy.inf)
+    has, least = objects > 0, numpy.full(n, numpy.inf)
     least[has] = paid[has] + asked.prices[objects[has].astype(numpy.int64) - 1]
-    none = numpy.empty(0, numpy.int64)
-    return Look(none, none, numpy.empty(0), least, (info.person - 1, info.object - 1) if code == "SLACK" else None,
-                shown.view(bool))
-
-
-def _looked_at_doubles(costs: Any, asked: Asked) -> Look:
-    """The same of a matrix of doubles."""
-    if asked.rests is None:
-        return _chosen(costs, asked)
-    found = proved(costs, asked)
-    if found.first is None:
-        return found
-    better = _chosen(costs, asked)
-    return found._replace(rows=better.rows, columns=better.columns, costs=better.costs)
-
-
-def _chosen(costs: Any, asked: Asked) -> Look:
-    """A look by NumPy."""
-    sums = costs + asked.prices
-    least, numbers = sums.min(1), asked.numbers[:, None]
-    below = sums < numbers
-    if asked.rests is not None:
-        rows, columns = (sums == numbers).nonzero()
-        lost = two_sum(costs[rows, columns], asked.prices[columns])[1]
-        below[rows, columns] = lost < asked.rests[rows]
-    first = None
-    better = below.any(1)
-    if better.any():
-        row = int(better.argmax())
-        first = row, int(below[row].argmax())
-    if asked.most < costs.shape[1]:
-        _keep_cheapest(sums, below, asked.most)
-    rows, columns = below.nonzero()
-    own, shown = asked.own, numpy.zeros(len(costs), bool)
-    if own is not None:
-        shown = (own >= 0) & _is_at(costs[numpy.arange(len(costs)), own], asked.prices[own], asked.numbers, asked.rests)
-    return Look(rows, columns, costs[rows, columns], least, first, shown)
-
-
-def _is_at(costs: Any, prices: Any, numbers: Any, rests: Any) -> Any:
-    """Which sums are exactly these numbers and rests."""
-    sums, lost = two_sum(costs, prices)
-    return (sums == numbers) & (lost == (0.0 if rests is None else rests))
-
-
-def _keep_cheapest(sums: Any, below: Any, most: int) -> None:
-    """Leaves of each row's marked pairs so many, those of the least sums."""
-    many = numpy.flatnonzero(numpy.count_nonzero(below, 1) > most)
-    if not len(many):
-        return
-    held = numpy.where(below[many], sums[many], numpy.inf)
-    chosen = numpy.argpartition(held, most - 1, 1)[:, :most]
-    below[many] = False
-    below[many[:, None], chosen] = True
-
-
-def _of_doubles(n: int, rows: Any, columns: Any, costs: Any, asked: Asked) -> Look:
-    """The same of listed pairs."""
-    if asked.rests is None:
-        return _chosen_listed(n, rows, columns, costs, asked)
-    found = _proved_listed(n, rows, columns, costs, asked)
-    if found.first is None:
-        return found
-    better = _chosen_listed(n, rows, columns, costs, asked)
-    return found._replace(rows=better.rows, columns=better.columns, costs=better.costs)
-
-
-def _chosen_listed(n: int, rows: Any, columns: Any, costs: Any, asked: Asked) -> Look:
-    """A look by NumPy."""
-    sums, lost = two_sum(costs, asked.prices[columns])
-    below = sums < asked.numbers[rows]
-    if asked.rests is not None:
-        below |= (sums == asked.numbers[rows]) & (lost < asked.rests[rows])
-    least, shown, first = numpy.full(n, numpy.inf), numpy.zeros(n, bool), None
-    numpy.minimum.at(least, rows, sums)
-    if asked.own is not None:
-        own = (columns == asked.own[rows]) & _is_at(costs, asked.prices[columns], asked.numbers[rows],
-                                                    None if asked.rests is None else asked.rests[rows])
-        shown[rows[own]] = True
-    places = numpy.flatnonzero(below)
-    if len(places):
-        row = rows[places].min()
-        first = int(row), int(columns[places[rows[places] == row]].min())
-    places = places[numpy.lexsort((columns[places], sums[places], rows[places]))]
-    places = places[ranks(rows[places]) < asked.most]
-    return Look(rows[places], columns[places], costs[places], least, first, shown)
+    return _look(code, info, better, least, shown)
 
 
 # So many places has a matrix into which pairs are packed.
 PACKED = 2**12
 
 
-def _proved_listed(n: int, rows: Any, columns: Any, costs: Any, asked: Asked) -> Look:
+def _looked_at_packs(n: int, rows: Any, columns: Any, costs: Any, asked: Asked) -> Look:
     """What the library says of listed pairs: of a few rows at a time with all columns that one of them lists, where
     other pairs are forbidden."""
     m = len(asked.prices)
@@ -260,6 +180,7 @@ def _proved_listed(n: int, rows: Any, columns: Any, costs: Any, asked: Asked) ->
     starts = numpy.searchsorted(keys, numpy.arange(0, n + height, height) // height * m)
     ends = numpy.searchsorted(rows // height, numpy.arange(0, n + height, height) // height)
     least, shown, first = numpy.full(n, numpy.inf), numpy.zeros(n, bool), None
+    better = [(rows[:0], columns[:0], costs[:0])]
     for pack, (begin, end) in enumerate(zip(ends[:-1], ends[1:])):
         some = slice(pack * height, min(n, (pack + 1) * height))
         names = keys[starts[pack]:starts[pack + 1]] - pack * m
@@ -269,12 +190,12 @@ def _proved_listed(n: int, rows: Any, columns: Any, costs: Any, asked: Asked) ->
         # Of pairs that are listed several times the cheapest one stays.
         at = slice(end - 1, begin - 1 if begin else None, -1)
         matrix[rows[at] - some.start, places[at] - starts[pack]] = costs[at]
-        found = proved(matrix, _of_pack(asked, some, names))
+        found = _looked_at_doubles(matrix, _of_pack(asked, some, names))
         least[some], shown[some] = found.least, found.shown
+        better.append((found.rows + some.start, names[found.columns], found.costs))
         if first is None and found.first is not None:
             first = found.first[0] + some.start, int(names[found.first[1]])
-    none = numpy.empty(0, numpy.int64)
-    return Look(none, none, numpy.empty(0), least, first, shown)
+    return Look(*(numpy.concatenate(values) for values in zip(*better)), least, first, shown)
 
 
 def _of_pack(asked: Asked, some: slice, names: Any) -> Asked:

@@ -1,10 +1,6 @@
 """What a look at a block answers, by its definition: pair by pair, in whole numbers and fractions. Slow; the tests
-compare with it. Where the library hasn't its call over blocks yet, `patched` lets this stand for it."""
+compare with it."""
 from fractions import Fraction
-
-import numpy
-
-from nushbaret.beyond import blocks
 
 
 def exactly(number):
@@ -35,48 +31,3 @@ def look(n, pairs, asked):
 
 def of_matrix(costs):
     return [(row, column, costs[row, column]) for row in range(len(costs)) for column in range(costs.shape[1])]
-
-
-def looked(n, persons, objects, costs, asked):
-    """What stands for the library's call, by NumPy."""
-    m = len(asked.prices)
-    if len(costs) and max(costs.max(), -costs.min()) > 10**12:
-        raise ValueError("a cost is beyond 10**12")
-    if not len(persons) and len(costs):
-        rows, columns = numpy.divmod(numpy.arange(n * m), m)
-    else:
-        rows, columns = persons.astype(numpy.int64) - 1, objects.astype(numpy.int64) - 1
-    sums = costs + asked.prices[columns]
-    least = numpy.full(n, blocks.GREATEST)
-    numpy.minimum.at(least, rows, sums)
-    shown = numpy.zeros(n, bool)
-    if asked.own is not None:
-        shown[rows[(columns == asked.own[rows]) & (sums == asked.numbers[rows])]] = True
-    places = numpy.flatnonzero(sums < asked.numbers[rows])
-    first = None
-    if len(places):
-        row = rows[places].min()
-        first = int(row), int(columns[places[rows[places] == row]].min())
-    places = places[numpy.lexsort((columns[places], sums[places], rows[places]))]
-    places = places[blocks.ranks(rows[places]) < asked.most]
-    return blocks.Look(rows[places], columns[places], costs[places], least, first, shown)
-
-
-def proved(costs, asked):
-    """What stands for the library's call over doubles."""
-    rests = numpy.zeros(len(costs)) if asked.rests is None else asked.rests
-    found = blocks._chosen(costs, asked._replace(rests=rests))
-    return found._replace(rows=found.rows[:0], columns=found.columns[:0], costs=found.costs[:0])
-
-
-def patched():
-    """Lets these stand for the library's calls, where the library hasn't them; returns whether it hasn't."""
-    own = {"nushbaret_block": ("_looked", looked), "nushbaret_block_doubles": ("proved", proved)}
-    without = False
-    for name, (here, stand_in) in own.items():
-        try:
-            blocks._call(name)
-        except AttributeError:
-            setattr(blocks, here, stand_in)
-            without = True
-    return without

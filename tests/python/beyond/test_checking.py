@@ -9,7 +9,6 @@ if np:
     from nushbaret.beyond import blocks
     from . import slow_blocks
     from .costs import kinds
-    slow_blocks.patched()
 
 
 @unittest.skipUnless(np, "needs NumPy")
@@ -74,11 +73,10 @@ class Looks(unittest.TestCase):
             costs = random.integers(-5, 9, len(at)).astype(float)
             asked = self.asked(random, np.zeros((rows, 1)), columns)
             pairs = list(zip((at // columns).tolist(), (at % columns).tolist(), costs.tolist()))
-            _, least, first, shown = slow_blocks.look(rows, pairs, asked)
+            wanted = slow_blocks.look(rows, pairs, asked)
             with mock.patch.object(blocks, "PACKED", packed):
-                found = blocks._proved_listed(rows, at // columns, at % columns, costs, asked)
-            self.assertEqual((found.first, found.shown.tolist()), (first, shown))
-            self.assertEqual(found.least.tolist(), [float("inf") if value is None else value for value in least])
+                found = blocks._looked_at_packs(rows, at // columns, at % columns, costs, asked)
+            self.compare(found, wanted, asked.most)
 
 
 @unittest.skipUnless(np, "needs NumPy")

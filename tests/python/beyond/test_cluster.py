@@ -1,5 +1,6 @@
 """Blocks on the workers of Dask: the same bytes as in this process, also where a worker is killed in a pass; with a
 scheduler and workers as processes of their own; and an engine of somebody else's."""
+import importlib
 import importlib.util
 import os
 import pathlib
@@ -20,8 +21,6 @@ import nushbaret
 if np:
     from nushbaret import beyond
     from .costs import Points
-    from .slow_blocks import patched
-    patched()
 
 DASK = bool(np) and importlib.util.find_spec("distributed") is not None
 HERE = pathlib.Path(__file__).resolve()
@@ -36,9 +35,8 @@ def same(one, other):
 
 
 def on_worker():
-    """What a worker does first."""
-    from beyond.slow_blocks import patched as stand_in
-    return stand_in()
+    """What a worker does first: it loads the package, so that a kill comes in a pass."""
+    importlib.import_module("nushbaret.beyond.tasks")
 
 
 @unittest.skipUnless(np, "needs NumPy")

@@ -15,8 +15,6 @@ import nushbaret
 if np:
     from nushbaret import beyond
     from nushbaret.beyond import frames
-    from .slow_blocks import patched
-    patched()
 
 
 def parts_of(random, lists, count):

@@ -14,8 +14,6 @@ if np:
     from nushbaret import beyond
     from nushbaret.beyond.engines import Here
     from .costs import Points, Products, best, kinds
-    from .slow_blocks import patched
-    patched()
 
 
 @unittest.skipUnless(np, "needs NumPy")
