@@ -100,11 +100,11 @@ class SolvedProblem:
 
     def _exact_prices(self) -> exact_duals.ExactPrices:
         problem, count = self.read_again(), len(self.pairs[0])
-        served = None if count == min(problem.n_rows, problem.n_columns) else count
-        again = solved(problem, None, served)
+        assigned = None if count == min(problem.n_rows, problem.n_columns) else count
+        again = solved(problem, None, assigned)
         if isinstance(again, proved.HallSet) or _cost_of(problem, again) != sum_of(self.shape, self.ratios):
             raise ValueError(CHANGED)
-        found = exact_duals.exact_prices(problem, served, self.answer.objects)
+        found = exact_duals.exact_prices(problem, assigned, self.answer.objects)
         if found is None:
             raise ValueError(CHANGED)
         return found

@@ -63,20 +63,20 @@ class FirstPrices(NamedTuple):
 NONE = array("I")
 
 
-def sizes_of(problem: AssignmentProblem, served: Optional[int]) -> Tuple[int, int, int]:
+def sizes_of(problem: AssignmentProblem, assigned: Optional[int]) -> Tuple[int, int, int]:
     """How many persons there are, how many objects, and how many of these are dummies."""
     n, most = sorted((problem.n_rows, problem.n_columns))
-    dummies = 0 if served is None else n - served
+    dummies = 0 if assigned is None else n - assigned
     if most + dummies > MOST_PERSONS:
-        raise TooLarge(f"{problem.n_rows} rows and {problem.n_columns} columns, of which {served} can be paired, make "
+        raise TooLarge(f"{problem.n_rows} rows and {problem.n_columns} columns, of which {assigned} can be paired, make "
                        f"{most + dummies} with dummies: at most {MOST_PERSONS} are possible")
     return n, most + dummies, dummies
 
 
-def instance_of(problem: AssignmentProblem, served: Optional[int] = None, out: int = 0) -> Instance:
-    """The problem whose assignments have `served` pairs, or as many as the shorter side has nodes. `out` is the cost of
+def instance_of(problem: AssignmentProblem, assigned: Optional[int] = None, out: int = 0) -> Instance:
+    """The problem whose assignments have `assigned` pairs, or as many as the shorter side has nodes. `out` is the cost of
     staying out."""
-    n, m, dummies = sizes_of(problem, served)
+    n, m, dummies = sizes_of(problem, assigned)
     if problem.persons is None and not dummies:
         return Instance(n, m, NONE, NONE, costs_by_persons(problem))
     problem = listed(problem)
@@ -306,9 +306,9 @@ def rounded_prices(problem: AssignmentProblem, prices: List[Fraction], parts: in
     return None if max(whole, default=0) > GREATEST_PRICE else whole
 
 
-def first_of(problem: AssignmentProblem, start: WarmStart, served: Optional[int]) -> Optional[FirstPrices]:
+def first_of(problem: AssignmentProblem, start: WarmStart, assigned: Optional[int]) -> Optional[FirstPrices]:
     """Where the library's search begins; prices of dummies are 0. None where prices are too far apart to be of use."""
-    n, _, dummies = sizes_of(problem, served)
+    n, _, dummies = sizes_of(problem, assigned)
     prices, objects = rounded_prices(problem, start.prices), array("I", bytes(4 * n))
     if prices is None:
         return None
