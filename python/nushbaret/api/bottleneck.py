@@ -84,9 +84,9 @@ def _best_within(pairs: AssignmentProblem, assigned: int, source: Source) -> Res
 
 
 def _over_all_pairs(pairs: AssignmentProblem, bound: Any, assigned: int) -> Optional[Outcome]:
-    """The best plan within a bound where many pairs of a dense problem are, by the search over all pairs: the worse ones
-    cost so much that a plan seldom has one. Then it is as good, at the same prices, among the pairs within the bound.
-    None where it has one, or few pairs are."""
+    """The best plan within a bound where many pairs of a dense problem are, by the search over all pairs: the worse
+    ones cost so much that a plan seldom has one. Then it is as good, at the same prices, among the pairs within the
+    bound. None where it has one, or few pairs are."""
     numpy, numbers = pairs.numpy, pairs.costs.of_64_bits()
     if not numpy or numbers is None or pairs.persons is not None or assigned < min(pairs.n_rows, pairs.n_columns):
         return None

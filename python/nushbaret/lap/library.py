@@ -304,8 +304,8 @@ class limited:
         if timeout is not None and not timeout >= 0:
             raise ValueError(f"timeout is {timeout!r}: it must be a number of seconds, 0 or more")
         if progress is not None and not callable(progress):
-            raise TypeError(f"progress is {progress!r}: it must be a call of two numbers, how many are assigned and how "
-                            "many there are")
+            raise TypeError(f"progress is {progress!r}: it must be a call of two numbers, how many are assigned and "
+                            "how many there are")
         # A whole number may be beyond all floats.
         self.timeout = None if timeout is None else float(timeout) if timeout <= sys.float_info.max else math.inf
         self.progress = progress

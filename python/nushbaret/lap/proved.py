@@ -68,14 +68,14 @@ def sizes_of(problem: AssignmentProblem, assigned: Optional[int]) -> Tuple[int, 
     n, most = sorted((problem.n_rows, problem.n_columns))
     dummies = 0 if assigned is None else n - assigned
     if most + dummies > MOST_PERSONS:
-        raise TooLarge(f"{problem.n_rows} rows and {problem.n_columns} columns, of which {assigned} can be paired, make "
-                       f"{most + dummies} with dummies: at most {MOST_PERSONS} are possible")
+        raise TooLarge(f"{problem.n_rows} rows and {problem.n_columns} columns, of which {assigned} can be paired, "
+                       f"make {most + dummies} with dummies: at most {MOST_PERSONS} are possible")
     return n, most + dummies, dummies
 
 
 def instance_of(problem: AssignmentProblem, assigned: Optional[int] = None, out: int = 0) -> Instance:
-    """The problem whose assignments have `assigned` pairs, or as many as the shorter side has nodes. `out` is the cost of
-    staying out."""
+    """The problem whose assignments have `assigned` pairs, or as many as the shorter side has nodes. `out` is the cost
+    of staying out."""
     n, m, dummies = sizes_of(problem, assigned)
     if problem.persons is None and not dummies:
         return Instance(n, m, NONE, NONE, costs_by_persons(problem))

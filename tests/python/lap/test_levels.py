@@ -71,7 +71,8 @@ class Small(unittest.TestCase):
             with self.assertRaises(nushbaret.Infeasible):
                 nushbaret.linear_sum_assignment(form, maximize)
             return
-        self.assertEqual(sum_of(exact, *nushbaret.linear_sum_assignment(form, maximize)), best(exact, maximize, assigned))
+        own = nushbaret.linear_sum_assignment(form, maximize)
+        self.assertEqual(sum_of(exact, *own), best(exact, maximize, assigned))
 
     def test_numbers_of_every_kind_together(self):
         """Ints, Decimals and Fractions of any size among floats, also by listed pairs that are given twice."""
