@@ -21,7 +21,7 @@ const [MOST_NOTES, MOST_SHOWN_CELLS, MOST_PAIRS, MOST_DRAWN] = [20, 20000, 5000,
  * @typedef {import("./plan.mjs").Plan} Plan
  * @typedef {{ person: string, object: string, isFixed: boolean }} Mark A pair that is to be in the plan, or must not be
  * @typedef {{ form: string, comma: boolean, max: boolean, fullest: boolean, past: string }} Choices
- * @typedef {{ files: import("./files.mjs").Given[], choices: Choices, marks: Mark[], module: ArrayBuffer }} Question
+ * @typedef {{ files: import("./files.mjs").Given[], choices: Choices, marks: Mark[], module: WebAssembly.Module }} Question
  * @typedef {{ how: string, count: string, names: string }} Left
  * @typedef {{ name: string, kind: string, place: number, isChosen: boolean, count: number, rows: string[][] | null, separator: string }} Shown A
  *   table as the page shows it

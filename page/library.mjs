@@ -62,10 +62,9 @@ export class Library {
     this.look = (/** @type {number} */ _pairs) => {};
   }
 
-  /** @type {(bytes: BufferSource) => Promise<Library>} */
-  static async load(bytes) {
-    const { instance } = await WebAssembly.instantiate(bytes, {});
-    return new Library(instance.exports);
+  /** @type {(module: WebAssembly.Module) => Promise<Library>} */
+  static async load(module) {
+    return new Library((await WebAssembly.instantiate(module)).exports);
   }
 
   /**

@@ -115,7 +115,7 @@ export async function drawMatrix(found, room, isWanted) {
     const name = `${objects[part.begin]} to ${objects[part.end - 1]} (part ${place + 1} of ${parts.length})`;
     const body = element("tbody", {});
     for (let person = 0; person < persons.length && isWanted(); person++) {
-      if (person % ROWS_AT_ONCE === ROWS_AT_ONCE - 1) await new Promise((done) => setTimeout(done));
+      if (person % ROWS_AT_ONCE === 0) await new Promise((done) => setTimeout(done));
       body.append(rowOf(drawing, person, part));
     }
     tables.push(element("table", {}, headOf(drawing, part, parts.length > 1 ? name : ""), body));

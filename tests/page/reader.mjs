@@ -15,7 +15,7 @@ const { csvOf, Sheet } = await import("../../page/sheet.mjs");
 const { guarded } = await import("../../page/texts.mjs");
 
 const { rosters, wards, workbook } = JSON.parse(fs.readFileSync(process.argv[2], "utf8"));
-const library = await Library.load(moduleOf(process.argv[3]));
+const library = await Library.load(new WebAssembly.Module(moduleOf(process.argv[3])));
 const FIELDS = ["titles", "persons", "objects", "ofPersons", "ofObjects", "costs", "decimals", "separator", "comma", "isMatrix"];
 
 function said(roster, max) {
