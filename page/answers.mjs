@@ -1,7 +1,7 @@
 // What the worker does with files: it reads them, plans the roster, and says all that the page shows.
 import { sheetOf } from "./days.mjs";
 import { costsOf, named, namedPairs, oldPlanOf, pairKey, withPast } from "./earlier.mjs";
-import { RosterFault, said, within } from "./faults.mjs";
+import { itemOf, RosterFault, said, within } from "./faults.mjs";
 import { tablesOf } from "./files.mjs";
 import { MOST_PERSONS, NoMemory } from "./library.mjs";
 import { alike } from "./names.mjs";
@@ -34,6 +34,8 @@ const [MOST_NOTES, MOST_SHOWN_CELLS, MOST_PAIRS, MOST_DRAWN] = [20, 20000, 5000,
  * @property {string[]} notes
  * @property {Roster} roster
  * @property {Plan | null} plan
+ * @property {OldPlan | null} kept
+ * @property {Map<string, string>} calendars Those of an earlier plan, by the names of their files
  * @property {import("./days.mjs").DaySheet | null} sheet
  * @property {{ persons: string[], objects: string[] }} lists
  * @property {{ persons: number[], objects: number[] }} short All who are short
@@ -79,7 +81,7 @@ export function readTables(tables, choices, most = MOST_PERSONS) {
   const roster = withTakes(first, tasks, places, ofKind("groups", ({ sheet }) => readGroups(sheet, first)));
   const lines = [places, tasks].flatMap((counts, k) => counts ? forgotten(roster, counts, k === 0, named) : []);
   const isRuled = roster.takes !== null || roster.groups !== null;
-  const kept = ofKind("plan", ({ sheet }) => oldPlanOf(roster, namedPairs(sheet, roster), !isRuled));
+  const kept = ofKind("plan", ({ name, sheet }) => oldPlanOf(roster, namedPairs(sheet, roster), !isRuled, itemOf(name)));
   if (kept?.gone.length) lines.push(`the earlier plan has names that the roster hasn't: ${kept.gone.slice(0, MOST_NOTES).join(", ")}`);
   if (!kept || !roster.groups || !choices.past) return { roster, kept, fixed: [], lines };
   const past = withPast(roster, roster.groups, kept, choices.past);
@@ -114,7 +116,8 @@ export function withMarks({ roster, kept, fixed, lines }, marks) {
 function shownTables(tables) {
   return tables.map(({ name, kind, place, isChosen, sheet }) => {
     const width = sheet.rows.reduce((most, { cells }) => Math.max(most, cells.length), 0);
-    const rows = sheet.fault || width * sheet.rows.length > MOST_SHOWN_CELLS ? null : sheet.rows.map(({ cells }) => Array.from({ length: width }, (_, k) => cells[k] || ""));
+    const isWhole = !sheet.fault && kind !== "calendars" && width * sheet.rows.length <= MOST_SHOWN_CELLS;
+    const rows = !isWhole ? null : sheet.rows.map(({ cells }) => Array.from({ length: width }, (_, k) => cells[k] || ""));
     return { name, kind, place, isChosen, count: sheet.rows.length, rows, separator: sheet.separator };
   });
 }
@@ -131,7 +134,7 @@ function foundIn(tables, { choices, marks }, library) {
   return {
     kind: "found", read: sums.join(", "), lines: firstLines(roster, choices.max, answer), rows: plan ? rowsOf(roster, plan) : [],
     left: plan ? leftOut(roster, plan) : [], notes: [...plan ? notesOf(roster, plan, kept) : [], ...lines, ...notesOn(roster, tables)],
-    roster: shown, plan, sheet, lists: plan && plan.pairs.length <= MOST_PAIRS ? listsOf(roster, plan) : { persons: [], objects: [] },
+    roster: shown, plan, kept, calendars: new Map((tableOf(tables, "calendars")?.sheet.rows || []).map(({ cells: [name, text] }) => [name, text])), sheet, lists: plan && plan.pairs.length <= MOST_PAIRS ? listsOf(roster, plan) : { persons: [], objects: [] },
     short: answer.short, tables: shownTables(tables),
   };
 }

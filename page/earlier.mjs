@@ -59,28 +59,28 @@ export function namedPairs(sheet, roster) {
   });
 }
 
-/** @type {(roster: Roster, numbered: { person: number, object: number, line: number }[]) => void} Refuses a name that stands more often than it may. */
-function refuseOften(roster, numbered) {
+/** @type {(roster: Roster, numbered: { person: number, object: number, line: number }[], item: string) => void} Refuses a name that stands more often than it may. */
+function refuseOften(roster, numbered, item) {
   for (const [column, side] of /** @type {["person", "object"]} */ (["person", "object"]).entries()) {
     const all = [...gathered(numbered, (pair) => pair[side])].map(([number, own]) => (
       { number, lines: own.map(({ line }) => line), most: (column ? ofObject(roster, number) : ofPerson(roster, number)).most }));
     const often = all.filter(({ lines, most }) => lines.length > most).sort((one, other) => one.lines[one.most] - other.lines[other.most]);
     for (const { number, lines, most } of often) {
       const name = quoted((column ? roster.objects : roster.persons)[number]);
-      const text = `${name} ${most === 1 ? said("a second time") : said("more times", most)}${most ? `, after line ${lines[0]}` : ""}`;
+      const text = `${name} ${most === 1 ? said("a second time") : said("more times", most)}${most ? `, after ${item} ${lines[0]}` : ""}`;
       throw new RosterFault(text, lines[most], column + 1);
     }
   }
 }
 
-/** @type {(roster: Roster, named: Named[], byCounts: boolean) => OldPlan} An earlier plan as a roster has it now. */
-export function oldPlanOf(roster, named, byCounts) {
+/** @type {(roster: Roster, named: Named[], byCounts: boolean, item?: string) => OldPlan} An earlier plan as a roster has it now. */
+export function oldPlanOf(roster, named, byCounts, item = "line") {
   const gone = named.flatMap(({ person, object }) => [roster.personNumbers.has(person) ? [] : [person], roster.objectNumbers.has(object) ? [] : [object]]).flat();
   const numbered = named.flatMap(({ person, object, line }) => {
     const [one, other] = [roster.personNumbers.get(person), roster.objectNumbers.get(object)];
     return one === undefined || other === undefined ? [] : [{ person: one, object: other, line }];
   });
-  if (byCounts) refuseOften(roster, numbered);
+  if (byCounts) refuseOften(roster, numbered, item);
   const costs = costsOf(roster);
   /** @type {OldPlan} */
   const plan = { named, known: new Map(), gone: [...new Set(gone)], forbidden: new Set() };
@@ -89,7 +89,7 @@ export function oldPlanOf(roster, named, byCounts) {
   for (const { person, object, line } of numbered) {
     const key = pairKey(roster, person, object);
     const before = lines.get(key);
-    if (before) throw new RosterFault(said("pair twice", roster.persons[person], roster.objects[object], before), line);
+    if (before) throw new RosterFault(said("pair twice", roster.persons[person], roster.objects[object], item, before), line);
     lines.set(key, line);
     const cost = costs.get(key);
     if (cost === undefined) plan.forbidden.add(key);

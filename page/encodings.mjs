@@ -8,8 +8,9 @@ const SAMPLE = 65536;
 /** @type {[number[], string][]} */
 const BOMS = [[[0xef, 0xbb, 0xbf], "utf-8"], [[0xff, 0xfe], "utf-16le"], [[0xfe, 0xff], "utf-16be"]];
 const UTF_32 = [[0xff, 0xfe, 0, 0], [0, 0, 0xfe, 0xff]];
-// How workbooks begin: .xlsx, and what was before it.
-const WORKBOOKS = [[0x50, 0x4b, 3, 4], [0xd0, 0xcf, 0x11, 0xe0]];
+// How workbooks begin: .xlsx, which is a zip archive, and what was before it.
+export const ZIP = [0x50, 0x4b, 3, 4];
+const WORKBOOKS = [ZIP, [0xd0, 0xcf, 0x11, 0xe0]];
 // Letters and marks above 127 that western texts of Windows have. Other encodings use other bytes for common letters.
 const WESTERN_LETTERS = new Set(Object.values(SHARED.western).join(""));
 const PLAUSIBLE = new Set(Array.from({ length: 128 }, (_, k) => 128 + k).filter((code) => (
@@ -18,7 +19,7 @@ const PLAUSIBLE = new Set(Array.from({ length: 128 }, (_, k) => 128 + k).filter(
 const QUOTES = new Set([0x82, 0x84, 0x93, 0x94]);
 
 /** @type {(bytes: Uint8Array, begin: number[]) => boolean} */
-function beginsWith(bytes, begin) {
+export function beginsWith(bytes, begin) {
   return begin.every((byte, place) => bytes[place] === byte);
 }
 

@@ -2,6 +2,7 @@
 import { calendarsOf, zipOf } from "./calendars.mjs";
 import { costsOf, pairKey } from "./earlier.mjs";
 import { button, byId, element, table } from "./elements.mjs";
+import { itemOf } from "./faults.mjs";
 import { clearResult, legendOf, listOf, sheetTable, showResult } from "./results.mjs";
 import { csvOf } from "./sheet.mjs";
 import { showTables } from "./tables.mjs";
@@ -10,7 +11,7 @@ const EXAMPLE = "nurse,early,late,night,office\nAda,2.50,4,,1\nBen,3.25,,1.75,2\
 // Spreadsheets read CSV as UTF-8 where it begins with this mark.
 const BOM = "\ufeff";
 const PASTED = "";
-const KEPT = "the kept plan";
+const [KEPT, KEPT_CALENDARS] = ["the kept plan", "the kept plan's calendars"];
 
 /**
  * @typedef {import("./answers.mjs").Reply} Reply
@@ -128,9 +129,9 @@ async function plan() {
 /** @type {(fault: import("./answers.mjs").Fault | import("./answers.mjs").Failure) => string} Where a fault is: its file where there are several, line and column. */
 function placeOf(fault) {
   if (fault.kind === "failure") return "";
-  const [file, line] = [files.length > 1 ? fault.file : "", fault.line ? `line ${fault.line}` : ""];
+  const [file, line] = [files.length > 1 ? fault.file : "", fault.line ? `${itemOf(fault.file)} ${fault.line}` : ""];
   const parts = [file, line, line && fault.column ? `column ${fault.column}` : ""].filter(Boolean);
-  return parts.length ? `${parts.join(", ").replace(/^l/, file ? "l" : "L")}: ` : "";
+  return parts.length ? `${parts.join(", ").replace(/^[lp]/, (letter) => file ? letter : letter.toUpperCase())}: ` : "";
 }
 
 /** @type {(reply: Reply) => void} Shows what the worker replied. */
@@ -275,10 +276,14 @@ function choose(row, column) {
   room.showModal();
 }
 
-/** The plan is from now on the earlier one, from which as little changes as can be. */
+/** The plan is from now on the earlier one, from which as little changes as can be, and so are its calendars. */
 function keep() {
   if (!found) return;
-  files = [...files.filter((_, place) => !tables.some((table) => table.place === place && table.kind === "plan")), { name: KEPT, kind: "plan", rows: found.rows, separator: found.roster.separator }];
+  const calendars = calendarsNow().files.map(({ name, bytes }) => [name, new TextDecoder().decode(bytes)]);
+  const others = files.filter((_, place) => !tables.some((table) => table.place === place && ["plan", "calendars"].includes(table.kind)));
+  const { separator } = found.roster;
+  files = [...others, { name: KEPT, kind: "plan", rows: found.rows, separator }];
+  if (calendars.length) files.push({ name: KEPT_CALENDARS, kind: "calendars", rows: calendars, separator });
   plan();
 }
 
@@ -324,9 +329,12 @@ function saveWall() {
   saveAs(new Blob([`<!DOCTYPE html>\n${page.outerHTML}\n`], { type: "text/html" }), `${rosterName()}-wall.html`);
 }
 
+function calendarsNow() {
+  return calendarsOf(/** @type {Found} */ (found), byId("version", HTMLElement).textContent || "");
+}
+
 function saveCalendars() {
-  const { roster, plan: own } = /** @type {Found} */ (found);
-  const { files: calendars, why } = own ? calendarsOf(roster, own, byId("version", HTMLElement).textContent || "") : { files: [], why: "there is no plan" };
+  const { files: calendars, why } = calendarsNow();
   if (calendars.length) saveAs(zipOf(calendars), `${rosterName()}-calendars.zip`);
   else put("status", `No calendars: ${why}.`);
 }

@@ -72,7 +72,7 @@ export class Pairs {
   refuseTwice(person, object, names, line) {
     const key = person * this.objects.most + object;
     const before = this.lines.get(key);
-    if (before !== undefined) throw new RosterFault(said("pair twice", ...names, before), line);
+    if (before !== undefined) throw new RosterFault(said("pair twice", ...names, "line", before), line);
     this.lines.set(key, line);
   }
 

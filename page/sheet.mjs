@@ -95,11 +95,11 @@ export class Sheet {
     this.read(text);
   }
 
-  /** @type {(rows: string[][], separator: string) => Sheet} A sheet of rows of cells, those of a workbook or of a table. */
-  static ofRows(rows, separator) {
+  /** @type {(rows: string[][], separator: string, first?: number) => Sheet} A sheet of rows of cells, those of a workbook or of a table. */
+  static ofRows(rows, separator, first = 1) {
     const sheet = new Sheet("");
     sheet.separator = separator;
-    rows.forEach((cells, row) => sheet.add(row + 1, cells.map((cell) => unguarded(stripped(cell)))));
+    rows.forEach((cells, row) => sheet.add(row + first, cells.map((cell) => unguarded(stripped(cell)))));
     return sheet;
   }
 

@@ -142,6 +142,12 @@ function withMerged({ name, rows, merged }, xml) {
   return { name, rows: rows.map((cells) => cells.length ? Array.from({ length: Math.max(first, cells.length) }, (_, k) => cells[k] || "") : []), merged };
 }
 
+/** @type {(bytes: Uint8Array) => Promise<string[][] | null>} The calendars of a zip archive, each as its name and its text; null where it has none. */
+export async function calendarsIn(bytes) {
+  const parts = [...partsIn(bytes)].filter(([name]) => /\.ics$/i.test(name));
+  return parts.length ? Promise.all(parts.map(async ([name, unpack]) => [name.replace(/.*\//, ""), await unpack()])) : null;
+}
+
 /** @type {(bytes: Uint8Array, comma: boolean) => Promise<Grid[]>} The sheets of a workbook. */
 export async function gridsOf(bytes, comma) {
   const parts = partsIn(bytes);

@@ -31,7 +31,7 @@ async function faultOr(work) {
     return await work();
   } catch (fault) {
     if (!(fault instanceof RosterFault)) throw fault;
-    return { text: fault.text, file: fault.file, line: fault.line, column: fault.column };
+    return { text: fault.text, file: fault.file.replace(/\.json$/, ""), line: fault.line, column: fault.column };
   }
 }
 
@@ -49,7 +49,8 @@ async function read({ bytes, form, comma, max }) {
 
 async function planned(ward) {
   const given = [["roster", ward.text], ...["places", "tasks", "groups", "plan"].map((kind) => [kind, ward[kind]])];
-  const files = given.filter(([, source]) => source !== undefined).map(([kind, source]) => ({ name: kind, kind, source }));
+  const files = given.filter(([, source]) => source !== undefined).map(([kind, source]) => (
+    source.startsWith("{") ? { name: `${kind}.json`, kind: "", source: new TextEncoder().encode(source).buffer } : { name: kind, kind, source }));
   const { roster, kept, fixed } = readTables(await tablesOf(files, false), { form: "", comma: false, past: ward.past || "" }, MOST_PERSONS);
   const answer = answerOf(roster, { max: ward.max || false, fullest: ward.fullest || false, fixed, kept }, library);
   const found = { said: firstLines(roster, ward.max, answer) };
