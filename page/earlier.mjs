@@ -7,7 +7,7 @@ import { Costs, shown } from "./numbers.mjs";
 import { counted } from "./sentences.mjs";
 import { nameOf } from "./sheet.mjs";
 import { hasBounds, ofObject, ofPerson } from "./takes.mjs";
-import { joined, quoted } from "./texts.mjs";
+import { firstOf, joined, quoted } from "./texts.mjs";
 
 const [CHANGE, GOES, NOT_POSSIBLE] = ["change", "goes", "not possible"];
 export const MOST_SHOWN = 20;
@@ -33,8 +33,7 @@ export function costsOf(roster) {
 
 /** @type {(numbers: number[], names: string[]) => string} The first twenty names of many. */
 function listed(numbers, names) {
-  const more = numbers.length - MOST_SHOWN;
-  return joined(numbers.slice(0, MOST_SHOWN).map((number) => names[number])) + (more > 0 ? ` and ${more} more` : "");
+  return firstOf(numbers.map((number) => names[number]), MOST_SHOWN);
 }
 
 /** @type {(numbers: number[], word: string, names: string[]) => string} How many there are, and the first of their names. */
@@ -168,15 +167,15 @@ export function withPast(roster, groups, kept, name) {
  *   What is said of the past.
  */
 function pastLines(roster, groups, { earlier, name, count, added, passing }) {
-  if (!earlier.length) return [`no ${groups.title} is before ${name}`];
-  const which = `${counted(earlier.length, groups.title)} before ${name} (${listed(earlier, groups.names)})`;
+  if (!earlier.length) return [said("none before", groups.title, name)];
+  const which = said("before", counted(earlier.length, groups.title), name, listed(earlier, groups.names));
   const forbidden = [...new Set(added.map(({ person }) => person))].map((person) => {
     const own = added.filter((pair) => pair.person === person).map((pair) => `${roster.objects[pair.object]}, ${shown(roster, pair.cost)}`);
-    return `${roster.persons[person]} keeps what the roster doesn't allow now: ${own.join("; ")}`;
+    return said("kept though forbidden", roster.persons[person], own.join("; "));
   });
   const more = passing.map(([person, had]) => (
-    `${roster.persons[person]} has ${counted(had, roster.titles[1])} in the past, more than the most of ${ofPerson(roster, person).most}: ${had} is the most`));
-  return [`${counted(count, "pair")} of ${which} ${count === 1 ? "stays" : "stay"}`, ...forbidden, ...more];
+    said("past beyond most", roster.persons[person], counted(had, roster.titles[1]), ofPerson(roster, person).most, had)));
+  return [said(count === 1 ? "stays" : "stay", counted(count, "pair"), which), ...forbidden, ...more];
 }
 
 /** @type {(names: string[], word: string) => string[]} Names that come or go. */
@@ -212,7 +211,7 @@ export function changesOf(roster, pairs, kept) {
   });
   const gone = [...gathered(lost, ({ person, why }) => `${person}\n${why}`).values()].map((own) => (
     `${own[0].person}: ${joined(own.map(({ object }) => object))} ${NOT_POSSIBLE} now (${own[0].why})`));
-  return { comes, goes, lines: [counts.filter(Boolean).join(", ") || "no pair changes", ...own, ...gone] };
+  return { comes, goes, lines: [counts.filter(Boolean).join(", ") || said("no change"), ...own, ...gone] };
 }
 
 /** @type {(roster: Roster, pairs: Pair[]) => { isObject: boolean, number: number, had: number, least: number }[]} Who has fewer than it must. */

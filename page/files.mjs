@@ -1,7 +1,7 @@
 // Files that are known by their titles: a roster, what places and persons take, groups, an earlier plan and rules.
 import { areDailyLines } from "./daily.mjs";
 import { beginsWith, decoded, ZIP } from "./encodings.mjs";
-import { isJson, RosterFault } from "./faults.mjs";
+import { isJson, RosterFault, said } from "./faults.mjs";
 import { sheetOfJson } from "./json.mjs";
 import { looksLikeNumber } from "./numbers.mjs";
 import { Sheet } from "./sheet.mjs";
@@ -40,7 +40,7 @@ async function tablesIn({ name, kind, source, rows, separator }, comma, place) {
   const own = { name, kind, isChosen: kind !== "", isGuess: false, place };
   if (rows) return [{ ...own, sheet: Sheet.ofRows(rows, separator || ",", isJson(name) ? 0 : 1) }];
   const length = typeof source === "string" ? source.length : source?.byteLength || 0;
-  if (length > MOST_BYTES) throw new RosterFault(`longer than ${MOST_BYTES} bytes; the command reads more`);
+  if (length > MOST_BYTES) throw new RosterFault(`${said("long file", MOST_BYTES)}; the command reads more`);
   if (typeof source === "string") return [{ ...own, sheet: new Sheet(source) }];
   const bytes = new Uint8Array(source || new ArrayBuffer(0));
   if (beginsWith(bytes, ZIP)) {

@@ -39,7 +39,7 @@ export class Names {
 
   /** @type {(name: string, line: number, column: number) => number} */
   add(name, line, column) {
-    if (this.list.length === this.most) throw new RosterFault(`more than ${this.most} ${this.kind}`, line, column);
+    if (this.list.length === this.most) throw new RosterFault(said("more names", this.most, this.kind), line, column);
     this.list.push(name);
     for (const spelling of spellings(name)) this.numbers.set(spelling, this.list.length - 1);
     return this.list.length - 1;

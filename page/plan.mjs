@@ -1,6 +1,7 @@
 // The plan of a roster, or who is short of what.
 import { changesOf, missingOf, named, orderOf, pairKey } from "./earlier.mjs";
 import { freePairs } from "./exchanges.mjs";
+import { said } from "./faults.mjs";
 import { gathered, usesOf } from "./gathered.mjs";
 import { cutOf, lacksOf } from "./lacks.mjs";
 import { exact, NoMemory } from "./library.mjs";
@@ -55,9 +56,8 @@ export function countedOf(roster, { max, fixed }) {
 
 /** @type {(roster: Roster, fixed: { object: number }[]) => string} What is planned around, in words. */
 function aroundOf(roster, fixed) {
-  const isPast = fixed.map(({ object }) => roster.past.has(object));
-  const names = [...isPast.includes(true) ? ["the past"] : [], ...isPast.includes(false) ? ["the fixed pairs"] : []];
-  return names.length ? `around ${names.join(" and ")}, ` : "";
+  const names = ["the past", "the fixed pairs"].filter((_, k) => fixed.some(({ object }) => roster.past.has(object) === (k === 0)));
+  return names.length ? said("around", names.map((name) => said(name)).join(said("and"))) : "";
 }
 
 /** @type {(library: Library, counted: Counted) => import("./library.mjs").Answer} A best plan with its numbers. */
@@ -175,6 +175,6 @@ export function listsOf(roster, plan) {
 /** @type {(roster: Roster, plan: Plan, kept: import("./earlier.mjs").OldPlan | null) => string[]} Other plans that are as good, and what changes from an earlier plan. */
 export function notesOf(roster, plan, kept) {
   const swaps = (plan.swaps || []).map(([persons, objects]) => (
-    `could change places at no cost: ${named(persons, roster.titles[0], roster.persons)} on ${named(objects, roster.titles[1], roster.objects)}`));
-  return [...plan.swaps && !swaps.length ? ["no other plan is as good"] : swaps, ...kept ? changesOf(roster, plan.pairs, kept).lines : []];
+    said("swap", named(persons, roster.titles[0], roster.persons), named(objects, roster.titles[1], roster.objects))));
+  return [...plan.swaps && !swaps.length ? [said("only plan")] : swaps, ...kept ? changesOf(roster, plan.pairs, kept).lines : []];
 }

@@ -189,8 +189,8 @@ export function forgotten(roster, { bounds }, isObjects, named) {
   const names = isObjects ? roster.objects : roster.persons;
   const numbers = [...names.keys()].filter((number) => !bounds.has(number));
   const bound = !hasBounds(roster) ? "" : isObjects ? "exactly " : "at most ";
-  const takes = numbers.length === 1 ? "takes" : "each takes";
-  return numbers.length ? [`no line for ${named(numbers, roster.titles[isObjects ? 1 : 0], names)}: ${takes} ${bound}one`] : [];
+  const takes = said(numbers.length === 1 ? "takes" : "each takes");
+  return numbers.length ? [said("no count line", named(numbers, roster.titles[Number(isObjects)], names), takes, bound)] : [];
 }
 
 /** @type {(name: string, group: string) => string} A name without its group's at its begin or end. */

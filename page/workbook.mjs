@@ -15,7 +15,7 @@ function partsIn(bytes) {
   const view = new DataView(bytes.buffer, bytes.byteOffset, bytes.byteLength);
   let end = bytes.length - 22;
   while (end >= 0 && view.getUint32(end, true) !== END_OF_ZIP) end--;
-  if (end < 0) throw new RosterFault(said("no workbook", "it is no zip archive"));
+  if (end < 0) throw new RosterFault(said("no workbook", said("no zip")));
   const parts = new Map();
   for (let at = view.getUint32(end + 16, true); at + 46 <= bytes.length && view.getUint32(at, true) === ENTRY;) {
     const [size, name, extra, comment] = [view.getUint32(at + 20, true), ...[28, 30, 32].map((place) => view.getUint16(at + place, true))];
@@ -167,6 +167,6 @@ export async function gridsOf(bytes, comma) {
     const link = links.get(attribute(tag, "id"));
     if (link?.kind === "worksheet") grids.push(gridOf(attribute(tag, "name"), await part(link.path), { texts, areDates, first, isStale, comma }));
   }
-  if (!grids.length) throw new RosterFault("a workbook without a sheet of cells");
+  if (!grids.length) throw new RosterFault(said("no sheet"));
   return grids;
 }

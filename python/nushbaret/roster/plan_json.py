@@ -75,7 +75,7 @@ def _parsed(path: str) -> Any:
     """What a file has in JSON."""
     data = content_of(path)
     if len(data) > MOST_BYTES:
-        raise RosterFault(path, f"longer than {MOST_BYTES} bytes")
+        raise RosterFault(path, said("long file", MOST_BYTES))
     try:
         text = data.decode("utf-8-sig")
     except UnicodeDecodeError as fault:

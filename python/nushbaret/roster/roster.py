@@ -70,7 +70,7 @@ class Names:
 
     def _add(self, name: str, line: int, column: int) -> int:
         if len(self.list) == MOST_PERSONS:
-            self._sheet.refuse(f"more than {MOST_PERSONS} {self._kind}", line, column)
+            self._sheet.refuse(said("more names", MOST_PERSONS, self._kind), line, column)
         self.list.append(name)
         for spelling in spellings(name):
             self.numbers[spelling] = len(self.list) - 1

@@ -131,8 +131,9 @@ def forgotten_line(roster: Roster, counts: Counts, side: int) -> Optional[str]:
     if not numbers:
         return None
     bound = "" if not roster.has_bounds else "exactly " if side else "at most "
-    takes = "takes" if len(numbers) == 1 else "each takes"
-    return f"{shown_path(counts.path)}: no line for {named(numbers, roster.titles[side], names)}: {takes} {bound}one"
+    takes = said("takes" if len(numbers) == 1 else "each takes")
+    text = said("no count line", named(numbers, roster.titles[side], names), takes, bound)
+    return f"{shown_path(counts.path)}: {text}"
 
 
 def gone_line(plan: OldPlan, roster: Roster) -> str:
@@ -306,11 +307,11 @@ def others(report: Report, plan: NamedPlan) -> List[Note]:
         is_shown = not plan.is_only_one and not options.keep and options.plans < 2 and not options.fair
         return [Note("other plans are as good: --others shows who could change places")] if is_shown else []
     if plan.swaps:
-        return [Note(f"could change places at no cost: {named(swap.persons, roster.titles[0], roster.persons)} "
-                     f"on {named(swap.objects, roster.titles[1], roster.objects)}") for swap in plan.swaps]
+        return [Note(said("swap", named(swap.persons, roster.titles[0], roster.persons),
+                          named(swap.objects, roster.titles[1], roster.objects))) for swap in plan.swaps]
     if not plan.following:
-        return [Note("no other plan is as good")]
-    return [_difference(report, plan, plan.following[0], "no other plan is as good: the next best is", " ")]
+        return [Note(said("only plan"))]
+    return [_difference(report, plan, plan.following[0], said("only plan") + ": the next best is", " ")]
 
 
 def _difference(report: Report, plan: NamedPlan, other: NamedPlan, name: str, mark: str = ": ") -> Note:
@@ -346,7 +347,7 @@ def changes(roster: Roster, plan: NamedPlan, kept: OldPlan) -> Note:
     counts += [(str(len(found.goes)) if counts else counted(len(found.goes), "pair"))
                + _goes(found.goes)] if found.goes else []
     details = [f"{own.person}: {'; '.join(_words_of(own))}" for own in by_person(roster, found)]
-    return Note(f"{shown_path(kept.path)}: {', '.join(counts) or 'no pair changes'}", details + _lost_lines(found.lost))
+    return Note(f"{shown_path(kept.path)}: {', '.join(counts) or said('no change')}", details + _lost_lines(found.lost))
 
 
 def _comes(those: Sequence[object]) -> str:
