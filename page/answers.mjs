@@ -1,8 +1,9 @@
 // What the worker does with files: it reads them, plans the roster, and says all that the page shows.
 import { sheetOf } from "./days.mjs";
-import { costsOf, named, namedPairs, oldPlanOf, pairKey, withPast } from "./earlier.mjs";
-import { itemOf, RosterFault, said, within } from "./faults.mjs";
+import { costsOf, named, namedPairs, numbersOf, oldPlanOf, pairKey, withPast } from "./earlier.mjs";
+import { itemOf, refuse, RosterFault, said, within } from "./faults.mjs";
 import { tablesOf } from "./files.mjs";
+import { usesOf } from "./gathered.mjs";
 import { MOST_PERSONS, NoMemory } from "./library.mjs";
 import { alike } from "./names.mjs";
 import { answerOf, firstLines, leftOut, listsOf, notesOf, rowsOf } from "./plan.mjs";
@@ -90,21 +91,17 @@ export function readTables(tables, choices, most = MOST_PERSONS) {
 
 /** @type {(read: Read, marks: Mark[]) => Read} The roster without pairs that must not be, and the pairs that are to be in the plan. */
 export function withMarks({ roster, kept, fixed, lines }, marks) {
-  const numbered = marks.flatMap(({ person, object, isFixed }) => {
-    const [one, other] = [roster.personNumbers.get(person), roster.objectNumbers.get(object)];
-    return one === undefined || other === undefined || roster.past.has(other) ? [] : [{ person: one, object: other, isFixed, key: pairKey(roster, one, other) }];
-  });
+  const numbered = numbersOf(roster, marks).filter(({ object }) => !roster.past.has(object));
   const barred = new Set(numbered.filter(({ isFixed }) => !isFixed).map(({ key }) => key));
   const left = [...roster.costs.keys()].filter((k) => !barred.has(pairKey(roster, roster.ofPersons[k], roster.ofObjects[k])));
   const costs = costsOf(roster);
-  const own = numbered.filter(({ isFixed, key }) => isFixed && costs.has(key)).map(({ person, object, key }) => ({ person, object, cost: costs.get(key) ?? 0 }));
-  const all = [...fixed, ...own];
-  for (const { person, object } of own) {
-    const [had, used] = [all.filter((pair) => pair.person === person).length, all.filter((pair) => pair.object === object).length];
-    const [most, room] = [ofPerson(roster, person).most, ofObject(roster, object).most];
-    const names = `${roster.persons[person]}, ${roster.objects[object]}`;
-    if (had > most) throw new RosterFault(said("most with the past", names, roster.persons[person], had, most));
-    if (used > room) throw new RosterFault(`with ${names} ${roster.objects[object]} has ${used}, where ${room} is the most`);
+  const own = numbered.filter(({ isFixed, key }) => isFixed && costs.has(key));
+  const all = [...fixed, ...own.map(({ person, object, key }) => ({ person, object, cost: costs.get(key) ?? 0 }))];
+  const [had, used] = usesOf(all);
+  for (const { person, object, name } of own) {
+    const [count, most, uses, room] = [had.get(person) || 0, ofPerson(roster, person).most, used.get(object) || 0, ofObject(roster, object).most];
+    if (count > most) refuse(0, 0, "most with the past", name, roster.persons[person], count, most);
+    if (uses > room) throw new RosterFault(`with ${name} ${roster.objects[object]} has ${uses}, where ${room} is the most`);
   }
   if (!barred.size) return { roster, kept, fixed: all, lines };
   const [ofPersons, ofObjects, ownCosts] = [roster.ofPersons, roster.ofObjects, roster.costs].map((list) => left.map((k) => list[k]));

@@ -1,7 +1,7 @@
 // Rosters by days: lines of a person, a day, a shift and a cost, and matrices with two title rows, the days over their shifts. Objects
 // are then called by shift and day, which are their kind and their group.
 import { datesOf, spellings } from "./dates.mjs";
-import { RosterFault, said } from "./faults.mjs";
+import { refuse } from "./faults.mjs";
 import { Pairs } from "./names.mjs";
 import { looksLikeNumber } from "./numbers.mjs";
 import { nameOf } from "./sheet.mjs";
@@ -104,13 +104,13 @@ export function readDailyMatrix(sheet, costs, most) {
   const columns = [];
   heads.shifts.forEach((shift, k) => {
     const number = objects.number(heads.days[k], shift, heads.line, [k + 2, k + 2]);
-    if (columns.includes(number)) throw new RosterFault(said("shift twice", quoted(shift), quoted(heads.days[k])), heads.line, k + 2);
+    if (columns.includes(number)) refuse(heads.line, k + 2, "shift twice", quoted(shift), quoted(heads.days[k]));
     columns.push(number);
   });
   for (const { line, cells } of [...sheet.records()].slice(1)) {
-    if (cells.slice(columns.length + 1).some(Boolean)) throw new RosterFault(said("cells of two titles", cells.length, columns.length + 1), line);
+    if (cells.slice(columns.length + 1).some(Boolean)) refuse(line, 0, "cells of two titles", cells.length, columns.length + 1);
     pairs.takeRow(cells, columns, line);
   }
-  if (!pairs.persons.list.length) throw new RosterFault(said("no line after two"), heads.line);
+  if (!pairs.persons.list.length) refuse(heads.line, 0, "no line after two");
   return { titles: [heads.corner ? nameOf(heads.corner, heads.line, 1) : "person", "shift", "cost"], pairs, groups: objects.groups };
 }

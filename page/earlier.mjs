@@ -1,7 +1,7 @@
 // An earlier plan: its pairs by names, what changes from it, and the past, whose pairs stay as they were.
 import { datesOf } from "./dates.mjs";
-import { RosterFault, said } from "./faults.mjs";
-import { gathered, usesOf } from "./gathered.mjs";
+import { refuse, RosterFault, said } from "./faults.mjs";
+import { gathered, rising, usesOf } from "./gathered.mjs";
 import { hintOf } from "./names.mjs";
 import { Costs, shown } from "./numbers.mjs";
 import { counted } from "./sentences.mjs";
@@ -26,6 +26,20 @@ export function pairKey({ objects }, person, object) {
   return person * objects.length + object;
 }
 
+/**
+ * @template {{ person: string, object: string }} Own
+ * @param {Roster} roster
+ * @param {Own[]} pairs
+ * @returns Those whose names the roster has, with their numbers and their key.
+ */
+export function numbersOf(roster, pairs) {
+  return pairs.flatMap((pair) => {
+    const [person, object] = [roster.personNumbers.get(pair.person), roster.objectNumbers.get(pair.object)];
+    if (person === undefined || object === undefined) return [];
+    return [{ ...pair, person, object, key: pairKey(roster, person, object), name: `${roster.persons[person]}, ${roster.objects[object]}` }];
+  });
+}
+
 /** @type {(roster: Roster) => Map<number, number>} The cost of each pair that is allowed, by its key. */
 export function costsOf(roster) {
   return new Map(roster.costs.map((cost, k) => [pairKey(roster, roster.ofPersons[k], roster.ofObjects[k]), cost]));
@@ -44,9 +58,9 @@ export function named(numbers, word, names) {
 /** @type {(sheet: import("./sheet.mjs").Sheet, roster: Roster) => Named[]} The pairs of a plan in lines, by names. */
 export function namedPairs(sheet, roster) {
   const { line: first, cells: title } = sheet.title();
-  if (title.length < 2) throw new RosterFault(said("person and object"), first);
+  if (title.length < 2) refuse(first, 0, "person and object");
   const { persons, objects, personNumbers, objectNumbers, groups } = roster;
-  if (personNumbers.has(title[0]) && objectNumbers.has(title[1])) throw new RosterFault(said("pair for a title", title[0], title[1]), first);
+  if (personNumbers.has(title[0]) && objectNumbers.has(title[1])) refuse(first, 0, "pair for a title", title[0], title[1]);
   const change = title.indexOf(CHANGE, 3);
   const hasCosts = title.length > 2 && (!groups || title[2] !== groups.title);
   return [...sheet.body(title.length)].filter(({ cells }) => change < 0 || ![GOES, NOT_POSSIBLE].includes(cells[change])).map(({ line, cells }) => {
@@ -74,27 +88,19 @@ function refuseOften(roster, numbered, item) {
 
 /** @type {(roster: Roster, named: Named[], byCounts: boolean, item?: string) => OldPlan} An earlier plan as a roster has it now. */
 export function oldPlanOf(roster, named, byCounts, item = "line") {
-  const gone = named.flatMap(({ person, object }) => [roster.personNumbers.has(person) ? [] : [person], roster.objectNumbers.has(object) ? [] : [object]]).flat();
-  const numbered = named.flatMap(({ person, object, line }) => {
-    const [one, other] = [roster.personNumbers.get(person), roster.objectNumbers.get(object)];
-    return one === undefined || other === undefined ? [] : [{ person: one, object: other, line }];
-  });
-  if (byCounts) refuseOften(roster, numbered, item);
+  const those = numbersOf(roster, named);
+  if (byCounts) refuseOften(roster, those, item);
+  const [twice] = [...gathered(those, ({ key }) => key).values()].filter(([, again]) => again).sort(([, one], [, other]) => one.line - other.line);
+  if (twice) refuse(twice[1].line, 0, "pair twice", twice[0].name, item, twice[0].line);
   const costs = costsOf(roster);
-  /** @type {OldPlan} */
-  const plan = { named, known: new Map(), gone: [...new Set(gone)], forbidden: new Set() };
-  /** @type {Map<number, number>} */
-  const lines = new Map();
-  for (const { person, object, line } of numbered) {
-    const key = pairKey(roster, person, object);
-    const before = lines.get(key);
-    if (before) throw new RosterFault(said("pair twice", roster.persons[person], roster.objects[object], item, before), line);
-    lines.set(key, line);
+  const known = those.flatMap(({ person, object, key }) => {
     const cost = costs.get(key);
-    if (cost === undefined) plan.forbidden.add(key);
-    else plan.known.set(key, { person, object, cost });
-  }
-  return plan;
+    return cost === undefined ? [] : [/** @type {[number, Pair]} */ ([key, { person, object, cost }])];
+  });
+  const gone = named.flatMap(({ person, object }) => [
+    ...roster.personNumbers.has(person) ? [] : [person], ...roster.objectNumbers.has(object) ? [] : [object]]);
+  const forbidden = those.map(({ key }) => key).filter((key) => !costs.has(key));
+  return { named, known: new Map(known), gone: [...new Set(gone)], forbidden: new Set(forbidden) };
 }
 
 /** @type {(groups: import("./takes.mjs").Groups, name: string) => number[]} The groups before one: by date where all are dates, and else in the order of their file. */
@@ -111,7 +117,7 @@ function costInFile(roster, { cost, line }) {
   const costs = new Costs(roster.comma);
   costs.take(cost, line, 3);
   const { decimals, units } = costs.scaled();
-  if (decimals > roster.decimals) throw new RosterFault(said("many places", quoted(cost), roster.decimals, ""), line, 3);
+  if (decimals > roster.decimals) refuse(line, 3, "many places", quoted(cost), roster.decimals, "");
   return units[0] * 10 ** (roster.decimals - decimals);
 }
 
@@ -178,9 +184,9 @@ function pastLines(roster, groups, { earlier, name, count, added, passing }) {
   return [said(count === 1 ? "stays" : "stay", counted(count, "pair"), which), ...forbidden, ...more];
 }
 
-/** @type {(names: string[], word: string) => string[]} Names that come or go. */
-function moved(names, word) {
-  return names.length ? [`${joined(names)} ${word}${names.length === 1 ? "s" : ""}`] : [];
+/** @type {(way: "come" | "go", those: Pair[], what: string) => string[]} What comes, or goes. */
+function moved(way, those, what) {
+  return those.length ? [said(those.length === 1 ? `${way} alone` : way, what)] : [];
 }
 
 /**
@@ -195,13 +201,14 @@ export function changesOf(roster, pairs, kept) {
   const left = [...kept.known].filter(([key]) => !now.has(key)).map(([, pair]) => pair).sort((one, other) => one.person - other.person || one.object - other.object);
   const goes = left.filter(({ person, object }) => !isFull(person, object));
   const comes = pairs.filter(({ person, object }) => !kept.known.has(pairKey(roster, person, object)));
-  const of = (/** @type {number} */ person) => (/** @type {Pair} */ pair) => pair.person === person;
-  const names = (/** @type {Pair[]} */ those) => those.map(({ object }) => roster.objects[object]);
-  const persons = [...new Set([...goes, ...comes].map(({ person }) => person))].sort((one, other) => one - other);
-  const counts = [comes.length ? `${counted(comes.length, "pair")} come${comes.length === 1 ? "s" : ""}` : "",
-    goes.length ? `${comes.length ? goes.length : counted(goes.length, "pair")} go${goes.length === 1 ? "es" : ""}` : ""];
-  const own = persons.map((person) => (
-    `${roster.persons[person]}: ${[...moved(names(goes.filter(of(person))), "go").map((text) => text.replace(/gos$/, "goes")), ...moved(names(comes.filter(of(person))), "come")].join("; ")}`));
+  const names = (/** @type {Pair[]} */ those) => joined(those.map(({ object }) => roster.objects[object]));
+  const persons = [...new Set([...goes, ...comes].map(({ person }) => person))].sort(rising);
+  const counts = [
+    ...moved("come", comes, counted(comes.length, "pair")), ...moved("go", goes, comes.length ? String(goes.length) : counted(goes.length, "pair"))];
+  const own = persons.map((number) => {
+    const [gone, fresh] = [goes, comes].map((those) => those.filter(({ person }) => person === number));
+    return `${roster.persons[number]}: ${[...moved("go", gone, names(gone)), ...moved("come", fresh, names(fresh))].join("; ")}`;
+  });
   const lost = kept.named.flatMap(({ person, object }) => {
     const [one, other] = [roster.personNumbers.get(person), roster.objectNumbers.get(object)];
     if (one === undefined || other === undefined) return [{ person, object, why: "gone" }];
@@ -211,7 +218,7 @@ export function changesOf(roster, pairs, kept) {
   });
   const gone = [...gathered(lost, ({ person, why }) => `${person}\n${why}`).values()].map((own) => (
     `${own[0].person}: ${joined(own.map(({ object }) => object))} ${NOT_POSSIBLE} now (${own[0].why})`));
-  return { comes, goes, lines: [counts.filter(Boolean).join(", ") || said("no change"), ...own, ...gone] };
+  return { comes, goes, lines: [counts.join(", ") || said("no change"), ...own, ...gone] };
 }
 
 /** @type {(roster: Roster, pairs: Pair[]) => { isObject: boolean, number: number, had: number, least: number }[]} Who has fewer than it must. */

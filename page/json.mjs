@@ -1,5 +1,5 @@
 // An earlier plan in the command's JSON, as a sheet of its pairs. The number of a pair is its line.
-import { RosterFault, said } from "./faults.mjs";
+import { refuse, said } from "./faults.mjs";
 import { Sheet } from "./sheet.mjs";
 import { guarded, quoted, stripped } from "./texts.mjs";
 
@@ -17,7 +17,7 @@ function parsed(text) {
   try {
     return JSON.parse(text);
   } catch (fault) {
-    throw new RosterFault(said("no JSON", said("JSON is otherwise")));
+    refuse(0, 0, "no JSON", said("JSON is otherwise"));
   }
 }
 
@@ -25,9 +25,9 @@ function parsed(text) {
 function nameIn(pair, key, line) {
   const name = pair[key];
   if (typeof name !== "string") {
-    throw new RosterFault(said("two texts", key in pair ? said("its name", key, kindOf(name)) : said("it has no", key)), line);
+    refuse(line, 0, "two texts", key in pair ? said("its name", key, kindOf(name)) : said("it has no", key));
   }
-  if (!stripped(name)) throw new RosterFault(said("odd name", said("no name"), key), line);
+  if (!stripped(name)) refuse(line, 0, "odd name", said("no name"), key);
   return guarded(stripped(name));
 }
 
@@ -37,17 +37,17 @@ export function sheetOfJson(text, comma) {
   if (!Array.isArray(plan?.pairs)) {
     const isObject = kindOf(plan) === said("object");
     const what = !isObject ? said("it is", kindOf(plan)) : "pairs" in plan ? said("its pairs", kindOf(plan.pairs)) : said("it has no", "'pairs'");
-    throw new RosterFault(said("no plan", what));
+    refuse(0, 0, "no plan", what);
   }
   const { pairs, format = FORMAT } = plan;
   if (!Number.isInteger(format) || format < 1 || format > FORMAT) {
     const shown = typeof format === "string" ? quoted(format) : typeof format === "number" ? format : kindOf(format);
-    throw new RosterFault(said("format", shown, FORMAT));
+    refuse(0, 0, "format", shown, FORMAT);
   }
   const rows = pairs.map((/** @type {any} */ pair, /** @type {number} */ k) => {
-    if (kindOf(pair) !== said("object")) throw new RosterFault(said("no pair", kindOf(pair)), k + 1);
+    if (kindOf(pair) !== said("object")) refuse(k + 1, 0, "no pair", kindOf(pair));
     const cost = pair.cost ?? "";
-    if (!["string", "number"].includes(typeof cost)) throw new RosterFault(said("odd cost", kindOf(cost)), k + 1);
+    if (!["string", "number"].includes(typeof cost)) refuse(k + 1, 0, "odd cost", kindOf(cost));
     return [nameIn(pair, "person", k + 1), nameIn(pair, "object", k + 1), String(cost).replace(".", comma ? "," : ".")];
   });
   return Sheet.ofRows([["person", "object", "cost"], ...rows], comma ? ";" : ",", 0);

@@ -1,6 +1,6 @@
 // The names of one side of a roster. A date is one name however it is written.
 import { spellings } from "./dates.mjs";
-import { RosterFault, said } from "./faults.mjs";
+import { refuse, RosterFault, said } from "./faults.mjs";
 import { gathered } from "./gathered.mjs";
 import { nameOf } from "./sheet.mjs";
 import { bare, quoted } from "./texts.mjs";
@@ -39,7 +39,7 @@ export class Names {
 
   /** @type {(name: string, line: number, column: number) => number} */
   add(name, line, column) {
-    if (this.list.length === this.most) throw new RosterFault(said("more names", this.most, this.kind), line, column);
+    if (this.list.length === this.most) refuse(line, column, "more names", this.most, this.kind);
     this.list.push(name);
     for (const spelling of spellings(name)) this.numbers.set(spelling, this.list.length - 1);
     return this.list.length - 1;
@@ -72,7 +72,7 @@ export class Pairs {
   refuseTwice(person, object, names, line) {
     const key = person * this.objects.most + object;
     const before = this.lines.get(key);
-    if (before !== undefined) throw new RosterFault(said("pair twice", ...names, "line", before), line);
+    if (before !== undefined) refuse(line, 0, "pair twice", names.join(", "), "line", before);
     this.lines.set(key, line);
   }
 

@@ -5,7 +5,7 @@ import { said } from "./faults.mjs";
 import { gathered, usesOf } from "./gathered.mjs";
 import { cutOf, lacksOf } from "./lacks.mjs";
 import { exact, NoMemory } from "./library.mjs";
-import { fixedBy, narrowed, wholePlan } from "./narrowed.mjs";
+import { fixedBy, less, narrowed, wholePlan } from "./narrowed.mjs";
 import { shown } from "./numbers.mjs";
 import { counted, sentence } from "./sentences.mjs";
 import { hasBounds, ofObject, ofPerson } from "./takes.mjs";
@@ -23,11 +23,6 @@ const MOST_EXCHANGED = 100000;
  * @typedef {{ max: boolean, fullest: boolean, fixed: import("./earlier.mjs").Pair[], kept: import("./earlier.mjs").OldPlan | null }} Request
  * @typedef {{ plan: Plan | null, sentences: string[], short: { persons: number[], objects: number[] } }} Answer
  */
-
-/** @type {(bounds: import("./library.mjs").Bounds, count: number | undefined) => import("./library.mjs").Bounds} What a count leaves next to what is given. */
-function less({ least, most }, count = 0) {
-  return { least: Math.max(0, least - count), most: most - count };
-}
 
 /** @type {(roster: Roster, request: Request) => { counted: Counted, places: number[] }} What is left to plan around the fixed pairs, with costs that are to be least, and the places of its pairs in the roster. */
 export function countedOf(roster, { max, fixed }) {

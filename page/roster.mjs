@@ -1,6 +1,6 @@
 // Rosters: persons, objects and costs by name, in lines of pairs or as a matrix. They are read as the command reads them.
 import { areDailyLines, headsOf, readDailyLines, readDailyMatrix } from "./daily.mjs";
-import { RosterFault, said } from "./faults.mjs";
+import { refuse, RosterFault, said } from "./faults.mjs";
 import { Pairs } from "./names.mjs";
 import { Costs, looksLikeNumber } from "./numbers.mjs";
 import { nameOf } from "./sheet.mjs";
@@ -95,11 +95,9 @@ function readLines(sheet, costs, most) {
   const { line: first, cells: title } = sheet.title();
   if (title.length !== 3) {
     const fourth = title.length > 3 ? said("fourth", quoted(title[3])) : "";
-    throw new RosterFault(said("titles", title.length, fourth), first);
+    refuse(first, 0, "titles", title.length, fourth);
   }
-  if (looksLikeNumber(title[2])) {
-    throw new RosterFault(said("no title", quoted(title[2])), first, 3);
-  }
+  if (looksLikeNumber(title[2])) refuse(first, 3, "no title", quoted(title[2]));
   const titles = title.map((cell, place) => cell === "" ? TITLES[place] : nameOf(cell, first, place + 1));
   const pairs = new Pairs(costs, most);
   for (const { line, cells } of sheet.body(3)) {
@@ -107,20 +105,18 @@ function readLines(sheet, costs, most) {
     pairs.refuseTwice(person, object, cells.slice(0, 2), line);
     pairs.take(person, object, cells[2], line, 3);
   }
-  if (!pairs.ofPersons.length) throw new RosterFault(said("no line"), first);
+  if (!pairs.ofPersons.length) refuse(first, 0, "no line");
   return { titles, pairs };
 }
 
 /** @type {(sheet: Sheet, costs: Costs, most: number) => Read} */
 function readMatrix(sheet, costs, most) {
   const { line: first, cells: title } = sheet.title();
-  if (looksLikeNumber(title[0])) {
-    throw new RosterFault(said("number for a title", quoted(title[0])), first, 1);
-  }
-  if (title.length < 2) throw new RosterFault(said("no object"), first);
+  if (looksLikeNumber(title[0])) refuse(first, 1, "number for a title", quoted(title[0]));
+  if (title.length < 2) refuse(first, 0, "no object");
   const pairs = new Pairs(costs, most);
   const objects = title.slice(1).map((cell, place) => pairs.objects.once(cell, first, place + 2));
   for (const { line, cells } of sheet.body(title.length)) pairs.takeRow(cells, objects, line);
-  if (!pairs.persons.list.length) throw new RosterFault(said("no line"), first);
+  if (!pairs.persons.list.length) refuse(first, 0, "no line");
   return { titles: [title[0] === "" ? TITLES[0] : nameOf(title[0], first, 1), TITLES[1], TITLES[2]], pairs };
 }

@@ -1,5 +1,5 @@
 // The cells of CSV and of pasted cells, and what is wrong in them; and a plan as CSV, a roster of lines that is read again. Lines and columns are counted from 1.
-import { RosterFault, said } from "./faults.mjs";
+import { refuse, RosterFault, said } from "./faults.mjs";
 import { guarded, hasControl, isPrintable, onOneLine, quoted, stripped, unguarded } from "./texts.mjs";
 
 const SEPARATORS = ";\t,";
@@ -129,7 +129,7 @@ export class Sheet {
     const { line, cells } = this.rows[0];
     let width = cells.length;
     while (cells[width - 1] === "") width--;
-    if (this.merged.has(line)) throw new RosterFault(said("merged title", quoted(cells[0])), line);
+    if (this.merged.has(line)) refuse(line, 0, "merged title", quoted(cells[0]));
     return { line, cells: cells.slice(0, width) };
   }
 
@@ -138,7 +138,7 @@ export class Sheet {
     for (const { line, cells } of this.records()) {
       if (cells.length < width || cells.slice(width).some((cell) => cell !== "")) {
         const hint = cells.length > width && this.separator === "," ? said("comma in a cell") : "";
-        throw new RosterFault(said("cells", cells.length, width, hint), line);
+        refuse(line, 0, "cells", cells.length, width, hint);
       }
       yield { line, cells: cells.slice(0, width) };
     }
@@ -157,9 +157,9 @@ export class Sheet {
  */
 export function nameOf(cell, line, column) {
   const name = isPrintable(cell) ? cell : onOneLine(cell);
-  if (name === "") throw new RosterFault(said("no name"), line, column);
-  if (isLong(name)) throw new RosterFault(said("long name", MOST_LETTERS), line, column);
-  if (hasControl(name)) throw new RosterFault(said("control", quoted(name)), line, column);
+  if (name === "") refuse(line, column, "no name");
+  if (isLong(name)) refuse(line, column, "long name", MOST_LETTERS);
+  if (hasControl(name)) refuse(line, column, "control", quoted(name));
   return name.normalize("NFC");
 }
 

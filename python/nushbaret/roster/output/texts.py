@@ -343,25 +343,20 @@ def there(roster: Roster, plan: NamedPlan, pairs: Sequence[Pair]) -> List[str]:
 def changes(roster: Roster, plan: NamedPlan, kept: OldPlan) -> Note:
     """How many pairs come and go from an earlier plan, and whose; and what can't be any more."""
     found = changes_of(roster, plan, kept)
-    counts = [counted(len(found.comes), "pair") + _comes(found.comes)] if found.comes else []
-    counts += [(str(len(found.goes)) if counts else counted(len(found.goes), "pair"))
-               + _goes(found.goes)] if found.goes else []
+    goes = str(len(found.goes)) if found.comes else counted(len(found.goes), "pair")
+    counts = _moved("come", found.comes, counted(len(found.comes), "pair")) + _moved("go", found.goes, goes)
     details = [f"{own.person}: {'; '.join(_words_of(own))}" for own in by_person(roster, found)]
     return Note(f"{shown_path(kept.path)}: {', '.join(counts) or said('no change')}", details + _lost_lines(found.lost))
 
 
-def _comes(those: Sequence[object]) -> str:
-    return " comes" if len(those) == 1 else " come"
-
-
-def _goes(those: Sequence[object]) -> str:
-    return " goes" if len(those) == 1 else " go"
+def _moved(way: str, those: Sequence[object], what: str) -> List[str]:
+    """What comes, or goes."""
+    return [said(f"{way} alone" if len(those) == 1 else way, what)] if those else []
 
 
 def _words_of(own: OfPerson) -> List[str]:
     """What goes and what comes."""
-    goes, comes = joined(own.goes) + _goes(own.goes), joined(own.comes) + _comes(own.comes)
-    return [goes] * bool(own.goes) + [comes] * bool(own.comes)
+    return _moved("go", own.goes, joined(own.goes)) + _moved("come", own.comes, joined(own.comes))
 
 
 def _lost_lines(lost: Sequence[Lost]) -> List[str]:
