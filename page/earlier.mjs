@@ -10,7 +10,7 @@ import { hasBounds, ofObject, ofPerson } from "./takes.mjs";
 import { firstOf, joined, quoted } from "./texts.mjs";
 
 const [CHANGE, GOES, NOT_POSSIBLE] = ["change", "goes", "not possible"];
-export const MOST_SHOWN = 20;
+const MOST_SHOWN = 20;
 /**
  * @typedef {import("./roster.mjs").Roster} Roster
  * @typedef {import("./library.mjs").Bounds} Bounds

@@ -9,7 +9,7 @@ import { calendarsIn, gridsOf } from "./workbook.mjs";
 
 // More bytes would need more memory than browsers give.
 const MOST_BYTES = 2 ** 25;
-export const UNUSED = "unused";
+const UNUSED = "unused";
 export const KINDS = ["roster", "places", "tasks", "groups", "plan", "calendars", "rules", UNUSED];
 const COUNT_TITLES = /^(?:(?:at )?(?:least|most)|wanted|price|min(?:imum)?|max(?:imum)?|count|number|how many)$/;
 const RULE = /^rules?$/;

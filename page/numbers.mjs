@@ -2,8 +2,8 @@
 import { refuse, said } from "./faults.mjs";
 import { quoted } from "./texts.mjs";
 
-export const MOST_PLACES = 6;
-export const GREATEST_COST = 1e12;
+const MOST_PLACES = 6;
+const GREATEST_COST = 1e12;
 const WITH_POWER = /^([+-]?)([0-9]+)(?:[.,]([0-9]*))?[eE]([+-]?[0-9]{1,2})$/;
 
 /** @type {(cell: string) => boolean} Whether a cell might be meant as a number, of any make. */
@@ -11,16 +11,11 @@ export function looksLikeNumber(cell) {
   return /^[+-]?[0-9., ']*[0-9][0-9., ']*([eE][+-]?[0-9]{1,2})?$/.test(cell);
 }
 
-/** @type {(units: bigint, decimals: number, point: string) => string} A whole number of units of 10^-decimals as the roster writes it. */
-export function decimalText(units, decimals, point) {
-  const digits = String(units < 0n ? -units : units).padStart(decimals + 1, "0");
-  const whole = digits.slice(0, digits.length - decimals);
-  return (units < 0n ? "-" : "") + whole + (decimals ? point + digits.slice(-decimals) : "");
-}
-
 /** @type {(roster: { decimals: number, comma: boolean }, units: bigint | number) => string} Units of a roster as it writes costs. */
-export function shown(roster, units) {
-  return decimalText(BigInt(units), roster.decimals, roster.comma ? "," : ".");
+export function shown({ decimals, comma }, units) {
+  const digits = String(units).replace("-", "").padStart(decimals + 1, "0");
+  const part = decimals ? (comma ? "," : ".") + digits.slice(-decimals) : "";
+  return (units < 0 ? "-" : "") + digits.slice(0, digits.length - decimals) + part;
 }
 
 /** @type {(cell: string, comma: boolean) => string} A cell such as 1.2E+03 as a plain number, and any other as it is. */

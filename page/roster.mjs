@@ -6,7 +6,7 @@ import { Costs, looksLikeNumber } from "./numbers.mjs";
 import { nameOf } from "./sheet.mjs";
 import { quoted } from "./texts.mjs";
 
-export const TITLES = ["person", "object", "cost"];
+const TITLES = ["person", "object", "cost"];
 
 /**
  * A problem by names. Pair k is of `persons[ofPersons[k]]` and `objects[ofObjects[k]]`, no pair twice; `costs[k]` is in units of

@@ -8,7 +8,7 @@ import { nameOf } from "./sheet.mjs";
 import { isPrintable, quoted } from "./texts.mjs";
 
 const [DAY, FROM, TO, KIND] = [24 * 60, "from", "to", "kind"];
-export const PRICED = ["wanted", "price"];
+const PRICED = ["wanted", "price"];
 /**
  * @typedef {import("./library.mjs").Bounds} Bounds
  * @typedef {import("./roster.mjs").Roster} Roster
@@ -98,9 +98,14 @@ export function readCounts(sheet, roster, ofObjects) {
   return { bounds, areRanges, title: title[0] };
 }
 
+/** @type {(title: string[], word: string) => number[]} The columns after the first two that are titled so. */
+function columnsOf(title, word) {
+  return [...title.keys()].filter((place) => place > 1 && title[place].toLowerCase() === word);
+}
+
 /** @type {(title: string[], line: number) => number[]} Which columns have times, none where no title says so. */
 function columnsOfTimes(title, line) {
-  const places = [FROM, TO].map((word) => [...title.keys()].filter((place) => place > 1 && title[place].toLowerCase() === word));
+  const places = [FROM, TO].map((word) => columnsOf(title, word));
   if (!places.flat().length) return [];
   [[FROM, TO], [TO, FROM]].forEach(([word, other], k) => {
     const count = places[k].length;
@@ -124,7 +129,7 @@ export function readGroups(sheet, roster) {
   if (title.length < 2) refuse(first, 0, "object and group");
   if (roster.objectNumbers.has(title[0])) refuse(first, 1, "object for a title", quoted(title[0]));
   const times = columnsOfTimes(title, first);
-  const kinds = [...title.keys()].filter((place) => place > 1 && title[place].toLowerCase() === KIND);
+  const kinds = columnsOf(title, KIND);
   if (kinds.length > 1) refuse(first, kinds[1] + 1, "kinds", kinds.length, quoted(KIND));
   /** @type {Groups} */
   const groups = { title: title[1] && nameOf(title[1], first, 2), names: [], ofObjects: new Map(), times: new Map(), kinds: new Map(), of: title[0] };
