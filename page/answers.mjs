@@ -52,7 +52,7 @@ const [MOST_NOTES, MOST_SHOWN_CELLS, MOST_PAIRS, MOST_DRAWN] = [20, 20000, 5000,
 function notesOn(roster, tables) {
   const groups = [...alike(roster.persons), ...alike(roster.objects)];
   const notes = groups.slice(0, MOST_NOTES).map((group) => said("alike", group.map(quoted).join(", ")));
-  if (groups.length > MOST_NOTES) notes.push(`and ${groups.length - MOST_NOTES} more of these names`);
+  if (groups.length > MOST_NOTES) notes.push(said("more alike", groups.length - MOST_NOTES));
   const guesses = tables.filter(({ isGuess }) => isGuess);
   const files = guesses.map(({ name }) => tables.length > 1 ? `${name} is` : "The file is");
   return [...files.map((file) => `${file} read as Windows-1252, since it is no UTF-8`), ...notes];

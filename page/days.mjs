@@ -1,6 +1,7 @@
 // A plan as one sheet: who has what on which day, by letters, what each has in all, and each day's staff of how many.
 import { DAY_NAMES, datesOf, hasWeekday, isoOf, weekdayOf, weekendsAmong } from "./dates.mjs";
 import { costsOf, orderOf, pairKey } from "./earlier.mjs";
+import { said } from "./faults.mjs";
 import { countsOf, gathered, usesOf } from "./gathered.mjs";
 import { shown } from "./numbers.mjs";
 import { hasBounds, ofObject, withoutGroup } from "./takes.mjs";
@@ -83,8 +84,8 @@ export function sheetOf(roster, plan, kept) {
   const ofKinds = kinds.length > 1 && kinds.length <= 4 ? kinds : [];
   const hasWeekends = days.some(({ isWeekend }) => isWeekend);
   const columns = [
-    { title: "\u03a3", meaning: "all shifts" }, ...ofKinds.map((kind) => ({ title: letters.get(kind) || "", meaning: kind })),
-    ...hasWeekends ? [{ title: "we", meaning: "weekends with a shift" }] : [], { title: roster.titles[2], meaning: "" }];
+    { title: "\u03a3", meaning: said("all shifts") }, ...ofKinds.map((kind) => ({ title: letters.get(kind) || "", meaning: kind })),
+    ...hasWeekends ? [{ title: "we", meaning: said("weekends") }] : [], { title: roster.titles[2], meaning: "" }];
   const rows = persons.map((name, person) => {
     const own = cells[person].flatMap(({ entries }) => entries);
     const cost = (ofPersons.get(person) || []).reduce((sum, pair) => sum + BigInt(pair.cost), 0n);

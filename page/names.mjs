@@ -1,6 +1,6 @@
 // The names of one side of a roster. A date is one name however it is written.
 import { spellings } from "./dates.mjs";
-import { refuse, RosterFault, said } from "./faults.mjs";
+import { refuse, said } from "./faults.mjs";
 import { gathered } from "./gathered.mjs";
 import { nameOf } from "./sheet.mjs";
 import { bare, quoted } from "./texts.mjs";
@@ -32,7 +32,7 @@ export class Names {
     const before = this.list.length;
     const number = this.number(cell, line, column);
     if (number < before) {
-      throw new RosterFault(`the name ${quoted(cell)} a second time (list it once; a file of ${this.kind === "persons" ? "tasks" : "places"} says how many it takes)`, line, column);
+      refuse(line, column, "name once", quoted(cell), `a file of ${this.kind === "persons" ? "tasks" : "places"}`);
     }
     return number;
   }

@@ -123,8 +123,9 @@ function planOf(roster, fixed, chosen, swaps) {
 /** @type {(roster: Roster, max: boolean, answer: Answer) => string[]} The first lines: a sentence for each group that is short, and the cost of the plan. */
 export function firstLines(roster, max, { plan, sentences }) {
   if (!plan) return sentences;
-  const partial = sentences.length ? ` of ${plan.pairs.length} pairs${hasBounds(roster) ? " that miss least" : ""}` : "";
-  return [...sentences, `${max ? "greatest" : "least"} ${roster.titles[2]}${partial}: ${shown(roster, plan.cost)}`];
+  const name = hasBounds(roster) ? "of pairs that miss least" : "of pairs";
+  const title = sentences.length ? said(name, roster.titles[2], plan.pairs.length) : roster.titles[2];
+  return [...sentences, `${max ? "greatest" : "least"} ${title}: ${shown(roster, plan.cost)}`];
 }
 
 /** @type {(roster: Roster, plan: Plan) => { how: string, count: string, names: string }[]} Who and what has too few: how that is called, how many they are, and their names. */

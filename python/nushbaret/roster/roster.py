@@ -52,8 +52,7 @@ class Names:
         number = self.number(cell, line, column)
         if number < before:
             hint = "--tasks" if self._kind == "persons" else "--places"
-            self._sheet.refuse(f"the name {quoted(cell)} a second time (list it once; {hint} says how many it takes)",
-                               line, column)
+            self._sheet.refuse(said("name once", quoted(cell), hint), line, column)
         return number
 
     def known(self, cells: Sequence[str]) -> Optional[List[int]]:

@@ -74,7 +74,7 @@ def read_lines(path: str, roster: Roster, on_terminal: bool) -> List[str]:
     lines += [f"{shown_path(path)}: {said('alike', ', '.join(map(quoted, group)))}"
               for group in groups[:MOST_NAMES_SHOWN]]
     if len(groups) > MOST_NAMES_SHOWN:
-        lines.append(f"{shown_path(path)}: and {len(groups) - MOST_NAMES_SHOWN} more of these names")
+        lines.append(f"{shown_path(path)}: {said('more alike', len(groups) - MOST_NAMES_SHOWN)}")
     return lines
 
 
@@ -163,7 +163,7 @@ def _cost_line(report: Report, plan: NamedPlan) -> str:
     roster, options = report.roster, report.options
     which, title, own = "greatest" if options.max else "least", roster.titles[2], roster.shown(plan.cost)
     if report.answer.groups:
-        title += f" of {len(plan.pairs)} pairs" + (" that miss least" if roster.has_bounds else "")
+        title = said("of pairs that miss least" if roster.has_bounds else "of pairs", title, len(plan.pairs))
     title += _bound(report, report.fair) if report.fair else ""
     if options.change_cost is not None:
         return f"{title}: {own}, the {which} with changes at {options.change_cost} each"
