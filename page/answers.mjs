@@ -139,10 +139,10 @@ function foundIn(tables, { choices, marks }, library) {
 /** @type {(question: Question, load: () => Promise<import("./library.mjs").Library>, report?: (progress: Progress) => void) => Promise<Reply>} The reply to a question. */
 export async function replyTo(question, load, report = () => {}) {
   /** @type {Table[]} */
-  let tables = [];
+  const tables = [];
   try {
     report({ kind: "progress", text: "Reading .." });
-    tables = await tablesOf(question.files, question.choices.comma);
+    await tablesOf(question.files, question.choices.comma, tables);
     const library = await load();
     report({ kind: "progress", text: "Planning .." });
     library.look = (pairs) => report({ kind: "progress", text: `Planning .. ${counted(pairs, "pair")} so far` });

@@ -20,18 +20,22 @@ const RULE = /^rules?$/;
  * @typedef {{ name: string, kind: string, sheet: Sheet, isGuess: boolean, isChosen: boolean, place: number }} Table `place` is that of its file
  */
 
-/** @type {(given: Given[], comma: boolean) => Promise<Table[]>} The tables of files. */
-export async function tablesOf(given, comma) {
-  const tables = [];
+/** @type {(given: Given[], comma: boolean, tables?: Table[]) => Promise<Table[]>} The tables of files, also of those that can't be read, of which the first is refused at the end. */
+export async function tablesOf(given, comma, tables = []) {
+  const faults = [];
   for (const [place, own] of given.entries()) {
     try {
       tables.push(...await tablesIn(own, comma, place));
     } catch (fault) {
-      if (fault instanceof RosterFault) fault.file = own.name;
-      throw fault;
+      if (!(fault instanceof RosterFault)) throw fault;
+      fault.file = own.name;
+      faults.push(fault);
+      const sheet = Object.assign(Sheet.ofRows([], ","), { fault });
+      tables.push({ name: own.name, kind: UNUSED, sheet, isGuess: false, isChosen: false, place });
     }
   }
   chooseKinds(tables);
+  if (faults.length) throw faults[0];
   return tables;
 }
 

@@ -88,5 +88,5 @@ def _legend(sheet: MonthSheet) -> Iterator[str]:
         (said("framed"), sheet.is_changed),
         ("underlined: fixed", any(entry.is_fixed for cell in cells for entry in cell.entries)),
         (said("3/4"), any(cell is not None and cell.wanted is not None
-                                   for _, staff in sheet.staff for cell in staff))) if is_there]
+                        for _, staff in sheet.staff for cell in staff))) if is_there]
     yield '<p class="legend">' + " \u00b7 ".join([*kinds, *notes, *map(ours, marks)]) + "</p>\n"
