@@ -4,7 +4,7 @@ import { costsOf, named, namedPairs, numbersOf, oldPlanOf, pairKey, withPast } f
 import { itemOf, refuse, RosterFault, said, within } from "./faults.mjs";
 import { tablesOf } from "./files.mjs";
 import { usesOf } from "./gathered.mjs";
-import { MOST_PERSONS, NoMemory } from "./library.mjs";
+import { NoMemory } from "./library.mjs";
 import { alike } from "./names.mjs";
 import { answerOf, firstLines, leftOut, listsOf, notesOf, rowsOf } from "./plan.mjs";
 import { rosterOf } from "./roster.mjs";
@@ -67,11 +67,11 @@ function tableOf(tables, kind) {
   throw fault;
 }
 
-/** @type {(tables: Table[], choices: Choices, most?: number) => Read} The roster of tables with its counts and groups, and an earlier plan. */
-export function readTables(tables, choices, most = MOST_PERSONS) {
+/** @type {(tables: Table[], choices: Choices) => Read} The roster of tables with its counts and groups, and an earlier plan. */
+export function readTables(tables, choices) {
   const table = tableOf(tables, "roster");
   if (!table) throw new RosterFault("no file is a roster: choose what each is");
-  const first = within(table.name, () => rosterOf(table.sheet, { ...choices, most }));
+  const first = within(table.name, () => rosterOf(table.sheet, choices));
   /** @type {<Result>(kind: string, read: (table: Table) => Result) => Result | null} */
   const ofKind = (kind, read) => {
     const own = tableOf(tables, kind);

@@ -51,14 +51,14 @@ export function areDailyLines(sheet) {
   return areFit && rows.some((cells) => looksLikeNumber(cells[3]));
 }
 
-/** @type {(sheet: Sheet, costs: Costs, most: number) => Daily} Reads lines; the day stands third where dates stand there alone. */
-export function readDailyLines(sheet, costs, most) {
+/** @type {(sheet: Sheet, costs: Costs) => Daily} Reads lines; the day stands third where dates stand there alone. */
+export function readDailyLines(sheet, costs) {
   const { cells: title } = sheet.title();
   const rows = [...sheet.body(COLUMNS)];
   const [seconds, thirds] = [1, 2].map((column) => areDates(rows.map(({ cells }) => cells[column])));
   const day = thirds && !seconds ? 2 : 1;
   const titles = title.map((cell, place) => nameOf(cell, 1, place + 1));
-  const pairs = new Pairs(costs, most);
+  const pairs = new Pairs(costs);
   const { groups, numberOf } = objectsBy(titles[day], pairs.objects);
   for (const { line, cells } of rows) {
     const person = pairs.persons.number(cells[0], line, 1);
@@ -85,11 +85,11 @@ export function headsOf(sheet) {
   return { line, corner: below[0] || above[0], days, shifts };
 }
 
-/** @type {(sheet: Sheet, costs: Costs, most: number) => Daily} Reads a matrix with two title rows. */
-export function readDailyMatrix(sheet, costs, most) {
+/** @type {(sheet: Sheet, costs: Costs) => Daily} Reads a matrix with two title rows. */
+export function readDailyMatrix(sheet, costs) {
   const heads = headsOf(sheet);
   if (!heads) throw new Error("a matrix without two title rows");
-  const pairs = new Pairs(costs, most);
+  const pairs = new Pairs(costs);
   const { groups, numberOf } = objectsBy("day", pairs.objects);
   /** @type {number[]} */
   const columns = [];

@@ -32,18 +32,18 @@ const TITLES = ["person", "object", "cost"];
 
 /**
  * What the reader says of a roster: `form` is 'lines', 'matrix' or '', which takes the form from the text.
- * @typedef {{ form: string, comma: boolean, most: number }} Reading
+ * @typedef {{ form: string, comma: boolean }} Reading
  * @typedef {import("./sheet.mjs").Sheet} Sheet
  * @typedef {{ titles: string[], pairs: Pairs, groups?: import("./takes.mjs").Groups | null }} Read
  */
 
 /** @type {(sheet: Sheet, reading: Reading) => Roster} The roster that a sheet holds. */
-export function rosterOf(sheet, { form, comma, most }) {
+export function rosterOf(sheet, { form, comma }) {
   const costs = new Costs(comma);
   const isDaily = form !== "matrix" && areDailyLines(sheet);
   const isMatrix = !isDaily && (form === "matrix" || form === "" && !mayBeLines(sheet));
   const read = isDaily ? readDailyLines : isMatrix ? headsOf(sheet) ? readDailyMatrix : readMatrix : form ? readLines : readSureLines;
-  const { titles, pairs, groups = null } = read(sheet, costs, most);
+  const { titles, pairs, groups = null } = read(sheet, costs);
   const { persons, objects, ofPersons, ofObjects } = pairs;
   const { decimals, units } = costs.scaled();
   return {
@@ -76,12 +76,12 @@ function refuseUnsure(sheet) {
   throw new RosterFault("lines of pairs, or a matrix of two objects? Choose the form", line);
 }
 
-/** @type {(sheet: Sheet, costs: Costs, most: number) => Read} Reads lines, unless they might be a matrix as well: that is refused before any other fault. */
-function readSureLines(sheet, costs, most) {
+/** @type {(sheet: Sheet, costs: Costs) => Read} Reads lines, unless they might be a matrix as well: that is refused before any other fault. */
+function readSureLines(sheet, costs) {
   /** @type {Read} */
   let read;
   try {
-    read = readLines(sheet, costs, most);
+    read = readLines(sheet, costs);
   } catch (fault) {
     refuseUnsure(sheet);
     throw fault;
@@ -90,8 +90,8 @@ function readSureLines(sheet, costs, most) {
   return read;
 }
 
-/** @type {(sheet: Sheet, costs: Costs, most: number) => Read} */
-function readLines(sheet, costs, most) {
+/** @type {(sheet: Sheet, costs: Costs) => Read} */
+function readLines(sheet, costs) {
   const { line: first, cells: title } = sheet.title();
   if (title.length !== 3) {
     const fourth = title.length > 3 ? said("fourth", quoted(title[3])) : "";
@@ -99,7 +99,7 @@ function readLines(sheet, costs, most) {
   }
   if (looksLikeNumber(title[2])) refuse(first, 3, "no title", quoted(title[2]));
   const titles = title.map((cell, place) => cell === "" ? TITLES[place] : nameOf(cell, first, place + 1));
-  const pairs = new Pairs(costs, most);
+  const pairs = new Pairs(costs);
   for (const { line, cells } of sheet.body(3)) {
     const [person, object] = [pairs.persons.number(cells[0], line, 1), pairs.objects.number(cells[1], line, 2)];
     pairs.refuseTwice(person, object, cells.slice(0, 2), line);
@@ -109,12 +109,12 @@ function readLines(sheet, costs, most) {
   return { titles, pairs };
 }
 
-/** @type {(sheet: Sheet, costs: Costs, most: number) => Read} */
-function readMatrix(sheet, costs, most) {
+/** @type {(sheet: Sheet, costs: Costs) => Read} */
+function readMatrix(sheet, costs) {
   const { line: first, cells: title } = sheet.title();
   if (looksLikeNumber(title[0])) refuse(first, 1, "number for a title", quoted(title[0]));
   if (title.length < 2) refuse(first, 0, "no object");
-  const pairs = new Pairs(costs, most);
+  const pairs = new Pairs(costs);
   const objects = title.slice(1).map((cell, place) => pairs.objects.once(cell, first, place + 2));
   for (const { line, cells } of sheet.body(title.length)) pairs.takeRow(cells, objects, line);
   if (!pairs.persons.list.length) refuse(first, 0, "no line");

@@ -9,7 +9,7 @@ const { readTables } = await import("../../page/answers.mjs");
 const { changesOf } = await import("../../page/earlier.mjs");
 const { RosterFault } = await import("../../page/faults.mjs");
 const { tablesOf } = await import("../../page/files.mjs");
-const { Library, MOST_PERSONS } = await import("../../page/library.mjs");
+const { Library } = await import("../../page/library.mjs");
 const { answerOf, firstLines, leftOut, rowsOf } = await import("../../page/plan.mjs");
 const { csvOf, Sheet } = await import("../../page/sheet.mjs");
 const { guarded } = await import("../../page/texts.mjs");
@@ -38,7 +38,7 @@ async function faultOr(work) {
 async function read({ bytes, form, comma, max }) {
   const source = new Uint8Array(Buffer.from(bytes, "base64")).buffer;
   const tables = await tablesOf([{ name: "", kind: "roster", source }], comma);
-  const { roster } = readTables(tables, { form, comma, past: "" }, MOST_PERSONS);
+  const { roster } = readTables(tables, { form, comma, past: "" });
   const { titles, persons, objects } = roster;
   // What the page writes it reads again as it was.
   const rows = [titles, ...persons.map((person) => [person, objects[0], "1"])];
@@ -51,7 +51,7 @@ async function planned(ward) {
   const given = [["roster", ward.text], ...["places", "tasks", "groups", "plan"].map((kind) => [kind, ward[kind]])];
   const files = given.filter(([, source]) => source !== undefined).map(([kind, source]) => (
     source.startsWith("{") ? { name: `${kind}.json`, kind: "", source: new TextEncoder().encode(source).buffer } : { name: kind, kind, source }));
-  const { roster, kept, fixed } = readTables(await tablesOf(files, false), { form: "", comma: false, past: ward.past || "" }, MOST_PERSONS);
+  const { roster, kept, fixed } = readTables(await tablesOf(files, false), { form: "", comma: false, past: ward.past || "" });
   const answer = answerOf(roster, { max: ward.max || false, fullest: ward.fullest || false, fixed, kept }, library);
   const found = { said: firstLines(roster, ward.max, answer) };
   if (!answer.plan) return found;
@@ -80,7 +80,7 @@ for (const ward of wards) {
 console.log(`page: ${wards.length} wards planned as the command plans them, ${refused} refused, ${without} with shortages, ${kept} from an earlier plan`);
 if (workbook) {
   const source = new Uint8Array(Buffer.from(workbook.bytes, "base64")).buffer;
-  const { roster } = readTables(await tablesOf([{ name: "book.xlsx", kind: "", source }], false), { form: "", comma: false, past: "" }, MOST_PERSONS);
+  const { roster } = readTables(await tablesOf([{ name: "book.xlsx", kind: "", source }], false), { form: "", comma: false, past: "" });
   const { persons, objects, costs, decimals, takes } = roster;
   assert.deepStrictEqual({ persons, objects, costs, decimals, tasks: [...takes.persons.values()].map(({ least, most }) => [least, most]) }, workbook.wanted);
   console.log("page: a workbook read as the command reads it");
