@@ -99,7 +99,8 @@ export function withMarks({ roster, kept, fixed, lines }, marks) {
   const all = [...fixed, ...own.map(({ person, object, key }) => ({ person, object, cost: costs.get(key) ?? 0 }))];
   const [had, used] = usesOf(all);
   for (const { person, object, name } of own) {
-    const [count, most, uses, room] = [had.get(person) || 0, ofPerson(roster, person).most, used.get(object) || 0, ofObject(roster, object).most];
+    const [count, most] = [had.get(person) || 0, ofPerson(roster, person).most];
+    const [uses, room] = [used.get(object) || 0, ofObject(roster, object).most];
     if (count > most) refuse(0, 0, "most with the past", name, roster.persons[person], count, most);
     if (uses > room) throw new RosterFault(`with ${name} ${roster.objects[object]} has ${uses}, where ${room} is the most`);
   }
@@ -124,6 +125,7 @@ function foundIn(tables, { choices, marks }, library) {
   const { roster, kept, fixed, lines } = withMarks(readTables(tables, choices), marks);
   const answer = answerOf(roster, { max: choices.max, fullest: choices.fullest, fixed, kept }, library);
   const { plan } = answer;
+  const calendars = tableOf(tables, "calendars");
   const sheet = plan && sheetOf(roster, plan, kept);
   // The page draws no matrix of more pairs, and their lists would stop it while they come.
   const shown = sheet || roster.costs.length <= MOST_DRAWN ? roster : { ...roster, ofPersons: [], ofObjects: [], costs: [] };
@@ -131,7 +133,8 @@ function foundIn(tables, { choices, marks }, library) {
   return {
     kind: "found", read: sums.join(", "), lines: firstLines(roster, choices.max, answer), rows: plan ? rowsOf(roster, plan) : [],
     left: plan ? leftOut(roster, plan) : [], notes: [...plan ? notesOf(roster, plan, kept) : [], ...lines, ...notesOn(roster, tables)],
-    roster: shown, plan, kept, calendars: new Map((tableOf(tables, "calendars")?.sheet.rows || []).map(({ cells: [name, text] }) => [name, text])), sheet, lists: plan && plan.pairs.length <= MOST_PAIRS ? listsOf(roster, plan) : { persons: [], objects: [] },
+    roster: shown, plan, kept, calendars: new Map(calendars?.sheet.rows.map(({ cells: [name, text] }) => [name, text])), sheet,
+    lists: plan && plan.pairs.length <= MOST_PAIRS ? listsOf(roster, plan) : { persons: [], objects: [] },
     short: answer.short, tables: shownTables(tables),
   };
 }

@@ -138,7 +138,10 @@ function olderOf(text) {
   };
 }
 
-/** @type {(own: Map<string, string[]>, older: Older | null) => string[]} A person's events; what the older calendar has and the plan has no more is cancelled, in a version one above. */
+/**
+ * @type {(own: Map<string, string[]>, older: Older | null) => string[]}
+ *   A person's events; what the older calendar has and the plan has no more is cancelled, in a version one above.
+ */
 function versioned(own, older) {
   if (!older) return [...own.values()].flat();
   const isSame = older.live.size === own.size
@@ -152,7 +155,8 @@ function versioned(own, older) {
 
 /**
  * @type {(found: import("./answers.mjs").Found, version: string) => { files: File[], why: string }}
- *   A calendar for each person, which cancels what its older one has, or else the earlier plan; why there is none where groups are no dates.
+ *   A calendar for each person, which cancels what its older one has, or else the earlier plan; why there is none where
+ *   groups are no dates.
  */
 export function calendarsOf({ roster, plan, kept, calendars }, version) {
   const { all, why } = roster.groups ? datesOf(roster.groups.names) : { all: null, why: said("no groups") };
@@ -161,11 +165,12 @@ export function calendarsOf({ roster, plan, kept, calendars }, version) {
   const stems = fileNames(roster.persons);
   const files = roster.persons.map((person, number) => {
     const name = `${stems[number]}.ics`;
-    const before = kept?.named.filter((pair) => pair.person === person).flatMap((pair) => roster.objectNumbers.get(pair.object) ?? []);
-    const events = before && eventsOf(roster, person, before, all);
+    const before = kept?.named.filter((pair) => pair.person === person);
+    const events = before && eventsOf(roster, person, before.flatMap(({ object }) => roster.objectNumbers.get(object) ?? []), all);
     const old = calendars.get(name);
     const older = old ? olderOf(old) : events ? { sequence: 0, events, live: new Set(events.keys()) } : null;
-    const lines = versioned(eventsOf(roster, person, plan.pairs.filter((pair) => pair.person === number).map(({ object }) => object), all), older);
+    const own = plan.pairs.filter((pair) => pair.person === number).map(({ object }) => object);
+    const lines = versioned(eventsOf(roster, person, own, all), older);
     // A calendar needs a component: this one says that no time is taken.
     const none = ["BEGIN:VFREEBUSY", `UID:${uidOf(person, "", first)}`, `DTSTAMP:${stampOf(first, 0)}Z`, "END:VFREEBUSY"];
     const whole = [

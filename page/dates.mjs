@@ -107,7 +107,8 @@ export function datesOf(names) {
   for (const [k, one] of own.entries()) {
     const day = dated[k] ?? nearest(one, anchors);
     if (day === null) return { all: null, why: said("no day", one.name) };
-    if (one.weekdays && !one.weekdays.has(weekdayOf(day))) return { all: null, why: said("other weekday", one.name, DAY_NAMES[weekdayOf(day)]) };
+    const weekday = weekdayOf(day);
+    if (one.weekdays && !one.weekdays.has(weekday)) return { all: null, why: said("other weekday", one.name, DAY_NAMES[weekday]) };
     days.push(day);
   }
   return { all: days, why: "" };

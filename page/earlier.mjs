@@ -36,7 +36,8 @@ export function numbersOf(roster, pairs) {
   return pairs.flatMap((pair) => {
     const [person, object] = [roster.personNumbers.get(pair.person), roster.objectNumbers.get(pair.object)];
     if (person === undefined || object === undefined) return [];
-    return [{ ...pair, person, object, key: pairKey(roster, person, object), name: `${roster.persons[person]}, ${roster.objects[object]}` }];
+    const name = `${roster.persons[person]}, ${roster.objects[object]}`;
+    return [{ ...pair, person, object, key: pairKey(roster, person, object), name }];
   });
 }
 
@@ -90,7 +91,8 @@ function refuseOften(roster, numbered, item) {
 export function oldPlanOf(roster, named, byCounts, item = "line") {
   const those = numbersOf(roster, named);
   if (byCounts) refuseOften(roster, those, item);
-  const [twice] = [...gathered(those, ({ key }) => key).values()].filter(([, again]) => again).sort(([, one], [, other]) => one.line - other.line);
+  const [twice] = [...gathered(those, ({ key }) => key).values()].filter(([, again]) => again)
+    .sort(([, one], [, other]) => one.line - other.line);
   if (twice) refuse(twice[1].line, 0, "pair twice", twice[0].name, item, twice[0].line);
   const costs = costsOf(roster);
   const known = those.flatMap(({ person, object, key }) => {
@@ -203,11 +205,11 @@ export function changesOf(roster, pairs, kept) {
   const comes = pairs.filter(({ person, object }) => !kept.known.has(pairKey(roster, person, object)));
   const names = (/** @type {Pair[]} */ those) => joined(those.map(({ object }) => roster.objects[object]));
   const persons = [...new Set([...goes, ...comes].map(({ person }) => person))].sort(rising);
-  const counts = [
-    ...moved("come", comes, counted(comes.length, "pair")), ...moved("go", goes, comes.length ? String(goes.length) : counted(goes.length, "pair"))];
+  const gone = comes.length ? String(goes.length) : counted(goes.length, "pair");
+  const counts = [...moved("come", comes, counted(comes.length, "pair")), ...moved("go", goes, gone)];
   const own = persons.map((number) => {
-    const [gone, fresh] = [goes, comes].map((those) => those.filter(({ person }) => person === number));
-    return `${roster.persons[number]}: ${[...moved("go", gone, names(gone)), ...moved("come", fresh, names(fresh))].join("; ")}`;
+    const [old, fresh] = [goes, comes].map((those) => those.filter(({ person }) => person === number));
+    return `${roster.persons[number]}: ${[...moved("go", old, names(old)), ...moved("come", fresh, names(fresh))].join("; ")}`;
   });
   const lost = kept.named.flatMap(({ person, object }) => {
     const [one, other] = [roster.personNumbers.get(person), roster.objectNumbers.get(object)];
@@ -216,9 +218,9 @@ export function changesOf(roster, pairs, kept) {
     const why = kept.gone.includes(person) ? "gone" : isFull(one, other) ? "takes none" : kept.forbidden.has(key) ? "forbidden" : "";
     return now.has(key) || !why ? [] : [{ person, object, why }];
   });
-  const gone = [...gathered(lost, ({ person, why }) => `${person}\n${why}`).values()].map((own) => (
+  const impossible = [...gathered(lost, ({ person, why }) => `${person}\n${why}`).values()].map((own) => (
     `${own[0].person}: ${joined(own.map(({ object }) => object))} ${NOT_POSSIBLE} now (${own[0].why})`));
-  return { comes, goes, lines: [counts.join(", ") || said("no change"), ...own, ...gone] };
+  return { comes, goes, lines: [counts.join(", ") || said("no change"), ...own, ...impossible] };
 }
 
 /** @type {(roster: Roster, pairs: Pair[]) => { isObject: boolean, number: number, had: number, least: number }[]} Who has fewer than it must. */

@@ -35,9 +35,9 @@ function nameIn(pair, key, line) {
 export function sheetOfJson(text, comma) {
   const plan = parsed(text);
   if (!Array.isArray(plan?.pairs)) {
-    const isObject = kindOf(plan) === said("object");
-    const what = !isObject ? said("it is", kindOf(plan)) : "pairs" in plan ? said("its pairs", kindOf(plan.pairs)) : said("it has no", "'pairs'");
-    refuse(0, 0, "no plan", what);
+    const kind = kindOf(plan);
+    const found = kind === said("object") && ("pairs" in plan ? said("its pairs", kindOf(plan.pairs)) : said("it has no", "'pairs'"));
+    refuse(0, 0, "no plan", found || said("it is", kind));
   }
   const { pairs, format = FORMAT } = plan;
   if (!Number.isInteger(format) || format < 1 || format > FORMAT) {

@@ -280,7 +280,8 @@ function choose(row, column) {
 function keep() {
   if (!found) return;
   const calendars = calendarsNow().files.map(({ name, bytes }) => [name, new TextDecoder().decode(bytes)]);
-  const others = files.filter((_, place) => !tables.some((table) => table.place === place && ["plan", "calendars"].includes(table.kind)));
+  const old = new Set(tables.filter(({ kind }) => ["plan", "calendars"].includes(kind)).map(({ place }) => place));
+  const others = files.filter((_, place) => !old.has(place));
   const { separator } = found.roster;
   files = [...others, { name: KEPT, kind: "plan", rows: found.rows, separator }];
   if (calendars.length) files.push({ name: KEPT_CALENDARS, kind: "calendars", rows: calendars, separator });

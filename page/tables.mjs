@@ -6,7 +6,8 @@ import { KINDS } from "./files.mjs";
 const MOST_EDITED = 6000;
 const WORDS = {
   roster: "roster", places: "places: how many persons each takes", tasks: "tasks: how many each person takes",
-  groups: "groups: nobody takes two of one", plan: "earlier plan", calendars: "calendars of an earlier plan", rules: "rules (the command's)", unused: "not used",
+  groups: "groups: nobody takes two of one", plan: "earlier plan", calendars: "calendars of an earlier plan",
+  rules: "rules (the command's)", unused: "not used",
 };
 /** @typedef {import("./answers.mjs").Shown} Shown @typedef {{ onKind: (table: Shown, kind: string) => void, onRows: (table: Shown, rows: string[][]) => void, onRemove: (table: Shown) => void }} Works */
 
