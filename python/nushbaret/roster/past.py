@@ -144,7 +144,8 @@ def _forbidden_lines(roster: Roster, kept: OldPlan, added: Sequence[Triple]) -> 
 
 
 def _most_line(roster: Roster, kept: OldPlan, person: int, had: int) -> str:
-    text = said("past beyond most", roster.persons[person], counted(had, roster.titles[1]), roster.tasks_of(person), had)
+    text = said("past beyond most", roster.persons[person], counted(had, roster.titles[1]), roster.tasks_of(person),
+                had)
     return f"{shown_path(kept.path)}: {text}"
 
 

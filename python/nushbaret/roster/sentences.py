@@ -118,7 +118,9 @@ def _once(roster: Roster, problem: Counted, lack: Lack, of_once: Dict[int, int],
 def _those(names: List[str], what: str, shown: NamesShown, side: int) -> str:
     """What is said of several names, or of one."""
     text = shown.listed(side, names)
-    return f"{text or said('one')} {what}" if len(names) == 1 else f"{len(names)} {what}" + (f" ({text})" if text else "")
+    if len(names) == 1:
+        return f"{text or said('one')} {what}"
+    return f"{len(names)} {what}" + (f" ({text})" if text else "")
 
 
 def _rule(roster: Roster, problem: Counted, groups: Sequence[int]) -> str:
