@@ -31,8 +31,9 @@ SOURCES = sorted((TOP / "extension").glob("*.[ch]"))
 # The compilers that make the extension for each kind of machine; those of a machine of the same kind alone need no name
 # of their own.
 COMPILERS = {r"(linux|manylinux2014)[-_]x86_64": "cc", r"(linux|manylinux2014)[-_]aarch64": "aarch64-linux-gnu-gcc"}
-FLAGS = ("-std=c99", "-O3", "-ffp-contract=off", "-Wall", "-Wextra", "-Wno-missing-field-initializers", "-fPIC",
-         "-shared", "-fvisibility=hidden", "-Wl,-z,now", "-Wl,-z,relro", "-Wl,--build-id=none", "-s")
+FLAGS = ("-std=c99", "-O3", "-ffp-contract=off", "-fno-trapping-math", "-Wall", "-Wextra",
+         "-Wno-missing-field-initializers", "-fPIC", "-shared", "-fvisibility=hidden", "-Wl,-z,now", "-Wl,-z,relro",
+         "-Wl,--build-id=none", "-s")
 NO_EXTENSION = "it needs a C compiler and Python.h (Debian has it in python3-dev)"
 DAY = (2020, 1, 1, 0, 0, 0)
 # What the wheel's tag says of the machine; release/make.sh sets it to what its library is looked at for.

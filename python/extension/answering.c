@@ -180,7 +180,7 @@ PyObject *found(PyObject *module, PyObject *arguments) {
     matrix.as_printed = 1;
     matrix.end = end;
     matrix.forbids = maximize ? -INFINITY : INFINITY;
-    const int is_left = looks_at_most(&matrix) >= LONG || matrix.kind == HALVES || (matrix.kind == FLOATS && matrix.swapped);
+    const int is_left = most_arc_scans(&matrix) >= LONG || matrix.kind == HALVES || (matrix.kind == FLOATS && matrix.swapped);
     int64_t *whole = is_left ? NULL : PyMem_Malloc((size_t)matrix.n * (size_t)matrix.m * sizeof *whole);
     if (whole && take(&room, &matrix, !is_plain(&matrix) && !has_whole_kind(&matrix), spare)) {
         answer = found_of_matrix(state, &matrix, maximize, &room, whole);
@@ -221,7 +221,7 @@ static void solve_some(const State *state, Matrix matrix, Py_ssize_t step, Py_ss
 /* All of them, a piece at a time, so that Ctrl-C ends it; 0 where something was raised. */
 static int solve_all(const State *state, Matrix matrix, Py_ssize_t step, Py_ssize_t count, int maximize, const Room *room, int64_t *rows,
     int64_t *columns) {
-    const Py_ssize_t piece = 1 + (Py_ssize_t)(LONG / (looks_at_most(&matrix) + 256));
+    const Py_ssize_t piece = 1 + (Py_ssize_t)(LONG / (most_arc_scans(&matrix) + 256));
     for (Py_ssize_t k = 0; k < count; k += piece) {
         if (PyErr_CheckSignals()) return 0;
         solve_some(state, matrix, step, count - k < piece ? count - k : piece, maximize, *room, rows + k * matrix.n, columns + k * matrix.n);
@@ -252,7 +252,7 @@ PyObject *batch(PyObject *module, PyObject *arguments) {
     const Py_ssize_t count = array->shape[0];
     of_array(array, 1, &matrix);
     turn(&matrix, 1);
-    if (count < 1 || matrix.n < 1 || matrix.m > MOST_SIDE || looks_at_most(&matrix) >= LONG || matrix.kind == VALUES) Py_RETURN_NONE;
+    if (count < 1 || matrix.n < 1 || matrix.m > MOST_SIDE || most_arc_scans(&matrix) >= LONG || matrix.kind == VALUES) Py_RETURN_NONE;
     if (!is_own(state, rows, count, matrix.n) || !is_own(state, columns, count, matrix.n)) Py_RETURN_NONE;
     const int copies = !is_plain(&matrix) || array->steps[0] % (Py_ssize_t)sizeof(double) != 0;
     if (!take(&room, &matrix, copies, spare)) Py_RETURN_NONE;

@@ -38,7 +38,7 @@ struct record {
     int64_t slackness;
     uint64_t bids, passes;
     uint32_t dummy_bids, flags;
-    uint64_t looks;
+    uint64_t arc_scans;
 };
 typedef int32_t doubles_call(uint32_t, size_t, size_t, const double *, size_t, uint32_t *, size_t, uint32_t *, size_t, double *, size_t,
     struct doubles_info *);
@@ -112,10 +112,10 @@ enum { FEW_WHOLE = 100 };
 /* The same of doubles in linear_sum_assignment, since these mostly take a tenth of a second: from here on they are rounded first, and
    searched in pieces. */
 #define LONGEST ((double)((int64_t)1 << 33))
-/* The looks at pairs of a search's first piece, which ends most of them within some tenths of a second; and of the next ones at least, in
+/* The arc scans of a search's first piece, which ends most of them within some tenths of a second; and of the next ones at least, in
    addition to so many passes over all pairs. */
-#define FIRST_LOOKS 500000000u
-#define LOOKS 20000000u
+#define FIRST_ARC_SCANS 500000000u
+#define ARC_SCANS 20000000u
 enum { PASSES = 10 };
 
 /* Doubles hold all whole numbers up to this. */
@@ -124,7 +124,7 @@ enum { PASSES = 10 };
 /* What is added to a double of less than 2^51 rounds it to a whole number, and is taken off again. */
 #define TO_WHOLE 0x1.8p52
 
-static inline double looks_at_most(const Matrix *matrix) {
+static inline double most_arc_scans(const Matrix *matrix) {
     return (double)matrix->n * (double)matrix->n * (double)matrix->m;
 }
 
@@ -145,7 +145,8 @@ int of_numbers(const Matrix *matrix, const char *from, Py_ssize_t step, Py_ssize
 int whole_of_numbers(int kind, int swapped, const char *from, Py_ssize_t step, Py_ssize_t count, int64_t *to);
 
 /* printed.c */
-int as_printed(const float *from, Py_ssize_t step, Py_ssize_t count, double *to);
+void as_printed(const float *from, Py_ssize_t step, Py_ssize_t count, double *to);
+PyObject *printed(PyObject *module, PyObject *arguments);
 
 /* searching.c */
 void ask(const State *state);

@@ -24,7 +24,7 @@ static PyObject *assigned_doubles(State *state, const Matrix *matrix, int maximi
         PyMem_Free(whole);
         if (answer || PyErr_Occurred()) return answer;
     }
-    const int32_t code = looks_at_most(matrix) >= LONGEST ? solve_rounded(state, matrix, maximize, costs, room)
+    const int32_t code = most_arc_scans(matrix) >= LONGEST ? solve_rounded(state, matrix, maximize, costs, room)
         : solve(state, matrix, maximize, costs, room, &by_margin);
     return code == BEST ? rows_and_columns(state, matrix, room) : NULL;
 }
@@ -269,6 +269,7 @@ static PyMethodDef methods[] = {
     {"found", found, METH_VARARGS, NULL},
     {"batch", batch, METH_VARARGS, NULL},
     {"listed", listed, METH_VARARGS, NULL},
+    {"printed", printed, METH_VARARGS, NULL},
     {NULL, NULL, 0, NULL},
 };
 

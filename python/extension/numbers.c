@@ -77,7 +77,10 @@ static int of_swapped(int kind, const char *from, Py_ssize_t step, Py_ssize_t co
 
 /* Some numbers of an array as doubles; 0 where one isn't sure to be a double. Floats of 32 bits are what they are, or what they print as. */
 int of_numbers(const Matrix *matrix, const char *from, Py_ssize_t step, Py_ssize_t count, double *to) {
-    if (matrix->kind == FLOATS && matrix->as_printed) return !matrix->swapped && as_printed((const float *)from, step, count, to);
+    if (matrix->kind == FLOATS && matrix->as_printed) {
+        if (!matrix->swapped) as_printed((const float *)from, step, count, to);
+        return !matrix->swapped;
+    }
     if (matrix->swapped) return of_swapped(matrix->kind, from, step, count, to);
     switch (matrix->kind) {
     case BOOLS: case UBYTES: EACH(uint8_t, (double)number);

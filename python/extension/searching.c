@@ -73,8 +73,8 @@ int32_t solve_whole(const State *state, const Matrix *matrix, int maximize, cons
     const size_t n = (size_t)matrix->n, m = (size_t)matrix->m;
     struct record record;
     int32_t code = STOPPED;
-    const uint64_t least = LOOKS + (uint64_t)PASSES * n * m;
-    uint64_t spent = 0, budget = FIRST_LOOKS > least && matrix->end == INFINITY ? FIRST_LOOKS : least;
+    const uint64_t least = ARC_SCANS + (uint64_t)PASSES * n * m;
+    uint64_t spent = 0, budget = FIRST_ARC_SCANS > least && matrix->end == INFINITY ? FIRST_ARC_SCANS : least;
     memset(&record, 0, sizeof record);
     memset(room->objects, 0, n * sizeof *room->objects);
     while (code == STOPPED) {

@@ -12,19 +12,19 @@ def matrix(draw, n_rows, n_columns, span, share=1.0):
             for _ in range(n_rows)]
 
 
-def plans(costs, served):
+def plans(costs, assigned):
     """The sums of all plans with so many pairs."""
     n_rows, n_columns = len(costs), len(costs[0]) if costs else 0
-    for rows in itertools.combinations(range(n_rows), served):
-        for columns in itertools.permutations(range(n_columns), served):
+    for rows in itertools.combinations(range(n_rows), assigned):
+        for columns in itertools.permutations(range(n_columns), assigned):
             pairs = [costs[row][column] for row, column in zip(rows, columns)]
             if None not in pairs:
                 yield sum(pairs)
 
 
-def best(costs, maximize, served):
+def best(costs, maximize, assigned):
     """The best sum of plans with so many pairs; None where there is none."""
-    return (max if maximize else min)(plans(costs, served), default=None)
+    return (max if maximize else min)(plans(costs, assigned), default=None)
 
 
 def drawing(seed):

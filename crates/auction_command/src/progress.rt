@@ -161,7 +161,7 @@ impl<'a, V: Watch> WatchedPaths<'a, V> {
     }
 }
 
-// The least number of looks at pairs between two that are shown, and how often each pair is looked
+// The least number of arc scans between two that are shown, and how often each pair is looked
 // at.
 const LOOKS: u64 = 1 << 24;
 
@@ -172,7 +172,7 @@ impl<V: Watch> Observer for WatchedPaths<'_, V> {
         self.watch.show(News::Paths(persons, self.persons));
     }
 
-    fn looks(&self, pairs: usize) -> u64 {
+    fn arc_scans(&self, pairs: usize) -> u64 {
         (pairs as u64).saturating_mul(LOOKS_A_PAIR).max(LOOKS)
     }
 }

@@ -11,7 +11,7 @@ mod cheap;
 mod cheap_paths;
 mod dense;
 mod hall;
-mod skipping;
+mod lanes;
 mod limits;
 mod lists;
 mod margin;

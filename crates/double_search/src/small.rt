@@ -125,7 +125,9 @@ impl<'a> Small<'a> {
         for person in 0..self.problem.persons.min(PERSONS) {
             greatest = greater(self.turned(person, found.objects[person]), greatest);
         }
-        greatest < self.dear && found.worse > self.dear * PART && found.worse < f64::INFINITY
+        greatest < self.big_cost
+            && found.worse > self.big_cost * PART
+            && found.worse < f64::INFINITY
     }
 }
 

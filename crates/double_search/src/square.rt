@@ -5,7 +5,7 @@ ghost use Rattle.std.specs.Prelude.{◌≡◌, ◌≤◌, length};
 
 use super::best::lowest;
 use super::hall::as_number;
-use super::skipping::{MOST, first_of, greater_of, lesser_of, put_first, row_of, zero_to};
+use super::lanes::{MOST, first_of, greater_of, lesser_of, put_first, row_of, zero_to};
 use super::range::{Range, greatest_of};
 use super::small::BIG_COST;
 use super::solver::Problem;
@@ -153,7 +153,7 @@ impl<'a> Square<'a> {
         let size = finite_size(rows);
         let big_cost = size * BIG_COST;
         self.size = size;
-        self.dear = big_cost;
+        self.big_cost = big_cost;
         cap_all(self.rows, big_cost);
     }
 

@@ -2,7 +2,7 @@
 ghost use Rattle.std.specs.Prelude.{◌≤◌};
 
 use super::best::lowest;
-use super::skipping::{first_of, greater_of, is_at, least_of, number_at, put_first};
+use super::lanes::{first_of, greater_of, is_at, least_of, number_at, put_first};
 use super::lists::place_of;
 use super::square::{NONE, Square};
 use std::simd::prelude::*;

@@ -1,7 +1,7 @@
 // Prices of a square at which the checker's sums show its plan best.
 ghost use Rattle.std.specs.Prelude.{◌≤◌};
 
-use super::skipping::{first_of, greater_of, number_at, put_first};
+use super::lanes::{first_of, greater_of, number_at, put_first};
 use super::range::{Range, greater};
 use super::square::Square;
 use std::simd::prelude::*;

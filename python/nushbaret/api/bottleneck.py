@@ -7,7 +7,7 @@ from ..costs.problem import AssignmentProblem, costs_of_pairs, in_whole_numbers,
 from ..costs.reading import manner
 from ..costs.source import Source
 from ..lap import library, proved
-from ..lap.matching import most_served
+from ..lap.matching import most_assigned
 from ..lap.solving import Outcome, prove_most, solved, worst_needed
 from .results import Result
 from .shown import Matrix, Missing
@@ -62,33 +62,33 @@ def bottleneck(costs: Matrix, maximize: bool = False, decimals: Optional[int] = 
 def _bottleneck(source: Source, partial: bool) -> Result:
     problem = source.read()
     least = min(problem.n_rows, problem.n_columns)
-    served = least if problem.persons is None else most_served(problem)
-    if not served or served < least and not partial:
+    assigned = least if problem.persons is None else most_assigned(problem)
+    if not assigned or assigned < least and not partial:
         return solve_problem(problem, source, None, partial)
-    if served < least:
-        prove_most(problem, served)
+    if assigned < least:
+        prove_most(problem, assigned)
     # Doubles are in the order of the decimals that they print as.
-    return _best_within(problem if problem.numpy else in_whole_numbers(problem), served, source)
+    return _best_within(problem if problem.numpy else in_whole_numbers(problem), assigned, source)
 
 
-def _best_within(pairs: AssignmentProblem, served: int, source: Source) -> Result:
+def _best_within(pairs: AssignmentProblem, assigned: int, source: Source) -> Result:
     """The best plan of so many pairs among those whose worst pair is as good as possible."""
-    bound = worst_needed(pairs, served)
-    problem, answer = pairs, _over_all_pairs(pairs, bound, served)
+    bound = worst_needed(pairs, assigned)
+    problem, answer = pairs, _over_all_pairs(pairs, bound, assigned)
     if answer is None:
         problem = no_worse(pairs, bound)
-        answer = solved(problem, None, served)
+        answer = solved(problem, None, assigned)
     if isinstance(answer, proved.HallSet):
         raise RuntimeError(f"{bound} was found to be the worst cost that is needed, and the library says otherwise")
     return Result(source._replace(worst=pairs.costs.ratio(bound)), result_parts(problem, answer))
 
 
-def _over_all_pairs(pairs: AssignmentProblem, bound: Any, served: int) -> Optional[Outcome]:
-    """The best plan within a bound where many pairs of a dense problem are, by the search over all pairs: the worse ones
-    cost so much that a plan seldom has one. Then it is as good, at the same prices, among the pairs within the bound.
-    None where it has one, or few pairs are."""
+def _over_all_pairs(pairs: AssignmentProblem, bound: Any, assigned: int) -> Optional[Outcome]:
+    """The best plan within a bound where many pairs of a dense problem are, by the search over all pairs: the worse
+    ones cost so much that a plan seldom has one. Then it is as good, at the same prices, among the pairs within the
+    bound. None where it has one, or few pairs are."""
     numpy, numbers = pairs.numpy, pairs.costs.of_64_bits()
-    if not numpy or numbers is None or pairs.persons is not None or served < min(pairs.n_rows, pairs.n_columns):
+    if not numpy or numbers is None or pairs.persons is not None or assigned < min(pairs.n_rows, pairs.n_columns):
         return None
     may = pairs.costs.no_worse(bound, pairs.maximize)
     best = int(numbers.max() if pairs.maximize else numbers.min())

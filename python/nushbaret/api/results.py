@@ -278,8 +278,11 @@ class Result(ByNames, Lasting):
         >>> nushbaret.solve([[4, 1], [2, 3]]).next_best().cost
         7
         """
+        code, margin = self._solved.next_margin()
+        if code == "ALONE":
+            return None
         ranking = self._solved.ranking()
-        part = next_part(ranking)
+        part = next_part(ranking, margin if code == "BEST" else None)
         return None if part is None else self._plan(*self._solved.plan_of(ranking, part))
 
     def _plan(self, rows: Any, columns: Any, cost: Number) -> Plan:

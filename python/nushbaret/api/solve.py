@@ -13,7 +13,7 @@ from .shown import Matrix, Missing
 from .solved import result_parts
 
 Start = Union[Result, Sequence[Any], None]
-# What is called with the rows served so far, and how many there are.
+# What is called with the rows assigned so far, and how many there are.
 Progress = Optional[Callable[[int, int], Any]]
 
 
@@ -91,7 +91,7 @@ def solve(costs: Matrix, maximize: bool = False, decimals: Optional[int] = None,
         After so many seconds TimeoutError is raised, in reading too. Nothing of the caller's is changed, and nothing
         goes on.
     progress : callable, optional
-        Is called as progress(served, all) after each piece of a search, some tenth of a second: so many of all rows
+        Is called as progress(assigned, all) after each piece of a search, some tenth of a second: so many of all rows
         have a column then, or of columns a row where these are fewer. Where levels or dummies take several searches,
         each counts from 0. What it raises ends the call.
     unmatched_cost : number, or pair of numbers or lists, optional

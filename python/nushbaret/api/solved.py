@@ -1,9 +1,11 @@
 """What a result stands on: a problem that a call solved, whose costs are read again where they are needed."""
+from array import array
 from fractions import Fraction
 from functools import cached_property
 from typing import Any, Iterable, List, Optional, Sequence, Tuple
 
 from ..costs import problem as reading
+from ..costs.limits import GREATEST_PRICE
 from ..costs.numbers import Number, Ratio, Unit
 from ..costs.problem import AssignmentProblem, costs_of_pairs
 from ..costs.source import Source
@@ -98,11 +100,11 @@ class SolvedProblem:
 
     def _exact_prices(self) -> exact_duals.ExactPrices:
         problem, count = self.read_again(), len(self.pairs[0])
-        served = None if count == min(problem.n_rows, problem.n_columns) else count
-        again = solved(problem, None, served)
+        assigned = None if count == min(problem.n_rows, problem.n_columns) else count
+        again = solved(problem, None, assigned)
         if isinstance(again, proved.HallSet) or _cost_of(problem, again) != sum_of(self.shape, self.ratios):
             raise ValueError(CHANGED)
-        found = exact_duals.exact_prices(problem, served, self.answer.objects)
+        found = exact_duals.exact_prices(problem, assigned, self.answer.objects)
         if found is None:
             raise ValueError(CHANGED)
         return found
@@ -121,12 +123,28 @@ class SolvedProblem:
             raise ValueError(CHANGED)
         return problem
 
+    def _priced(self) -> Optional[Tuple[AssignmentProblem, proved.Assignment]]:
+        """The problem of the call, and the answer with its prices, or with those of the duals; None where it is in
+        another unit than they are."""
+        answer, unit = self.answer, self.shape.unit
+        if answer.prices is None and self.pairs[0]:
+            (rows, columns, _), unit = self.duals
+            own = rows if self.shape.n_rows > self.shape.n_columns else columns
+            highest = max(own)
+            if highest - min(own) <= GREATEST_PRICE:
+                answer = answer._replace(prices=array("q", [highest - dual for dual in own]))
+        problem = self.read_again()
+        return (problem, answer) if problem.unit == unit else None
+
     def is_only(self) -> Optional[bool]:
         """What the library says of whether the plan is the only best one; None where it can't say."""
-        if self.answer.prices is None:
-            return None
-        problem = self.read_again()
-        return proved.is_only(problem, self.answer) if problem.unit == self.shape.unit else None
+        asked = self._priced()
+        return None if asked is None else proved.is_only(*asked)
+
+    def next_margin(self) -> Tuple[str, int]:
+        """What the library says of the next best plan, and by how much it is worse; nothing where it can't say."""
+        asked = self._priced()
+        return ("", 0) if asked is None else proved.next_margin(*asked)
 
     def ranking(self, problem: Optional[AssignmentProblem] = None) -> Ranking:
         """The plans of the problem, from this one on. Without a problem it is that of the call, checked."""

@@ -42,7 +42,7 @@ def check(costs: Any, columns: Any, prices: Any, client: Any = None, *, shape: O
     -------
     Verdict
         True as a condition exactly if at these prices no row has a better pair than its own, no two rows have one
-        column and all are served that can be. Sums of doubles are compared without rounding.
+        column and all are assigned that can be. Sums of doubles are compared without rounding.
 
     Raises
     ------
@@ -104,16 +104,16 @@ def _lost_of_least(costs: Any, prices: Any, least: Any) -> Any:
 
 def _plan_fault(form: Form, own: Any, prices: Any) -> Optional[Verdict]:
     """What is wrong with a plan and prices that no block sees."""
-    served = own[own >= 0]
-    if len(served) and served.max() >= form.m:
+    assigned = own[own >= 0]
+    if len(assigned) and assigned.max() >= form.m:
         return Verdict(f"row {int(own.argmax())} has column {own.max()}, and there are {form.m}", int(own.argmax()))
-    counts = numpy.bincount(served, minlength=form.m)
+    counts = numpy.bincount(assigned, minlength=form.m)
     if counts.max() > 1:
         return Verdict(f"column {int(counts.argmax())} is given twice", None, int(counts.argmax()))
     if (prices < 0).any():
         return Verdict(f"the price of column {int(prices.argmin())} is below 0", None, int(prices.argmin()))
-    if len(served) < min(form.n, form.m):
-        return Verdict(f"{len(served)} rows have a column, and {min(form.n, form.m)} could")
+    if len(assigned) < min(form.n, form.m):
+        return Verdict(f"{len(assigned)} rows have a column, and {min(form.n, form.m)} could")
     free = numpy.flatnonzero((counts == 0) & (prices != 0))
     return Verdict(f"nobody has column {free[0]}, and its price isn't 0", None, int(free[0])) if len(free) else None
 

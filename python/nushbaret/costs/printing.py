@@ -14,6 +14,8 @@ from typing import Any, Tuple
 from . import parts
 from .limits import FEW
 
+# The extension module, which knows those of 32 bits; None where it isn't to be used.
+EXTENSION = "nushbaret._extension"
 # The letters in `struct` of floats of so many bytes.
 _LETTER = {2: "e", 4: "f"}
 _LETTERS = frozenset(_LETTER.values())
@@ -85,7 +87,12 @@ def _powers_of(numpy: Any) -> Any:
 
 def of_array(numpy: Any, flat: Any) -> Any:
     """What the floats of an array of 16 or 32 bits print as; infinities and NaN stay."""
-    return parts.filled(numpy, numpy.float64, len(flat), lambda part: _of_part(numpy, flat[part]))
+    held = sys.modules.get(EXTENSION)
+    found = numpy.empty(len(flat), numpy.float64)
+    for part in parts.parts(len(flat)):
+        if held is None or not held.printed(flat[part], found[part]):
+            found[part] = _of_part(numpy, flat[part])
+    return found
 
 
 def of_shape(numpy: Any, values: Any) -> Any:

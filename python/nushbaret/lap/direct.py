@@ -17,7 +17,7 @@ from ..costs.naming import is_frame, labels_of
 from ..costs.problem import AssignmentProblem
 from . import library, proved
 
-NAME = "nushbaret._extension"
+NAME = printing.EXTENSION
 FILE = "_extension.abi3.so"
 # What the extension calls.
 EXPORTS = ("nushbaret_doubles", "nushbaret_check_doubles", "nushbaret_dense_from", "nushbaret_sparse_from",

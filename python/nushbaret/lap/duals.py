@@ -20,12 +20,12 @@ class ExactPrices(NamedTuple):
     unit: Unit
 
 
-def exact_prices(problem: AssignmentProblem, served: Optional[int], objects: Sequence[int]) -> Optional[ExactPrices]:
+def exact_prices(problem: AssignmentProblem, assigned: Optional[int], objects: Sequence[int]) -> Optional[ExactPrices]:
     """The exact prices of the objects in a best plan, which gives each person one of `objects`, from 1 on; None if
     there is no plan."""
     problem = levels.prepared(problem)
     with levels.quiet(problem):
-        level = levels.first_level(problem, served)
+        level = levels.first_level(problem, assigned)
     if isinstance(level, proved.HallSet):
         return None
     n, m = level.asked.n, level.asked.m

@@ -24,11 +24,11 @@ from .arrays import BITS, Level, Pairs, more
 from .reduced import is_only_plan, kept, level_of
 
 
-def solved_by_levels(problem: AssignmentProblem, served: Optional[int],
+def solved_by_levels(problem: AssignmentProblem, assigned: Optional[int],
                      start: Optional[proved.WarmStart]) -> Union[proved.Assignment, proved.HallSet]:
     """The best plan of so many pairs, for costs of any size; its answer has no prices."""
     with quiet(problem):
-        return _solved(prepared(problem), served, start)
+        return _solved(prepared(problem), assigned, start)
 
 
 def quiet(problem: AssignmentProblem) -> Any:
@@ -36,19 +36,19 @@ def quiet(problem: AssignmentProblem) -> Any:
     return problem.numpy.errstate(all="ignore") if problem.numpy else contextlib.nullcontext()
 
 
-def _solved(problem: AssignmentProblem, served: Optional[int],
+def _solved(problem: AssignmentProblem, assigned: Optional[int],
             start: Optional[proved.WarmStart]) -> Union[proved.Assignment, proved.HallSet]:
-    tied = ties.of_problem(problem) if served is None else None
+    tied = ties.of_problem(problem) if assigned is None else None
     objects = None if tied is None else ties.best(tied)
     if objects is not None:
         n, m = sorted((problem.n_rows, problem.n_columns))
         return proved.Assignment(n, m, None, objects, None)
-    priced = None if served is not None or tied or start is not None else pricing.first_level(problem, BITS,
+    priced = None if assigned is not None or tied or start is not None else pricing.first_level(problem, BITS,
                                                                                               _most_left(problem))
-    found = priced.level if priced else first_level(problem, served, start)
+    found = priced.level if priced else first_level(problem, assigned, start)
     if isinstance(found, proved.HallSet):
         return found
-    objects = doubles.best_from(problem, found) if served is None else None
+    objects = doubles.best_from(problem, found) if assigned is None else None
     if objects is None:
         objects = _from_level(problem, tied, found, priced.pairs if priced else None)
     return proved.Assignment(found.asked.n, found.asked.m, None, objects, None)
@@ -80,12 +80,12 @@ def prepared(problem: AssignmentProblem) -> AssignmentProblem:
     return reading.in_lists(problem, costs.in_list())
 
 
-def first_level(problem: AssignmentProblem, served: Optional[int],
+def first_level(problem: AssignmentProblem, assigned: Optional[int],
                 start: Optional[proved.WarmStart] = None) -> Union[Level, proved.HallSet]:
     """The level of the first unit."""
     coarse, shift = _rounded(problem)
-    asked = proved.instance_of(coarse, served)
-    first = None if start is None else proved.first_of(coarse, start, served)
+    asked = proved.instance_of(coarse, assigned)
+    first = None if start is None else proved.first_of(coarse, start, assigned)
     answer = proved.answer(coarse, asked, first)
     if answer is None:
         raise RuntimeError("costs were rounded to the library's range, and it says otherwise")

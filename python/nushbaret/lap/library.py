@@ -53,13 +53,13 @@ class Record(ctypes.Structure):
 
     _fields_ = [("stage", ctypes.c_uint32), ("shift", ctypes.c_uint32), ("slackness", ctypes.c_int64),
                 ("bids", ctypes.c_uint64), ("passes", ctypes.c_uint64), ("dummy_bids", ctypes.c_uint32),
-                ("flags", ctypes.c_uint32), ("looks", ctypes.c_uint64)]
+                ("flags", ctypes.c_uint32), ("arc_scans", ctypes.c_uint64)]
 
 
 # How many lists each call takes.
 _LISTS = {"dense": 4, "dense_from": 5, "sparse": 6, "sparse_from": 7, "check": 5, "check_hall": 5, "bottleneck": 6,
           "next": 5, "unique": 7}
-# What some take after these: a budget and a record; how many looks, another list, and where a number is written.
+# What some take after these: a budget and a record; how many arc scans, another list, and where a number is written.
 _IN_PIECES = [ctypes.c_uint64, ctypes.c_void_p]
 _MORE = {"dense_from": _IN_PIECES, "sparse_from": _IN_PIECES, "bottleneck": _IN_PIECES,
          "next": [ctypes.c_uint64, ctypes.c_void_p, ctypes.c_size_t, ctypes.c_void_p]}
@@ -155,7 +155,7 @@ def searched(sense: bool, n: int, m: int, lists: Sequence[Any], first: Optional[
     persons and prices.
 
     A search that may take long is done in pieces, so that Ctrl-C ends it, and TimeoutError is raised where the time of
-    `limited` is over. After each piece its `progress` is called with how many persons are served."""
+    `limited` is over. After each piece its `progress` is called with how many persons are assigned."""
     name, pairs = "dense" if len(lists) == 1 else "sparse", len(lists[-1])
     progress = progress_asked()
     if first is None and _end() is None and progress is None and n * pairs < LONG:
@@ -187,7 +187,7 @@ def next_margin(sense: bool, n: int, m: int, lists: Sequence[Any], objects: Numb
     look_at_time()
     margin, other = ctypes.c_int64(), array("I", bytes(4 * n))
     code, _ = call("next", sense, n, m, *lists, objects, prices,
-                   piece=(_LOOKS_FOR_NEXT, *other.buffer_info(), ctypes.addressof(margin)))
+                   piece=(_ARC_SCANS_FOR_NEXT, *other.buffer_info(), ctypes.addressof(margin)))
     return code, margin.value
 
 
@@ -198,28 +198,28 @@ def progress_asked() -> Optional[Callable[[int, int], Any]]:
 
 
 class PieceSize(NamedTuple):
-    """How many looks at pairs a piece of a search has at least: so many, and so many for each pair, since each piece
+    """How many arc scans a piece of a search has at least: so many, and so many for each pair, since each piece
     reads all of them."""
 
-    looks: int
+    arc_scans: int
     passes: int
 
 
 class Pace:
-    """How long the pieces of a search are. Each has up to a quarter of the looks that all before it had, since a search
-    may lose by many short ones; but no more than the time that is left."""
+    """How long the pieces of a search are. Each has up to a quarter of the arc scans that all before it had, since a
+    search may lose by many short ones; but no more than the time that is left."""
 
     def __init__(self, piece: PieceSize, pairs: int):
-        self.least, self.looks, self.began = piece.looks + piece.passes * pairs, 0, time.monotonic()
+        self.least, self.arc_scans, self.began = piece.arc_scans + piece.passes * pairs, 0, time.monotonic()
 
     def budget(self) -> int:
-        """The looks of the next piece."""
+        """The arc scans of the next piece."""
         now, end = time.monotonic(), _end()
-        looks = max(self.least, self.looks // 4)
-        if end is not None and self.looks:
-            looks = max(self.least, min(looks, int(self.looks * (end - now) / max(now - self.began, 1e-9))))
-        self.looks += looks
-        return looks
+        budget = max(self.least, self.arc_scans // 4)
+        if end is not None and self.arc_scans:
+            budget = max(self.least, min(budget, int(self.arc_scans * (end - now) / max(now - self.began, 1e-9))))
+        self.arc_scans += budget
+        return budget
 
 
 # The alarm of a thread's call, and what is called with its progress.
@@ -230,7 +230,7 @@ LONG = 2**27
 LONGEST = 2**33
 PIECES = {"dense": PieceSize(2 * 10**7, 10), "sparse": PieceSize(5 * 10**6, 4), "counts": PieceSize(5 * 10**6, 4)}
 # About a second, in which Ctrl-C and the time have to wait.
-_LOOKS_FOR_NEXT = 10**8
+_ARC_SCANS_FOR_NEXT = 10**8
 _LONGEST_WAIT = 10.0**5
 _TIME_IS_OVER = "the time is over; nothing of the caller's was changed"
 
@@ -296,7 +296,7 @@ def started(thread: threading.Thread) -> None:
 
 class limited:
     """Within, calls and the steps of Python raise TimeoutError after so many seconds; never where that is None. After
-    each piece of a search `progress` is called with the persons served so far, and their number."""
+    each piece of a search `progress` is called with the persons assigned so far, and their number."""
 
     def __init__(self, timeout: Optional[float], progress: Optional[Callable[[int, int], Any]] = None):
         if timeout is not None and not hasattr(timeout, "__float__"):
@@ -304,8 +304,8 @@ class limited:
         if timeout is not None and not timeout >= 0:
             raise ValueError(f"timeout is {timeout!r}: it must be a number of seconds, 0 or more")
         if progress is not None and not callable(progress):
-            raise TypeError(f"progress is {progress!r}: it must be a call of two numbers, how many are served and how "
-                            "many there are")
+            raise TypeError(f"progress is {progress!r}: it must be a call of two numbers, how many are assigned and "
+                            "how many there are")
         # A whole number may be beyond all floats.
         self.timeout = None if timeout is None else float(timeout) if timeout <= sys.float_info.max else math.inf
         self.progress = progress

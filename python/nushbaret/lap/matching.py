@@ -68,7 +68,7 @@ def fullest(columns: Lists, n_columns: int) -> List[Optional[int]]:
     return matching.owner
 
 
-def most_served(problem: AssignmentProblem) -> int:
+def most_assigned(problem: AssignmentProblem) -> int:
     """The greatest number of rows that can have a column each."""
     owner = fullest(lists_of_nodes(problem.n_rows, problem.persons, problem.objects), problem.n_columns)
     return len(owner) - owner.count(None)
@@ -102,8 +102,8 @@ def groups_of(lists: Lists, other: int) -> List[Group]:
         How many nodes there are on the other side.
     """
     mates = fullest(lists, other)
-    served = set(mates)
-    waiting = [node for node in range(len(lists)) if node not in served]
+    assigned = set(mates)
+    waiting = [node for node in range(len(lists)) if node not in assigned]
     reached = set(waiting)
     while waiting:
         for item in lists[waiting.pop()]:

@@ -3,7 +3,7 @@ a row gets another column at the least cost more. Rows and columns that stay out
 dummy row, which cost nothing."""
 import heapq
 from itertools import repeat
-from typing import Any, Dict, FrozenSet, Iterable, List, NamedTuple, Optional, Sequence, Tuple
+from typing import Any, Dict, FrozenSet, Iterable, List, NamedTuple, Optional, Sequence, Set, Tuple
 
 INFINITE = float("inf")
 NOBODY: FrozenSet[int] = frozenset()
@@ -42,14 +42,20 @@ class Paths:
         self.n_rows, self.n_columns, self.rows_out, self.columns_out = len(lists), n_columns, rows_out, columns_out
         self.lists = lists + [(range(n_columns if columns_out else 0), repeat(0))]
 
-    def within(self, rows: List[int], columns: List[int], most: int) -> "Paths":
+    def within(self, rows: List[int], columns: List[int], most: int, numpy: Any = None) -> "Paths":
         """The paths along pairs of a reduced cost of at most so much: all that are no longer."""
         limits = [most + dual for dual in columns]
+        is_small = max(abs(bound) for bound in limits + rows) < 2**62
+        bounds = numpy.array(limits[:self.n_columns], numpy.int64) if numpy and is_small else None
         lists = []
         for row, dual in enumerate(rows[:self.n_rows]):
             own, values = self.lists[row]
-            kept = [(column, cost) for column, cost in zip(own, values) if cost - dual <= limits[column]]
-            lists.append(([column for column, _ in kept], [cost for _, cost in kept]))
+            if bounds is not None and isinstance(values, memoryview):
+                kept = numpy.flatnonzero(numpy.asarray(values) <= bounds + dual).tolist()
+                lists.append((kept, [values[column] for column in kept]))
+                continue
+            places = [place for place, column in enumerate(own) if values[place] - dual <= limits[column]]
+            lists.append(([own[place] for place in places], [values[place] for place in places]))
         return Paths(self.n_columns, lists, self.rows_out, self.columns_out)
 
     def choices(self, row: int) -> Iterable[Choice]:
@@ -108,17 +114,20 @@ class Paths:
                 return PathSearch(length, taker, reached, far)
             if length > far[column]:
                 continue
-            for other in self._asked(part, holder, column, row):
+            for other in self.asked(part.columns, holder, column, row):
                 if other not in reached:
                     reached[other] = column
                     go(other, length - rows[other], self.choices(other))
+            # No way is shorter than what was left last.
+            if far[target] == length:
+                return PathSearch(length, taker, reached, far)
         return PathSearch(None, taker, reached, far)
 
-    def _asked(self, part: Subproblem, holder: List[int], column: int, row: int) -> Sequence[int]:
+    def asked(self, columns: List[int], holder: List[int], column: int, row: int) -> Sequence[int]:
         """Who may be asked to leave a column: of rows that are out all after the row that the path begins with."""
         if column < self.n_columns:
             return (holder[column],)
-        return [other for other in range(row + 1, self.n_rows) if part.columns[other] == column]
+        return [other for other in range(row + 1, self.n_rows) if columns[other] == column]
 
     def changed(self, part: Subproblem, found: PathSearch, row: int) -> List[int]:
         """The columns after the changes of a path."""
@@ -147,18 +156,63 @@ class Paths:
 
     def first_of_its_cost(self, part: Subproblem) -> Subproblem:
         """The part with that one of its best plans whose columns come first, row by row."""
-        closed = self.closed(part)
+        plan, closed = _TightPlan(self, part), set(self.closed(part))
         for row in range(part.first, self.n_rows):
             banned = part.banned if row == part.first else NOBODY
             base = part.row_duals[row]
             for column, cost in self.choices(row):
-                if column >= part.columns[row]:
+                if column >= plan.columns[row]:
                     break
-                if cost - base == part.column_duals[column] and column not in banned and column not in closed:
-                    found = self.search(part, self.holders(part), closed, row, [(column, cost)], 0)
-                    if found.length is not None:
-                        part = part._replace(columns=self.changed(part, found, row))
-                        break
-            if part.columns[row] < self.n_columns:
-                closed.append(part.columns[row])
-        return part
+                if cost - base == part.column_duals[column] and column not in banned and column not in closed \
+                        and plan.give(row, column, closed):
+                    break
+            if plan.columns[row] < self.n_columns:
+                closed.add(plan.columns[row])
+        return part._replace(columns=plan.columns)
+
+
+class _TightPlan:
+    """A best plan of a part, which changes along pairs of reduced cost 0."""
+
+    def __init__(self, paths: Paths, part: Subproblem):
+        self.paths, self.part, self.columns, self.holder = paths, part, part.columns.copy(), paths.holders(part)
+        self.held: Dict[int, Tuple[List[int], FrozenSet[int]]] = {}
+
+    def tight(self, row: int) -> Tuple[List[int], FrozenSet[int]]:
+        """The columns of a row at reduced cost 0, rising and as a set."""
+        if row not in self.held:
+            base, duals = self.part.row_duals[row], self.part.column_duals
+            own = [column for column, cost in self.paths.choices(row) if cost - base == duals[column]]
+            self.held[row] = own, frozenset(own)
+        return self.held[row]
+
+    def give(self, row: int, column: int, closed: Set[int]) -> bool:
+        """Gives a row a column that it can have at reduced cost 0, if others, after it, can change so that its own one
+        is taken; breadth first."""
+        target, taker = self.columns[row], {column: row}
+        left: Dict[int, int] = {}
+        waiting = [column]
+        for asked in waiting:
+            for other in self.paths.asked(self.columns, self.holder, asked, row):
+                if other in left:
+                    continue
+                left[other] = asked
+                own, known = self.tight(other)
+                if target in known:
+                    taker[target] = other
+                    self._change(row, target, taker, left)
+                    return True
+                free = [another for another in own if another not in taker and another not in closed]
+                taker.update(dict.fromkeys(free, other))
+                waiting.extend(free)
+        return False
+
+    def _change(self, row: int, column: int, taker: Dict[int, int], left: Dict[int, int]) -> None:
+        """Lets each one on a path to a column take the next one's."""
+        taking = -1
+        while taking != row:
+            taking = taker[column]
+            self.holder[column] = taking
+            if taking < self.paths.n_rows:
+                self.columns[taking] = column
+            column = left.get(taking, column)

@@ -10,7 +10,7 @@ from ..costs.numbers import Unit, in_unit, unit_of
 from ..costs.orientation import oriented
 from ..costs.problem import AssignmentProblem, costs_of_pairs, in_whole_numbers, lists_of
 from . import arrays, library, proved
-from .matching import most_served
+from .matching import most_assigned
 from .solving import prove_most
 
 
@@ -32,7 +32,7 @@ def check_wholly(problem: AssignmentProblem, rows: Sequence[int], columns: Seque
     found, count = check_problem(problem, rows, columns, prices), len(rows)
     if not found or count == min(problem.n_rows, problem.n_columns):
         return found
-    most = most_served(problem)
+    most = most_assigned(problem)
     if most > count:
         return CheckOutcome(f"{counted(count, 'row')} of {problem.n_rows} {_has(count)} a column, and {most} can")
     if count:

@@ -63,20 +63,20 @@ class FirstPrices(NamedTuple):
 NONE = array("I")
 
 
-def sizes_of(problem: AssignmentProblem, served: Optional[int]) -> Tuple[int, int, int]:
+def sizes_of(problem: AssignmentProblem, assigned: Optional[int]) -> Tuple[int, int, int]:
     """How many persons there are, how many objects, and how many of these are dummies."""
     n, most = sorted((problem.n_rows, problem.n_columns))
-    dummies = 0 if served is None else n - served
+    dummies = 0 if assigned is None else n - assigned
     if most + dummies > MOST_PERSONS:
-        raise TooLarge(f"{problem.n_rows} rows and {problem.n_columns} columns, of which {served} can be paired, make "
-                       f"{most + dummies} with dummies: at most {MOST_PERSONS} are possible")
+        raise TooLarge(f"{problem.n_rows} rows and {problem.n_columns} columns, of which {assigned} can be paired, "
+                       f"make {most + dummies} with dummies: at most {MOST_PERSONS} are possible")
     return n, most + dummies, dummies
 
 
-def instance_of(problem: AssignmentProblem, served: Optional[int] = None, out: int = 0) -> Instance:
-    """The problem whose assignments have `served` pairs, or as many as the shorter side has nodes. `out` is the cost of
-    staying out."""
-    n, m, dummies = sizes_of(problem, served)
+def instance_of(problem: AssignmentProblem, assigned: Optional[int] = None, out: int = 0) -> Instance:
+    """The problem whose assignments have `assigned` pairs, or as many as the shorter side has nodes. `out` is the cost
+    of staying out."""
+    n, m, dummies = sizes_of(problem, assigned)
     if problem.persons is None and not dummies:
         return Instance(n, m, NONE, NONE, costs_by_persons(problem))
     problem = listed(problem)
@@ -130,16 +130,34 @@ def _searched(asked: Instance, maximize: bool, lists: Sequence[Any],
     return code, info, HallSet(persons[:info.persons], objects[:info.objects]) if code == "HALL" else None
 
 
-def is_only(problem: AssignmentProblem, best: Assignment) -> Optional[bool]:
-    """Whether `nushbaret_unique` proves that no other plan is as good as an answer without dummies, or names one that
-    is; None where it says neither, as of costs beyond its range."""
-    if best.prices is None or problem.costs.of_64_bits() is None or best.m != max(problem.n_rows, problem.n_columns):
+def _asked_about(problem: AssignmentProblem, best: Assignment) -> Optional[Tuple[Any, ...]]:
+    """What the library is asked about an answer without dummies: the sense, how many persons and objects there are, the
+    lists, the answer's objects and its prices; None where it can't be asked, as of costs beyond its range."""
+    if best.prices is None or not best.n or best.m != max(problem.n_rows, problem.n_columns):
+        return None
+    if problem.costs.of_64_bits() is None:
         return None
     asked = instance_of(problem)
-    other, ranks = array("I", bytes(4 * asked.n)), array("i", bytes(4 * asked.m))
-    code, _ = library.call("unique", problem.maximize, asked.n, asked.m, *asked[2:], best.objects, best.prices, other,
-                           ranks)
+    return problem.maximize, asked.n, asked.m, asked[2:], best.objects, best.prices
+
+
+def is_only(problem: AssignmentProblem, best: Assignment) -> Optional[bool]:
+    """Whether `nushbaret_unique` proves that no other plan is as good as an answer, or names one that is; None where it
+    says neither."""
+    about = _asked_about(problem, best)
+    if about is None:
+        return None
+    sense, n, m, lists, objects, prices = about
+    code, _ = library.call("unique", sense, n, m, *lists, objects, prices, array("I", bytes(4 * n)),
+                           array("i", bytes(4 * m)))
     return {"BEST": True, "TIED": False}.get(code)
+
+
+def next_margin(problem: AssignmentProblem, best: Assignment) -> Tuple[str, int]:
+    """What `nushbaret_next` says of an answer, and by how much the next best plan is worse; nothing where it can't be
+    asked."""
+    about = _asked_about(problem, best)
+    return ("", 0) if about is None else library.next_margin(*about)
 
 
 def best_of(asked: Instance) -> Assignment:
@@ -288,9 +306,9 @@ def rounded_prices(problem: AssignmentProblem, prices: List[Fraction], parts: in
     return None if max(whole, default=0) > GREATEST_PRICE else whole
 
 
-def first_of(problem: AssignmentProblem, start: WarmStart, served: Optional[int]) -> Optional[FirstPrices]:
+def first_of(problem: AssignmentProblem, start: WarmStart, assigned: Optional[int]) -> Optional[FirstPrices]:
     """Where the library's search begins; prices of dummies are 0. None where prices are too far apart to be of use."""
-    n, _, dummies = sizes_of(problem, served)
+    n, _, dummies = sizes_of(problem, assigned)
     prices, objects = rounded_prices(problem, start.prices), array("I", bytes(4 * n))
     if prices is None:
         return None

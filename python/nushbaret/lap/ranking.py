@@ -15,16 +15,14 @@ from itertools import compress
 from typing import Any, Iterable, Iterator, List, Optional, Sequence, Tuple
 
 from ..costs.kinds import WholeNumbers, whole_numbers
-from ..costs.limits import GREATEST_PRICE
 from ..costs.numbers import ONE, Ratio, Unit, in_unit, unit_of
-from ..costs.orientation import oriented
 from ..costs.problem import AssignmentProblem, costs_of_pairs, in_whole_numbers, lists_of
 from . import library
 from .duals import duals_of_whole
 from .matching import Group, prove_short
 from .paths import INFINITE, NOBODY, Choice, PathSearch, Paths, Subproblem
 from .plan_check import check_problem
-from .proved import Duals, instance_of
+from .proved import Duals
 from .solving import BestPlan, least_sum
 
 
@@ -130,41 +128,18 @@ def plans_in_order(best: BestPlan, count: int) -> Iterator[Tuple[List[int], List
             ranking.split(part, left - 1)
 
 
-def next_part(ranking: Ranking) -> Optional[Subproblem]:
-    """The part of the next best plan after the whole problem's; None if there is no other plan. The library says what
-    it costs if it can: then only paths of this length are searched for."""
-    code, margin = _next_margin(ranking)
-    if code == "ALONE":
-        return None
+def next_part(ranking: Ranking, margin: Optional[int] = None) -> Optional[Subproblem]:
+    """The part of the next best plan after the whole problem's; None if there is no other plan. `margin` is by how much
+    it is worse, if the library says so: then only paths of this length are searched for."""
     whole = ranking.whole
-    if code == "BEST":
+    if margin is not None:
         ranking.longest = margin
-        ranking.paths = ranking.paths.within(whole.row_duals, whole.column_duals, margin)
+        ranking.paths = ranking.paths.within(whole.row_duals, whole.column_duals, margin, ranking.problem.numpy)
     ranking.split(whole, 1)
     part = ranking.take()
-    if code == "BEST" and (part is None or part.cost != whole.cost + margin):
+    if margin is not None and (part is None or part.cost != whole.cost + margin):
         raise RuntimeError(f"the library found that the next best plan is worse by {margin}, and none was found")
     return part
-
-
-def _next_margin(ranking: Ranking) -> Tuple[str, int]:
-    """What the library says of the next best plan, and by how much it is worse. Nothing where costs or prices are
-    beyond its range, or plans leave out rows and columns that could be paired."""
-    problem, whole = ranking.problem, ranking.whole
-    n, most = sorted((problem.n_rows, problem.n_columns))
-    pairs = [(row, column) for row, column in enumerate(whole.columns) if column < problem.n_columns]
-    of_objects = (whole.row_duals if problem.n_rows > problem.n_columns else whole.column_duals)[:most]
-    if len(pairs) < n or not n or ranking.unit != problem.unit or problem.costs.of_64_bits() is None:
-        return "", 0
-    highest = max(of_objects)
-    if highest - min(of_objects) > GREATEST_PRICE:
-        return "", 0
-    objects = array("I", bytes(4 * n))
-    for person, item in zip(*oriented(problem, *zip(*pairs))):
-        objects[person] = item + 1
-    asked = instance_of(problem)
-    return library.next_margin(problem.maximize, asked.n, asked.m, asked[2:], objects,
-                               array("q", [highest - dual for dual in of_objects]))
 
 
 def _common(first: Unit, second: Unit) -> Unit:

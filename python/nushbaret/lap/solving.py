@@ -5,65 +5,66 @@ from typing import Any, List, NamedTuple, Optional, Tuple, Union
 from ..costs.kinds import WholeNumbers
 from ..costs.problem import AssignmentProblem, costs_of_pairs
 from . import levels, library, proved
-from .matching import most_served
+from .matching import most_assigned
 
 Outcome = Union[proved.Assignment, proved.HallSet]
 Began = Optional[proved.WarmStart]
 
 
-def solved(problem: AssignmentProblem, start: Began = None, served: Optional[int] = None) -> Outcome:
+def solved(problem: AssignmentProblem, start: Began = None, assigned: Optional[int] = None) -> Outcome:
     """The answer to the problem of so many pairs: the library's, or by levels where costs are beyond its range."""
-    if served == 0 or not min(problem.n_rows, problem.n_columns):
+    if assigned == 0 or not min(problem.n_rows, problem.n_columns):
         return proved.no_pairs(problem)
     if problem.costs.of_64_bits() is not None:
-        asked = proved.instance_of(problem, served)
-        answer = proved.answer(problem, asked, None if start is None else proved.first_of(problem, start, served))
+        asked = proved.instance_of(problem, assigned)
+        answer = proved.answer(problem, asked, None if start is None else proved.first_of(problem, start, assigned))
         if answer is not None:
             return answer
-    return levels.solved_by_levels(problem, served, start)
+    return levels.solved_by_levels(problem, assigned, start)
 
 
 def most(problem: AssignmentProblem, start: Began) -> proved.Assignment:
     """The best of the fullest plans. The library also proves that no plan has one pair more."""
-    served = most_served(problem)
-    answer = solved(problem, start, served)
+    assigned = most_assigned(problem)
+    answer = solved(problem, start, assigned)
     if isinstance(answer, proved.HallSet):
-        raise RuntimeError(f"{served} pairs were found to be possible, and the library says otherwise")
-    prove_most(problem, served)
+        raise RuntimeError(f"{assigned} pairs were found to be possible, and the library says otherwise")
+    prove_most(problem, assigned)
     return answer
 
 
-def prove_most(problem: AssignmentProblem, served: int) -> None:
+def prove_most(problem: AssignmentProblem, assigned: int) -> None:
     """Lets the library say that no plan has more pairs."""
-    if not isinstance(solved(problem, served=served + 1), proved.HallSet):
-        raise RuntimeError(f"{served} pairs were found to be the most, and the library says otherwise")
+    if not isinstance(solved(problem, assigned=assigned + 1), proved.HallSet):
+        raise RuntimeError(f"{assigned} pairs were found to be the most, and the library says otherwise")
 
 
-def least_sum(problem: AssignmentProblem, served: int) -> Optional[int]:
+def least_sum(problem: AssignmentProblem, assigned: int) -> Optional[int]:
     """The least sum of so many pairs, whose costs are whole; None if the library proves that there are none."""
-    answer = solved(problem, None, served)
+    answer = solved(problem, None, assigned)
     return None if isinstance(answer, proved.HallSet) else sum(costs_of_pairs(problem,
                                                                               *proved.pairs_of(problem, answer)))
 
 
-def worst_needed(problem: AssignmentProblem, served: int) -> Any:
+def worst_needed(problem: AssignmentProblem, assigned: int) -> Any:
     """The cost of the worst pair in a plan of so many pairs whose worst pair is as good as possible. The library proves
     that each plan of so many pairs has one as bad."""
-    found = None if problem.costs.of_64_bits() is None else _worst(problem, served)
+    found = None if problem.costs.of_64_bits() is None else _worst(problem, assigned)
     if found is not None:
         return found
     # Only the order of costs matters.
     values, ranks = _ranks(problem)
-    found = _worst(problem._replace(costs=WholeNumbers(ranks, numpy=problem.numpy)), served)
-    return values[found or 0]
+    place = _worst(problem._replace(costs=WholeNumbers(ranks, numpy=problem.numpy)), assigned)
+    assert place is not None, "places of costs are in the library's range"
+    return values[place]
 
 
-def _worst(problem: AssignmentProblem, served: int) -> Optional[int]:
+def _worst(problem: AssignmentProblem, assigned: int) -> Optional[int]:
     """The same by the library; None where a cost is beyond its range. Staying out costs as much as the best pair."""
     out = 0
-    if served < min(problem.n_rows, problem.n_columns):
+    if assigned < min(problem.n_rows, problem.n_columns):
         out = int((max if problem.maximize else min)(problem.costs.numbers))
-    asked = proved.instance_of(problem, served, out)
+    asked = proved.instance_of(problem, assigned, out)
     written = [array("I", bytes(4 * asked.n)) for _ in range(3)]
     code, info = library.worst_pair(problem.maximize, asked.n, asked.m, (asked.persons, asked.objects, asked.costs),
                                     written)

@@ -68,8 +68,8 @@ def bounds_around(roster: Roster, fixed: Sequence[PlanLine]) -> Tuple[List[Bound
                for object_ in range(len(roster.objects))]
     if roster.has_bounds:
         return persons, objects
-    served = persons if sum(own.most for own in persons) <= sum(own.most for own in objects) else objects
-    served[:] = [Bounds(own.most, own.most) for own in served]
+    assigned = persons if sum(own.most for own in persons) <= sum(own.most for own in objects) else objects
+    assigned[:] = [Bounds(own.most, own.most) for own in assigned]
     return persons, objects
 
 

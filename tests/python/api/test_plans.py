@@ -12,12 +12,12 @@ from drawn import drawing, matrix
 from optional import np
 
 
-def ordered(costs, maximize, served):
+def ordered(costs, maximize, assigned):
     """All plans with so many pairs, in order: their cost, the columns of the rows, those that are out after all."""
     n_rows, n_columns = len(costs), len(costs[0]) if costs else 0
     found = []
-    for rows in itertools.combinations(range(n_rows), served):
-        for columns in itertools.permutations(range(n_columns), served):
+    for rows in itertools.combinations(range(n_rows), assigned):
+        for columns in itertools.permutations(range(n_columns), assigned):
             own = dict(zip(rows, columns))
             pairs = [costs[row][column] for row, column in own.items()]
             if None not in pairs:
@@ -38,12 +38,12 @@ def kept(costs, keeps):
 
 def split_by_pairs(costs, maximize, k):
     """The costs of the k best plans: Murty's split by the pairs of a plan, each subproblem solved by the library."""
-    served, numbers = len(nushbaret.solve(costs, maximize, partial=True).rows), itertools.count()
+    assigned, numbers = len(nushbaret.solve(costs, maximize, partial=True).rows), itertools.count()
     found, waiting = [], []
 
     def put(left, fixed):
         result = nushbaret.solve(left, maximize, partial=True)
-        if len(result.rows) == served:
+        if len(result.rows) == assigned:
             heapq.heappush(waiting, (-result.cost if maximize else result.cost, next(numbers), left, fixed, result))
 
     put(costs, frozenset())
@@ -192,15 +192,15 @@ class Bottlenecks(unittest.TestCase):
         for turn in range(500):
             costs, maximize, form = drawn(draw, turn)
             n_rows, n_columns = len(costs), len(costs[0])
-            served = len(nushbaret.solve(form, maximize, partial=True, missing="forbid").rows)
+            assigned = len(nushbaret.solve(form, maximize, partial=True, missing="forbid").rows)
             sign = -1 if maximize else 1
             wanted = min((max((sign * costs[row][column] for row, column in enumerate(own) if column < n_columns),
-                              default=0), sign * cost) for cost, own in ordered(costs, maximize, served))
+                              default=0), sign * cost) for cost, own in ordered(costs, maximize, assigned))
             result = nushbaret.bottleneck(form, maximize, partial=True, missing="forbid")
             worst = max((sign * costs[row][column] for row, column in result.pairs), default=0)
-            self.assertEqual((worst, sign * result.cost, len(result.rows)), (*wanted, served))
+            self.assertEqual((worst, sign * result.cost, len(result.rows)), (*wanted, assigned))
             self.assertTrue(result.verify())
-            if served < min(n_rows, n_columns):
+            if assigned < min(n_rows, n_columns):
                 partial += 1
                 with self.assertRaises(nushbaret.Infeasible):
                     nushbaret.bottleneck(form, maximize, missing="forbid")
@@ -216,7 +216,7 @@ class Bottlenecks(unittest.TestCase):
 
     def test_too_few_pairs(self):
         for module, call in (("api.bottleneck", nushbaret.bottleneck), ("lap.solving", nushbaret.solve)):
-            with mock.patch(f"nushbaret.{module}.most_served", return_value=1):
+            with mock.patch(f"nushbaret.{module}.most_assigned", return_value=1):
                 with self.assertRaisesRegex(RuntimeError, "1 pairs were found to be the most, and the library says "
                                             "otherwise"):
                     call([[1, None, None], [2, 3, None], [4, None, None]], partial=True)

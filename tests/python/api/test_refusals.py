@@ -173,7 +173,7 @@ class Refused(unittest.TestCase):
 
 class Limits(unittest.TestCase):
     def test_dummies_at_the_limit_of_costs(self):
-        """Dummies cost nothing, so that the greatest costs are served as the small ones are."""
+        """Dummies cost nothing, so that the greatest costs are assigned as the small ones are."""
         costs = [[MOST, None, -MOST], [None, None, MOST], [None, None, -MOST]]
         for maximize, wanted in (False, 0), (True, 2 * MOST):
             result = nushbaret.solve(costs, maximize, partial=True)

@@ -13,10 +13,10 @@ from drawn import best, drawing, matrix, proves
 
 
 class Drawn(unittest.TestCase):
-    def hold(self, costs, result, maximize, served):
-        self.assertEqual(result.cost, best(costs, maximize, served))
+    def hold(self, costs, result, maximize, assigned):
+        self.assertEqual(result.cost, best(costs, maximize, assigned))
         self.assertEqual(result.cost, sum(costs[row][column] for row, column in zip(result.rows, result.columns)))
-        self.assertEqual(len(set(result.columns)), served)
+        self.assertEqual(len(set(result.columns)), assigned)
         self.assertEqual(result.rows, sorted(set(result.rows)))
         self.assertTrue(proves(costs, result, maximize))
         self.assertTrue(result.verify())
@@ -62,7 +62,7 @@ class Drawn(unittest.TestCase):
         for _ in range(1000):
             n_rows, n_columns = draw.randint(1, 5), draw.randint(1, 5)
             costs = matrix(draw, n_rows, n_columns, draw.choice([1, 9, 10**12]), draw.choice([0.3, 0.6, 0.9]))
-            maximize, served = draw.random() < 0.5, min(n_rows, n_columns)
+            maximize, assigned = draw.random() < 0.5, min(n_rows, n_columns)
             listed = [(row, column, cost) for row, held in enumerate(costs) for column, cost in enumerate(held)
                       if cost is not None]
             draw.shuffle(listed)
@@ -70,12 +70,12 @@ class Drawn(unittest.TestCase):
             try:
                 result = nushbaret.solve_sparse(n_rows, n_columns, *lists, maximize=maximize)
             except nushbaret.Infeasible as fault:
-                self.assertIsNone(best(costs, maximize, served))
+                self.assertIsNone(best(costs, maximize, assigned))
                 self.hold_proof(costs, fault)
                 self.hold_fullest(costs, maximize, lists)
                 short += 1
                 continue
-            self.hold(costs, result, maximize, served)
+            self.hold(costs, result, maximize, assigned)
             self.assertTrue(result.verify(lists[2], lists[0], lists[1]))
             self.assertEqual(nushbaret.solve(costs, maximize, partial=True).cost, result.cost)
             found += 1
@@ -98,10 +98,10 @@ class Drawn(unittest.TestCase):
 
     def hold_fullest(self, costs, maximize, lists):
         result = nushbaret.solve(costs, maximize, partial=True)
-        served = len(result.rows)
-        self.assertIsNone(best(costs, maximize, served + 1))
-        if served:
-            self.hold(costs, result, maximize, served)
+        assigned = len(result.rows)
+        self.assertIsNone(best(costs, maximize, assigned + 1))
+        if assigned:
+            self.hold(costs, result, maximize, assigned)
         else:
             self.assertEqual((result.cost, result.unmatched_rows), (0, list(range(len(costs)))))
         n_columns = len(costs[0])
@@ -114,8 +114,8 @@ class Drawn(unittest.TestCase):
             n_rows, n_columns, places = draw.randint(1, 4), draw.randint(1, 4), draw.randint(1, 6)
             whole, maximize = matrix(draw, n_rows, n_columns, 10**draw.randint(1, 12)), draw.random() < 0.5
             exact = [[Decimal(f"{cost}E-{places}") for cost in row] for row in whole]
-            served = min(n_rows, n_columns)
-            wanted = best(exact, maximize, served)
+            assigned = min(n_rows, n_columns)
+            wanted = best(exact, maximize, assigned)
             for costs in exact, [[float(cost) for cost in row] for row in exact]:
                 result = nushbaret.solve(costs, maximize)
                 self.assertEqual(result.cost, wanted)

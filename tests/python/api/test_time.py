@@ -47,9 +47,9 @@ def endless_call():
     return mock.patch.dict(library._calls, {name: stops for name in ("dense_from", "sparse_from")})
 
 
-def short_pieces(looks):
-    """Searches in pieces of so many looks at pairs, to begin with."""
-    return mock.patch.dict(library.PIECES, dict.fromkeys(library.PIECES, library.PieceSize(looks, 0)))
+def short_pieces(arc_scans):
+    """Searches in pieces of so many arc scans, to begin with."""
+    return mock.patch.dict(library.PIECES, dict.fromkeys(library.PIECES, library.PieceSize(arc_scans, 0)))
 
 
 class Interrupts(unittest.TestCase):
@@ -116,7 +116,7 @@ class Progress(unittest.TestCase):
         """What progress is called with in a search in small pieces, and what that returns."""
         noted = []
         with short_pieces(1):
-            found = solve(progress=lambda served, rows: noted.append((served, rows)), **words)
+            found = solve(progress=lambda assigned, rows: noted.append((assigned, rows)), **words)
         return noted, found
 
     def test_what_it_is_called_with(self):
@@ -132,15 +132,15 @@ class Progress(unittest.TestCase):
             noted, found = self.noted(call)
             self.assertEqual(found, call())
             self.assertEqual((noted[-1], {rows for _, rows in noted}), ((30, 30), {30}))
-            self.assertTrue(all(0 <= served <= 30 for served, _ in noted))
+            self.assertTrue(all(0 <= assigned <= 30 for assigned, _ in noted))
             numbers.append(len(noted))
             self.assertEqual(self.noted(call, timeout=1000)[1], found)
         self.assertGreater(min(numbers), 1)
 
     def test_it_may_end_the_call(self):
-        def stop(served, rows):
+        def stop(assigned, rows):
             nushbaret.solve([[1, 2], [3, 5]])
-            raise KeyError(served)
+            raise KeyError(assigned)
 
         with self.assertRaises(KeyError):
             nushbaret.solve(self.COSTS, progress=stop)
@@ -150,7 +150,7 @@ class Progress(unittest.TestCase):
                 nushbaret.solve(self.COSTS, progress=wrong)
 
 
-def silent(served, rows):
+def silent(assigned, rows):
     """Does nothing."""
 
 

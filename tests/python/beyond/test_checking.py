@@ -109,8 +109,8 @@ class Checks(unittest.TestCase):
         prices[random.integers(len(prices))] += random.choice([-1, 1])
         one, two = random.choice(len(columns), 2, replace=False)
         columns[[one, two]] = columns[[two, one]]
-        served = np.flatnonzero(found.columns >= 0)
-        other[served[0], found.columns[served[0]]] += random.choice([-70, 70])
+        assigned = np.flatnonzero(found.columns >= 0)
+        other[assigned[0], found.columns[assigned[0]]] += random.choice([-70, 70])
         yield costs, found.columns, prices
         yield costs, columns, found.prices
         yield other, found.columns, found.prices

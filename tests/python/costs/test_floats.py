@@ -24,9 +24,9 @@ class Lists(unittest.TestCase):
             costs = [[draw.choice([draw.random(), draw.randint(-9, 9), draw.gauss(0, 1)]) * scale
                       for _ in range(n_columns)] for _ in range(n_rows)]
             rows, columns = nushbaret.linear_sum_assignment(costs, maximize)
-            served = min(n_rows, n_columns)
-            self.assertEqual(len(set(columns)), served)
-            wanted = best([[Fraction(cost) for cost in row] for row in costs], maximize, served)
+            assigned = min(n_rows, n_columns)
+            self.assertEqual(len(set(columns)), assigned)
+            wanted = best([[Fraction(cost) for cost in row] for row in costs], maximize, assigned)
             self.assertEqual(cost_of(costs, rows, columns), wanted)
 
     def test_best_for_these_very_doubles(self):

@@ -237,7 +237,7 @@ class Time(unittest.TestCase):
                 result = nushbaret.assign_counts(*words, **named, progress=lambda *both: noted.append(both))
             self.assertEqual(result.cost, wanted.cost)
             self.assertGreater(len(noted), 0 if named else 3)
-            self.assertTrue(all(0 <= served <= rows == 60 for served, rows in noted))
+            self.assertTrue(all(0 <= assigned <= rows == 60 for assigned, rows in noted))
             self.assertEqual(noted[-1] == (60, 60), not named)
 
     def test_progress_may_end_the_call(self):

@@ -194,6 +194,44 @@ class Reading(unittest.TestCase):
                     self.assertEqual(answer[1], self.module.found(wide, False)[1])
         self.assertLess(left, len(values) // 4)
 
+    def printed(self, floats):
+        """What the extension writes, and that it is what NumPy prints; zeros have their signs."""
+        found = np.empty(len(floats))
+        self.assertIs(self.module.printed(floats, found), True)
+        wanted = floats.astype("U32").astype(float)
+        np.testing.assert_array_equal(found, wanted)
+        np.testing.assert_array_equal(np.signbit(found[found == 0]), np.signbit(wanted[wanted == 0]))
+
+    @unittest.skipUnless(np, "NumPy isn't there")
+    def test_each_exponent_of_32_bits(self):
+        draw = np.random.default_rng(309)
+        exponents = np.repeat(np.arange(256, dtype=np.uint32), 200) << 23
+        drawn = (exponents | draw.integers(0, 2**23, len(exponents), dtype=np.uint32)).view(np.float32)
+        with np.errstate(all="ignore"):
+            edges = np.concatenate([2.0**np.arange(-149, 128), [float(f"1e{power}") for power in range(-45, 39)]])
+            edges = [edges.astype(np.float32)]
+            for _ in range(3):
+                edges += [np.nextafter(edges[0], np.float32(0)), np.nextafter(edges[-1], np.float32(np.inf))]
+            self.printed(np.concatenate([*edges, -edges[0]]))
+            self.printed(drawn)
+            # Halves of a last place, and decimals of each number of digits.
+            self.printed((draw.integers(2**21, 2**23, 5000) / 4).astype(np.float32))
+            self.printed((draw.integers(1, 10**draw.integers(1, 9, 9000)) * 10.0**draw.integers(-44, 30, 9000)
+                          ).astype(np.float32))
+            self.printed(np.array([0.0, -0.0, np.inf, -np.inf, np.nan, 3.4028235e38, 1e-45], np.float32))
+
+    @unittest.skipUnless(np, "NumPy isn't there")
+    def test_arrays_that_are_printed(self):
+        floats = np.random.default_rng(310).random(300).astype(np.float32)
+        for part in floats[:0], floats[:1], floats[:63], floats[1:66], floats[::3], floats[::-1]:
+            self.printed(part)
+        room, wide = np.empty(300), floats.astype(float)
+        for given, to in ((wide, room), (floats.astype(np.float16), room), (floats.astype(">f4"), room),
+                          (floats, room[1:]), (floats, room.astype(np.float32)), (floats, np.empty(600)[::2]),
+                          (floats, room.astype(">f8")), (floats[:, None], room), (floats.tolist(), room),
+                          (floats, None)):
+            self.assertIs(self.module.printed(given, to), False)
+
     def test_arguments(self):
         """Other arguments than a matrix and a bool are judged by the longer way, which gets them as they are."""
         seen = []

@@ -41,21 +41,21 @@ class Small(unittest.TestCase):
             most, maximize = 6 if turn % 20 == 0 else 5, draw.random() < 0.5
             n_rows, n_columns = draw.randint(1, most), draw.randint(1, most)
             costs = doubles(draw, n_rows, n_columns, kind, draw.choice([1, 1, 0.8, 0.5]))
-            served = len(nushbaret.solve([[0 if cost is not None else None for cost in row] for row in costs],
+            assigned = len(nushbaret.solve([[0 if cost is not None else None for cost in row] for row in costs],
                                          partial=True).rows)
-            partial += served < min(n_rows, n_columns)
+            partial += assigned < min(n_rows, n_columns)
             for form in self.forms(costs, maximize):
                 with self.subTest(kind=kind, costs=form, maximize=maximize):
-                    self.hold_solve(form, exactly(costs, True), maximize, served)
-                    self.hold_scipys(form, exactly(costs, False), maximize, served)
+                    self.hold_solve(form, exactly(costs, True), maximize, assigned)
+                    self.hold_scipys(form, exactly(costs, False), maximize, assigned)
         self.assertGreater(partial, 60)
 
-    def hold_solve(self, form, exact, maximize, served):
+    def hold_solve(self, form, exact, maximize, assigned):
         result = nushbaret.solve(form, maximize, partial=True)
-        wanted = best(exact, maximize, served)
+        wanted = best(exact, maximize, assigned)
         self.assertEqual((sum_of(exact, result.rows, result.columns), Fraction(result.cost)), (wanted, wanted))
-        self.assertEqual(len(set(map(int, result.columns))), served)
-        if not served:
+        self.assertEqual(len(set(map(int, result.columns))), assigned)
+        if not assigned:
             return
         self.assertTrue(proves(exact, result, maximize))
         self.assertTrue(result.verify())
@@ -66,12 +66,13 @@ class Small(unittest.TestCase):
         for start in result.prices, result:
             self.assertEqual(nushbaret.solve(form, maximize, partial=True, start=start).cost, result.cost)
 
-    def hold_scipys(self, form, exact, maximize, served):
-        if served < min(len(exact), len(exact[0])):
+    def hold_scipys(self, form, exact, maximize, assigned):
+        if assigned < min(len(exact), len(exact[0])):
             with self.assertRaises(nushbaret.Infeasible):
                 nushbaret.linear_sum_assignment(form, maximize)
             return
-        self.assertEqual(sum_of(exact, *nushbaret.linear_sum_assignment(form, maximize)), best(exact, maximize, served))
+        own = nushbaret.linear_sum_assignment(form, maximize)
+        self.assertEqual(sum_of(exact, *own), best(exact, maximize, assigned))
 
     def test_numbers_of_every_kind_together(self):
         """Ints, Decimals and Fractions of any size among floats, also by listed pairs that are given twice."""
@@ -81,13 +82,13 @@ class Small(unittest.TestCase):
             costs = [[self.mixed(draw, cost) for cost in row]
                      for row in doubles(draw, n_rows, n_columns, list(KINDS)[turn % len(KINDS)])]
             exact = exactly(costs, True)
-            served = min(n_rows, n_columns)
-            self.hold_solve(costs, exact, maximize, served)
+            assigned = min(n_rows, n_columns)
+            self.hold_solve(costs, exact, maximize, assigned)
             listed = [(row, column, cost + more) for row, held in enumerate(costs) for column, cost in enumerate(held)
                       for more in ((0, 1) if isinstance(cost, (int, Fraction)) else (0,))]
             draw.shuffle(listed)
             result = nushbaret.solve_sparse(n_rows, n_columns, *map(list, zip(*listed)), maximize=maximize)
-            self.assertEqual(Fraction(result.cost), best(exact, maximize, served))
+            self.assertEqual(Fraction(result.cost), best(exact, maximize, assigned))
             self.assertTrue(proves(exact, result, maximize))
             fractions = any(isinstance(cost, Fraction) and cost.denominator > 1 for row in costs for cost in row)
             self.assertTrue(isinstance(result.cost, Fraction) if fractions else isinstance(result.cost, (int, Decimal)))
@@ -119,11 +120,11 @@ class Small(unittest.TestCase):
 
 
 class OtherCalls(unittest.TestCase):
-    def all_plans(self, exact, sign, served):
+    def all_plans(self, exact, sign, assigned):
         n_rows, n_columns = len(exact), len(exact[0])
         found = []
-        for rows in itertools.combinations(range(n_rows), served):
-            for columns in itertools.permutations(range(n_columns), served):
+        for rows in itertools.combinations(range(n_rows), assigned):
+            for columns in itertools.permutations(range(n_columns), assigned):
                 own, pairs = dict(zip(rows, columns)), [exact[row][column] for row, column in zip(rows, columns)]
                 if None not in pairs:
                     found.append((sign * sum(pairs, Fraction(0)), [own.get(row, n_columns) for row in range(n_rows)]))

@@ -58,11 +58,11 @@ class Asked(unittest.TestCase):
     def test_only_as_many_dummies_as_stay_out(self):
         costs = [[None if column % 2 and row < 3 else row * column for column in range(9)]
                  for row in range(3)] + [[None] * 9]
-        for form, served in (costs, 3), ([list(column) for column in zip(*costs)], 3):
+        for form, assigned in (costs, 3), ([list(column) for column in zip(*costs)], 3):
             calls = asked(lambda: nushbaret.solve(form, partial=True))
             self.assertEqual(calls[0][1:3], (4, 9))
             self.assertEqual([call[:3] for call in calls[1:]], [("sparse", 4, 10), ("sparse", 4, 9)])
-            self.assertEqual(len(nushbaret.solve(form, partial=True).rows), served)
+            self.assertEqual(len(nushbaret.solve(form, partial=True).rows), assigned)
 
     def test_a_column_in_reserve_for_each_row(self):
         draw, n_rows, shared = random.Random(7), 300, 270

@@ -52,16 +52,16 @@ class Small(unittest.TestCase):
                 kind, most = kinds[turn % len(kinds)], 5 if turn % 40 == 0 else 4
                 n_rows, n_columns, maximize = draw.randint(1, most), draw.randint(1, most), draw.random() < 0.5
                 costs = self.costs(draw, kind, n_rows, n_columns)
-                served = min(n_rows, n_columns)
+                assigned = min(n_rows, n_columns)
                 form = costs if turn % 3 else np.array(costs)
                 with self.subTest(kind=kind, costs=form, maximize=maximize):
                     before = finer.call_count
                     small += is_short(form, maximize)
                     result, exact = nushbaret.solve(form, maximize), exactly(costs, True)
-                    wanted = best(exact, maximize, served)
+                    wanted = best(exact, maximize, assigned)
                     paid = sum((exact[row][column] for row, column in zip(result.rows, result.columns)), Fraction(0))
                     self.assertEqual((paid, Fraction(result.cost), len(set(map(int, result.columns)))),
-                                     (wanted, wanted, served))
+                                     (wanted, wanted, assigned))
                     if turn % 20 == 0:
                         self.assertTrue(proves(exact, result, maximize))
                         self.assertTrue(result.verify())
@@ -69,7 +69,7 @@ class Small(unittest.TestCase):
                     rows, columns = nushbaret.linear_sum_assignment(form, maximize)
                     exact = exactly(costs, False)
                     paid = sum((exact[row][column] for row, column in zip(rows, columns)), Fraction(0))
-                    self.assertEqual(paid, best(exact, maximize, served))
+                    self.assertEqual(paid, best(exact, maximize, assigned))
         if extension():
             self.assertGreater(small, 600)
         self.assertGreater(refined, 200)

@@ -2,7 +2,7 @@ use Rattle.std.proofs.Common.{length, ap, ◌∙◌}
 use Rattle.assign_core.proofs.DenseRows.{length-rows_cut}
 use Rattle.cost_lists.specs.Given.{triples_of}
 use Rattle.cost_lists.specs.ListedCosts.{ListedCosts}
-use Rattle.cost_lists.proofs.InputRows.{length-rows_given}
+use Rattle.cost_lists.proofs.GivenRows.{length-rows_given}
 use Rattle.count_checker.specs.declared.lists.CountLists.{CountLists}
 use Rattle.c_counts.proofs.ones.costs_of.Goals as goal
 
