@@ -349,8 +349,9 @@ int32_t nushbaret_bottleneck(uint32_t sense, size_t n, size_t m,
 
    least[i] is the least sum of the person in the block, INT64_MAX if it has no pair there. own[i] is 1 if the block has the
    person's own pair at its number, else 0. At most `most` better pairs of a person are written, those of the least sums, by
-   persons, as far as the three lists reach, which have one length; it may be 0. The time is that of nushbaret_check,
-   twice where a dozen pairs of a row are better, up to four times where most are. */
+   persons, of a dense block then by objects, as far as the three lists reach, which have one length; it may be 0. That each
+   of them is better is proved, that they are the least ones is tested. Without a better pair the time is about that of
+   nushbaret_check; in short rows of which most pairs are better, finding the least ones takes most of it. */
 int32_t nushbaret_block(uint32_t sense, size_t n, size_t m,
     const uint32_t *of_persons, size_t of_persons_count,
     const uint32_t *of_objects, size_t of_objects_count,

@@ -195,7 +195,8 @@ def _looked_at_packs(n: int, rows: Any, columns: Any, costs: Any, asked: Asked) 
         better.append((found.rows + some.start, names[found.columns], found.costs))
         if first is None and found.first is not None:
             first = found.first[0] + some.start, int(names[found.first[1]])
-    return Look(*(numpy.concatenate(values) for values in zip(*better)), least, first, shown)
+    rows, columns, costs = (numpy.concatenate(values) for values in zip(*better))
+    return Look(rows, columns, costs, least, first, shown)
 
 
 def _of_pack(asked: Asked, some: slice, names: Any) -> Asked:
