@@ -25,11 +25,11 @@ sys.path[:0] = [{package!r}, {tests!r}]
 from nushbaret.rows import finding
 import row_models
 taken = finding._taken
-def told(search, workers, message):
+def noted(search, workers, message):
     if "started" in message:
         print(workers[-1].process.pid, flush=True)
     return taken(search, workers, message)
-finding._taken = told
+finding._taken = noted
 finding._TIMES_RELAXED = 0
 try:
     finding.find(row_models.drawn_month(random.Random(5), 60, 90), 600)
