@@ -408,5 +408,5 @@ def _refuse_twice(path: str, roster: Roster, numbered: List[Tuple[int, int, int]
     for person, object_, line in numbered:
         first = pairs.setdefault((person, object_), line)
         if first != line:
-            names = f"{roster.persons[person]}, {roster.objects[object_]}"
-            raise RosterFault(path, said("pair twice", names, item_of(path), first), line)
+            pair = f"{roster.persons[person]}, {roster.objects[object_]}"
+            raise RosterFault(path, said("pair twice", pair, item_of(path), first), line)
