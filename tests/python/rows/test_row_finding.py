@@ -147,7 +147,7 @@ class Processes(unittest.TestCase):
         code = LONG.format(package=str(here.parents[1] / "python"), tests=str(here))
         with subprocess.Popen([sys.executable, "-c", code], stdout=subprocess.PIPE, text=True) as process:
             workers = [int(process.stdout.readline()) for _ in range(2)]
-            time.sleep(2)
+            time.sleep(0.5)
             disturb(process, workers)
             self.assertEqual(process.stdout.read(), said)
         for worker in workers:
