@@ -11,8 +11,9 @@ prints whether both find the same least cost.
 `wards.py --sick` draws wards of 28 nurses of which two are gone from the 12th on, and prints how many places HiGHS
 leaves empty in the processor time that the command takes, and how many the command does.
 
-On a busy machine, seed 1: of ten months that HiGHS closed nine were proved best in 1.7 to 3.5 T, and one needed 4.4 T;
-in one that it left open in 28 s the command found 240 where HiGHS had 242. 0 places were missed in sick wards 0 and 2.
+On a busy machine, seed 1, while the search was still being made better: each of 19 months that HiGHS closed was proved
+best in 1.5 to 3.9 T; where it left months open in 28 to 37 s the command found 240, 304 and 363, and HiGHS 242, 305 and
+363. 0 places were missed in sick wards 0 and 2. The 34 months with prices that were measured from 37 on agreed.
 
 Needs SciPy and a built library."""
 import datetime

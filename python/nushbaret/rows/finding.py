@@ -189,7 +189,7 @@ class _Team:
         self.told: "queue.Queue[Dict[str, Any]]" = queue.Queue()
         self.workers: List[Worker] = []
         # When the second starts, unless it has or isn't needed; and how long it waits after a plan.
-        self.second_at, self._wait, self._may_start = math.inf, 0.0, True
+        self.second_at, self._wait, self._may_start = math.inf, math.inf, True
 
     def start(self, role: str) -> None:
         """Starts a process, which begins with the best plan so far."""
