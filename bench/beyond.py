@@ -148,8 +148,9 @@ def arc_scans(kept):
         for kind, costs, most in arc_scans_of(n):
             before = time.process_time()
             found = beyond.solve(costs, costs.shape)
-            kept.say(f"{kind}, {n}: {found.passes} passes, {found.arc_scans:.1f} arc scans, {found.pairs / n:.0f} pairs a row, "
-                     f"{time.process_time() - before:.1f} s", found.proved and (not most or found.arc_scans <= most + 0.05))
+            kept.say(f"{kind}, {n}: {found.passes} passes, {found.arc_scans:.1f} arc scans, "
+                     f"{found.pairs / n:.0f} pairs a row, {time.process_time() - before:.1f} s",
+                     found.proved and (not most or found.arc_scans <= most + 0.05))
 
 
 def drawn(kept):

@@ -220,8 +220,8 @@ class _Gathered:
     def answer(self, task: int) -> Answer:
         seen = self.seen or [(numpy.empty(0, numpy.int64), numpy.empty(0), numpy.empty(0, bool))]
         rows, least, shown = (numpy.concatenate(values) for values in zip(*seen))
-        return Answer(task, joined(self.better), self.cheap, rows, least, shown, self.arc_scans, self.size, self.is_whole,
-                      self.asked.digest())
+        return Answer(task, joined(self.better), self.cheap, rows, least, shown, self.arc_scans, self.size,
+                      self.is_whole, self.asked.digest())
 
 
 def parts_of(rows: int, columns: int, small: bool) -> Iterator[slice]:
