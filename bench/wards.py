@@ -4,7 +4,8 @@
 Each ward has 10 to 100 nurses, 2 to 8 weeks, and rules of rest, runs and weeks, some with free weekends, hours, single
 nights and seniors. HiGHS, as SciPy has it, gets a model that this script makes itself from the drawn numbers, in a
 process of its own; T is the processor time of that process, at most LIMIT. Then the command gets 4 T of processor time
-in all. Printed are T, what HiGHS found and its bound, the command's processor time, verdict, cost and bound.
+in all, as a package that is installed with its bytecode; where the clock ended it before that, it runs again. Printed
+are T, what HiGHS found and its bound, the command's processor time, verdict, cost and bound.
 `wards.py --prices` draws months in which a person missing of those wanted costs 3, and a night above the most 4, and
 prints whether both find the same least cost.
 `wards.py --sick` draws wards of 28 nurses of which two are gone from the 12th on, and prints how many places HiGHS
@@ -20,6 +21,7 @@ import os
 import pathlib
 import random
 import resource
+import shutil
 import subprocess
 import sys
 import tempfile
@@ -29,6 +31,8 @@ TOP = pathlib.Path(__file__).resolve().parent.parent
 KINDS, MINUTES = ("Early", "Late", "Night"), {"Early": 77, "Late": 77, "Night": 95}
 FIRST = datetime.date(2027, 3, 1)
 LIMIT = 30.0
+# In times of T: where the command had less of the processors, it runs again with more time by the clock.
+ENOUGH = 3.7
 # Nurses, weeks, and rules by letters: F free weekends, H hours, N no single night, S a senior on each night.
 # With prices: of a person that is missing of those wanted, and of a night above the most.
 WANTED, NIGHT = 3, 4
@@ -201,6 +205,13 @@ def alone(seed, number, seconds, *more):
     return json.loads(ran.stdout), took
 
 
+def install(place):
+    """Copies the package with its library to a folder, with bytecode."""
+    shutil.copytree(TOP / "python" / "nushbaret", place / "nushbaret", ignore=shutil.ignore_patterns("__pycache__"))
+    shutil.copy(TOP / "c" / "out" / "libnushbaret.so", place / "nushbaret")
+    subprocess.run([sys.executable, "-m", "compileall", "-q", str(place)], check=True)
+
+
 def command(ward, seconds, *more):
     """What the command says, as JSON, its first line, and its processor time."""
     with tempfile.TemporaryDirectory() as name:
@@ -209,7 +220,7 @@ def command(ward, seconds, *more):
         words = [sys.executable, "-m", "nushbaret", "wishes.csv", "--places", "places.csv", "--tasks", "tasks.csv",
                  "--groups", "days.csv", "--rules", "rules.csv", "--output", "plan.json", "--time", str(seconds),
                  *more]
-        ran, took = run(words, cwd=place, env={**os.environ, "PYTHONPATH": str(TOP / "python")})
+        ran, took = run(words, cwd=place, env={**os.environ, "PYTHONPATH": str(INSTALLED)})
         told = json.loads((place / "plan.json").read_text()) if (place / "plan.json").exists() else {}
         return told, (ran.stdout or ran.stderr).partition("\n")[0], took
 
@@ -236,7 +247,10 @@ def compare(seed, number):
         return True
     begin = time.monotonic()
     # Two processes take 4 T in 2 T by the clock of a machine without other work.
-    told, line, own = command(ward, max(2, round(2 * took * busy)))
+    seconds = max(2, round(2 * took * busy))
+    told, line, own = command(ward, seconds)
+    if is_closed and told.get("rules", {}).get("proved") != "best" and own < ENOUGH * took:
+        told, line, own = command(ward, round(seconds * 4 * took / own))
     rules, cost = told.get("rules", {}), told.get("cost")
     bound = None if cost is None or rules.get("better") is None else float(cost) - float(rules["better"])
     is_met = (rules.get("proved") == "best" and own <= 4 * took if is_closed else bound is not None and
@@ -272,8 +286,8 @@ def priced_ward(seed, number):
 def sick(seed, number):
     """Prints one sick ward; whether it misses at most 3 more places than HiGHS finds in the same processor time."""
     ward = sick_ward(seed, number)
-    told, line, own = command(ward, 30, "--as-many-as-can")
-    found, took = alone(seed, number, own, "sick")
+    told, line, own = command(ward, round(LIMIT * busy_now()), "--as-many-as-can")
+    found, took = alone(seed, number, own * busy_now(), "sick")
     rules = told.get("rules", {})
     missing = rules.get("missing", 0) if told.get("cost") is not None else None
     theirs = None if found["cost"] is None else found["cost"] // 1000
@@ -302,10 +316,15 @@ def main():
     kind = words.pop(0)[2:] if words[:1] in (["--sick"], ["--prices"]) else ""
     reach, most = {"sick": (sick, 4), "prices": (priced, 100), "": (compare, 25)}[kind]
     seed, months, first = [int(word) for word in words] + [1, most, 0][len(words):]
-    reached = [reach(str(seed), number) for number in range(first, first + months)]
+    with tempfile.TemporaryDirectory() as name:
+        global INSTALLED
+        INSTALLED = pathlib.Path(name)
+        install(INSTALLED)
+        reached = [reach(str(seed), number) for number in range(first, first + months)]
     print(f"{sum(reached)} of {len(reached)} reached")
 
 
+INSTALLED = TOP / "python"
 WARDS = {"": Ward, "sick": sick_ward, "prices": priced_ward}
 
 

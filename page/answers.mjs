@@ -1,9 +1,10 @@
 // What the worker does with files: it reads them, plans the roster, and says all that the page shows.
 import { sheetOf } from "./days.mjs";
-import { costsOf, named, namedPairs, oldPlanOf, pairKey, withPast } from "./earlier.mjs";
-import { RosterFault, said, within } from "./faults.mjs";
+import { costsOf, named, namedPairs, numbersOf, oldPlanOf, pairKey, withPast } from "./earlier.mjs";
+import { itemOf, refuse, RosterFault, said, within } from "./faults.mjs";
 import { tablesOf } from "./files.mjs";
-import { MOST_PERSONS, NoMemory } from "./library.mjs";
+import { usesOf } from "./gathered.mjs";
+import { NoMemory } from "./library.mjs";
 import { alike } from "./names.mjs";
 import { answerOf, firstLines, leftOut, listsOf, notesOf, rowsOf } from "./plan.mjs";
 import { rosterOf } from "./roster.mjs";
@@ -21,7 +22,7 @@ const [MOST_NOTES, MOST_SHOWN_CELLS, MOST_PAIRS, MOST_DRAWN] = [20, 20000, 5000,
  * @typedef {import("./plan.mjs").Plan} Plan
  * @typedef {{ person: string, object: string, isFixed: boolean }} Mark A pair that is to be in the plan, or must not be
  * @typedef {{ form: string, comma: boolean, max: boolean, fullest: boolean, past: string }} Choices
- * @typedef {{ files: import("./files.mjs").Given[], choices: Choices, marks: Mark[], module: ArrayBuffer }} Question
+ * @typedef {{ files: import("./files.mjs").Given[], choices: Choices, marks: Mark[], module: WebAssembly.Module }} Question
  * @typedef {{ how: string, count: string, names: string }} Left
  * @typedef {{ name: string, kind: string, place: number, isChosen: boolean, count: number, rows: string[][] | null, separator: string }} Shown A
  *   table as the page shows it
@@ -34,6 +35,8 @@ const [MOST_NOTES, MOST_SHOWN_CELLS, MOST_PAIRS, MOST_DRAWN] = [20, 20000, 5000,
  * @property {string[]} notes
  * @property {Roster} roster
  * @property {Plan | null} plan
+ * @property {OldPlan | null} kept
+ * @property {Map<string, string>} calendars Those of an earlier plan, by the names of their files
  * @property {import("./days.mjs").DaySheet | null} sheet
  * @property {{ persons: string[], objects: string[] }} lists
  * @property {{ persons: number[], objects: number[] }} short All who are short
@@ -49,7 +52,7 @@ const [MOST_NOTES, MOST_SHOWN_CELLS, MOST_PAIRS, MOST_DRAWN] = [20, 20000, 5000,
 function notesOn(roster, tables) {
   const groups = [...alike(roster.persons), ...alike(roster.objects)];
   const notes = groups.slice(0, MOST_NOTES).map((group) => said("alike", group.map(quoted).join(", ")));
-  if (groups.length > MOST_NOTES) notes.push(`and ${groups.length - MOST_NOTES} more of these names`);
+  if (groups.length > MOST_NOTES) notes.push(said("more alike", groups.length - MOST_NOTES));
   const guesses = tables.filter(({ isGuess }) => isGuess);
   const files = guesses.map(({ name }) => tables.length > 1 ? `${name} is` : "The file is");
   return [...files.map((file) => `${file} read as Windows-1252, since it is no UTF-8`), ...notes];
@@ -64,11 +67,11 @@ function tableOf(tables, kind) {
   throw fault;
 }
 
-/** @type {(tables: Table[], choices: Choices, most?: number) => Read} The roster of tables with its counts and groups, and an earlier plan. */
-export function readTables(tables, choices, most = MOST_PERSONS) {
+/** @type {(tables: Table[], choices: Choices) => Read} The roster of tables with its counts and groups, and an earlier plan. */
+export function readTables(tables, choices) {
   const table = tableOf(tables, "roster");
   if (!table) throw new RosterFault("no file is a roster: choose what each is");
-  const first = within(table.name, () => rosterOf(table.sheet, { ...choices, most }));
+  const first = within(table.name, () => rosterOf(table.sheet, choices));
   /** @type {<Result>(kind: string, read: (table: Table) => Result) => Result | null} */
   const ofKind = (kind, read) => {
     const own = tableOf(tables, kind);
@@ -79,7 +82,7 @@ export function readTables(tables, choices, most = MOST_PERSONS) {
   const roster = withTakes(first, tasks, places, ofKind("groups", ({ sheet }) => readGroups(sheet, first)));
   const lines = [places, tasks].flatMap((counts, k) => counts ? forgotten(roster, counts, k === 0, named) : []);
   const isRuled = roster.takes !== null || roster.groups !== null;
-  const kept = ofKind("plan", ({ sheet }) => oldPlanOf(roster, namedPairs(sheet, roster), !isRuled));
+  const kept = ofKind("plan", ({ name, sheet }) => oldPlanOf(roster, namedPairs(sheet, roster), !isRuled, itemOf(name)));
   if (kept?.gone.length) lines.push(`the earlier plan has names that the roster hasn't: ${kept.gone.slice(0, MOST_NOTES).join(", ")}`);
   if (!kept || !roster.groups || !choices.past) return { roster, kept, fixed: [], lines };
   const past = withPast(roster, roster.groups, kept, choices.past);
@@ -88,21 +91,18 @@ export function readTables(tables, choices, most = MOST_PERSONS) {
 
 /** @type {(read: Read, marks: Mark[]) => Read} The roster without pairs that must not be, and the pairs that are to be in the plan. */
 export function withMarks({ roster, kept, fixed, lines }, marks) {
-  const numbered = marks.flatMap(({ person, object, isFixed }) => {
-    const [one, other] = [roster.personNumbers.get(person), roster.objectNumbers.get(object)];
-    return one === undefined || other === undefined || roster.past.has(other) ? [] : [{ person: one, object: other, isFixed, key: pairKey(roster, one, other) }];
-  });
+  const numbered = numbersOf(roster, marks).filter(({ object }) => !roster.past.has(object));
   const barred = new Set(numbered.filter(({ isFixed }) => !isFixed).map(({ key }) => key));
   const left = [...roster.costs.keys()].filter((k) => !barred.has(pairKey(roster, roster.ofPersons[k], roster.ofObjects[k])));
   const costs = costsOf(roster);
-  const own = numbered.filter(({ isFixed, key }) => isFixed && costs.has(key)).map(({ person, object, key }) => ({ person, object, cost: costs.get(key) ?? 0 }));
-  const all = [...fixed, ...own];
-  for (const { person, object } of own) {
-    const [had, used] = [all.filter((pair) => pair.person === person).length, all.filter((pair) => pair.object === object).length];
-    const [most, room] = [ofPerson(roster, person).most, ofObject(roster, object).most];
-    const names = `${roster.persons[person]}, ${roster.objects[object]}`;
-    if (had > most) throw new RosterFault(said("most with the past", names, roster.persons[person], had, most));
-    if (used > room) throw new RosterFault(`with ${names} ${roster.objects[object]} has ${used}, where ${room} is the most`);
+  const own = numbered.filter(({ isFixed, key }) => isFixed && costs.has(key));
+  const all = [...fixed, ...own.map(({ person, object, key }) => ({ person, object, cost: costs.get(key) ?? 0 }))];
+  const [had, used] = usesOf(all);
+  for (const { person, object, name } of own) {
+    const [count, most] = [had.get(person) || 0, ofPerson(roster, person).most];
+    const [uses, room] = [used.get(object) || 0, ofObject(roster, object).most];
+    if (count > most) refuse(0, 0, "most with the past", name, roster.persons[person], count, most);
+    if (uses > room) throw new RosterFault(`with ${name} ${roster.objects[object]} has ${uses}, where ${room} is the most`);
   }
   if (!barred.size) return { roster, kept, fixed: all, lines };
   const [ofPersons, ofObjects, ownCosts] = [roster.ofPersons, roster.ofObjects, roster.costs].map((list) => left.map((k) => list[k]));
@@ -114,7 +114,8 @@ export function withMarks({ roster, kept, fixed, lines }, marks) {
 function shownTables(tables) {
   return tables.map(({ name, kind, place, isChosen, sheet }) => {
     const width = sheet.rows.reduce((most, { cells }) => Math.max(most, cells.length), 0);
-    const rows = sheet.fault || width * sheet.rows.length > MOST_SHOWN_CELLS ? null : sheet.rows.map(({ cells }) => Array.from({ length: width }, (_, k) => cells[k] || ""));
+    const isWhole = !sheet.fault && kind !== "calendars" && width * sheet.rows.length <= MOST_SHOWN_CELLS;
+    const rows = !isWhole ? null : sheet.rows.map(({ cells }) => Array.from({ length: width }, (_, k) => cells[k] || ""));
     return { name, kind, place, isChosen, count: sheet.rows.length, rows, separator: sheet.separator };
   });
 }
@@ -124,6 +125,7 @@ function foundIn(tables, { choices, marks }, library) {
   const { roster, kept, fixed, lines } = withMarks(readTables(tables, choices), marks);
   const answer = answerOf(roster, { max: choices.max, fullest: choices.fullest, fixed, kept }, library);
   const { plan } = answer;
+  const calendars = tableOf(tables, "calendars");
   const sheet = plan && sheetOf(roster, plan, kept);
   // The page draws no matrix of more pairs, and their lists would stop it while they come.
   const shown = sheet || roster.costs.length <= MOST_DRAWN ? roster : { ...roster, ofPersons: [], ofObjects: [], costs: [] };
@@ -131,7 +133,8 @@ function foundIn(tables, { choices, marks }, library) {
   return {
     kind: "found", read: sums.join(", "), lines: firstLines(roster, choices.max, answer), rows: plan ? rowsOf(roster, plan) : [],
     left: plan ? leftOut(roster, plan) : [], notes: [...plan ? notesOf(roster, plan, kept) : [], ...lines, ...notesOn(roster, tables)],
-    roster: shown, plan, sheet, lists: plan && plan.pairs.length <= MOST_PAIRS ? listsOf(roster, plan) : { persons: [], objects: [] },
+    roster: shown, plan, kept, calendars: new Map(calendars?.sheet.rows.map(({ cells: [name, text] }) => [name, text])), sheet,
+    lists: plan && plan.pairs.length <= MOST_PAIRS ? listsOf(roster, plan) : { persons: [], objects: [] },
     short: answer.short, tables: shownTables(tables),
   };
 }
@@ -139,10 +142,10 @@ function foundIn(tables, { choices, marks }, library) {
 /** @type {(question: Question, load: () => Promise<import("./library.mjs").Library>, report?: (progress: Progress) => void) => Promise<Reply>} The reply to a question. */
 export async function replyTo(question, load, report = () => {}) {
   /** @type {Table[]} */
-  let tables = [];
+  const tables = [];
   try {
     report({ kind: "progress", text: "Reading .." });
-    tables = await tablesOf(question.files, question.choices.comma);
+    await tablesOf(question.files, question.choices.comma, tables);
     const library = await load();
     report({ kind: "progress", text: "Planning .." });
     library.look = (pairs) => report({ kind: "progress", text: `Planning .. ${counted(pairs, "pair")} so far` });

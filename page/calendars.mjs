@@ -1,6 +1,7 @@
 // Each person's plan as an iCalendar file (RFC 5545), as the command writes it, and all of them in one zip archive.
 import { datesOf, isoOf } from "./dates.mjs";
 import { labelsOf } from "./days.mjs";
+import { said } from "./faults.mjs";
 import { isPrintable } from "./texts.mjs";
 
 const WIDEST = 75;
@@ -11,7 +12,12 @@ const RESERVED = /^(?:con|prn|aux|nul|conin\$|conout\$|(?:com|lpt)[1-9])$/;
 const MOST_OCTETS = 200;
 const MINUTES = 24 * 60;
 const encoder = new TextEncoder();
-/** @typedef {import("./roster.mjs").Roster} Roster @typedef {{ name: string, bytes: Uint8Array }} File */
+/**
+ * @typedef {import("./roster.mjs").Roster} Roster
+ * @typedef {{ name: string, bytes: Uint8Array }} File
+ * @typedef {{ sequence: number, events: Map<string, string[]>, live: Set<string> }} Older Its number among the versions, the lines of its
+ *   events by their UIDs, without those that say which version it is, and the UIDs of those that weren't cancelled
+ */
 
 /** @type {(bytes: Uint8Array) => Uint8Array} The sum SHA-1 of bytes. */
 function sha1(bytes) {
@@ -101,30 +107,76 @@ export function fileNames(names) {
   });
 }
 
-/** @type {(roster: Roster, plan: import("./plan.mjs").Plan, version: string) => { files: File[], why: string }} A calendar for each person; why there is none where groups are no dates. */
-export function calendarsOf(roster, plan, version) {
-  const { all, why } = roster.groups ? datesOf(roster.groups.names) : { all: null, why: "there are no groups" };
-  if (!all) return { files: [], why };
+/** @type {(roster: Roster, person: string, objects: number[], days: number[]) => Map<string, string[]>} The lines of a person's events, in order, by their UIDs. */
+function eventsOf(roster, person, objects, days) {
   const labels = labelsOf(roster);
+  const events = objects.flatMap((object) => {
+    const group = roster.groups?.ofObjects.get(object);
+    return group === undefined ? [] : [{ object, day: days[group], times: roster.groups?.times.get(object) }];
+  });
+  events.sort((one, other) => one.day - other.day || (one.times?.begin || 0) - (other.times?.begin || 0));
+  return new Map(events.map(({ object, day, times }) => {
+    const uid = uidOf(person, roster.objects[object], day);
+    return [uid, [
+      "BEGIN:VEVENT", `UID:${uid}`, `DTSTAMP:${stampOf(day, 0)}Z`,
+      ...times ? [`DTSTART:${stampOf(day, times.begin)}`, `DTEND:${stampOf(day, times.end)}`]
+        : [`DTSTART;VALUE=DATE:${stampOf(day)}`, `DTEND;VALUE=DATE:${stampOf(day + 1)}`],
+      `SUMMARY:${escapedText(labels[object])}`, "END:VEVENT"]];
+  }));
+}
+
+/** @type {(text: string) => Older | null} What an older calendar has; null where it is none of ours. */
+function olderOf(text) {
+  if (!/^PRODID:-\/\/Nushbaret\/\//m.test(text)) return null;
+  const whole = text.replace(/\r\n /g, "");
+  const events = [...whole.matchAll(/BEGIN:VEVENT\r\n[^]*?END:VEVENT/g)].map(([event]) => event.split("\r\n"));
+  const uid = (/** @type {string[]} */ lines) => (lines.find((line) => line.startsWith("UID:")) || "").slice(4);
+  return {
+    sequence: Math.max(0, ...[...whole.matchAll(/^SEQUENCE:(\d+)\r$/gm)].map(([, number]) => Number(number))),
+    events: new Map(events.map((lines) => [uid(lines), lines.filter((line) => !/^(?:SEQUENCE|STATUS):/.test(line))])),
+    live: new Set(events.filter((lines) => !lines.some((line) => line.startsWith("STATUS:"))).map(uid)),
+  };
+}
+
+/**
+ * @type {(own: Map<string, string[]>, older: Older | null) => string[]}
+ *   A person's events; what the older calendar has and the plan has no more is cancelled, in a version one above.
+ */
+function versioned(own, older) {
+  if (!older) return [...own.values()].flat();
+  const isSame = older.live.size === own.size
+    && [...own].every(([uid, lines]) => older.live.has(uid) && String(older.events.get(uid)) === String(lines));
+  const sequence = older.sequence + Number(!isSame);
+  const version = sequence ? [`SEQUENCE:${sequence}`] : [];
+  const gone = [...older.events].filter(([uid]) => !own.has(uid)).map(([, lines]) => lines);
+  return [...[...own.values()].map((lines) => [lines, []]), ...gone.map((lines) => [lines, ["STATUS:CANCELLED"]])]
+    .flatMap(([lines, status]) => [...lines.slice(0, -1), ...status, ...version, lines[lines.length - 1]]);
+}
+
+/**
+ * @type {(found: import("./answers.mjs").Found, version: string) => { files: File[], why: string }}
+ *   A calendar for each person, which cancels what its older one has, or else the earlier plan; why there is none where
+ *   groups are no dates.
+ */
+export function calendarsOf({ roster, plan, kept, calendars }, version) {
+  const { all, why } = roster.groups ? datesOf(roster.groups.names) : { all: null, why: said("no groups") };
+  if (!all || !plan) return { files: [], why };
   const first = Math.min(...all);
   const stems = fileNames(roster.persons);
   const files = roster.persons.map((person, number) => {
-    const events = plan.pairs.filter((pair) => pair.person === number).flatMap(({ object }) => {
-      const group = roster.groups?.ofObjects.get(object);
-      return group === undefined ? [] : [{ object, day: all[group], times: roster.groups?.times.get(object) }];
-    });
-    events.sort((one, other) => one.day - other.day || (one.times?.begin || 0) - (other.times?.begin || 0));
-    const lines = events.flatMap(({ object, day, times }) => [
-      "BEGIN:VEVENT", `UID:${uidOf(person, roster.objects[object], day)}`, `DTSTAMP:${stampOf(day, 0)}Z`,
-      ...times ? [`DTSTART:${stampOf(day, times.begin)}`, `DTEND:${stampOf(day, times.end)}`]
-        : [`DTSTART;VALUE=DATE:${stampOf(day)}`, `DTEND;VALUE=DATE:${stampOf(day + 1)}`],
-      `SUMMARY:${escapedText(labels[object])}`, "END:VEVENT"]);
+    const name = `${stems[number]}.ics`;
+    const before = kept?.named.filter((pair) => pair.person === person);
+    const events = before && eventsOf(roster, person, before.flatMap(({ object }) => roster.objectNumbers.get(object) ?? []), all);
+    const old = calendars.get(name);
+    const older = old ? olderOf(old) : events ? { sequence: 0, events, live: new Set(events.keys()) } : null;
+    const own = plan.pairs.filter((pair) => pair.person === number).map(({ object }) => object);
+    const lines = versioned(eventsOf(roster, person, own, all), older);
     // A calendar needs a component: this one says that no time is taken.
     const none = ["BEGIN:VFREEBUSY", `UID:${uidOf(person, "", first)}`, `DTSTAMP:${stampOf(first, 0)}Z`, "END:VFREEBUSY"];
     const whole = [
       "BEGIN:VCALENDAR", "VERSION:2.0", `PRODID:-//Nushbaret//Nushbaret ${version}//EN`, "CALSCALE:GREGORIAN",
       `X-WR-CALNAME:${escapedText(person)}`, ...lines.length ? lines : none, "END:VCALENDAR"];
-    return { name: `${stems[number]}.ics`, bytes: encoder.encode(whole.flatMap(folded).map((line) => `${line}\r\n`).join("")) };
+    return { name, bytes: encoder.encode(whole.flatMap(folded).map((line) => `${line}\r\n`).join("")) };
   });
   return { files, why: "" };
 }

@@ -1,7 +1,7 @@
 // Rosters by days: lines of a person, a day, a shift and a cost, and matrices with two title rows, the days over their shifts. Objects
 // are then called by shift and day, which are their kind and their group.
 import { datesOf, spellings } from "./dates.mjs";
-import { RosterFault, said } from "./faults.mjs";
+import { refuse } from "./faults.mjs";
 import { Pairs } from "./names.mjs";
 import { looksLikeNumber } from "./numbers.mjs";
 import { nameOf } from "./sheet.mjs";
@@ -20,32 +20,23 @@ function areDates(cells) {
   return datesOf([...new Set(cells)]).all !== null;
 }
 
-/** Objects by day and shift, as they come. */
-class Objects {
-  /** @param {string} title @param {import("./names.mjs").Names} names */
-  constructor(title, names) {
-    this.names = names;
-    /** @type {Groups} */
-    this.groups = { title, names: [], ofObjects: new Map(), times: new Map(), kinds: new Map(), of: "" };
-    /** @type {Map<string, number>} */
-    this.days = new Map();
-    /** @type {Map<string, number>} */
-    this.numbers = new Map();
-  }
+/** @typedef {(day: string, shift: string, line: number, columns: number[]) => number} NumberOf The number of an object, a new one where it is new */
 
-  /** @type {(day: string, shift: string, line: number, columns: number[]) => number} The number of an object, a new one where it is new. */
-  number(day, shift, line, columns) {
-    const { groups } = this;
+/** @type {(title: string, names: import("./names.mjs").Names) => { groups: Groups, numberOf: NumberOf }} Objects by day and shift, as they come. */
+function objectsBy(title, names) {
+  /** @type {Groups} */
+  const groups = { title, names: [], ofObjects: new Map(), times: new Map(), kinds: new Map(), of: "" };
+  const [days, numbers] = [new Map(), new Map()];
+  return { groups, numberOf: (day, shift, line, columns) => {
     const [own, kind] = [nameOf(day, line, columns[0]), nameOf(shift, line, columns[1])];
-    const group = this.days.get(spellings(own)[0]) ?? groups.names.push(own) - 1;
-    this.days.set(spellings(own)[0], group);
-    const key = `${group} ${kind}`;
-    const number = this.numbers.get(key) ?? this.names.number(`${kind} ${groups.names[group]}`, line, columns[1]);
-    this.numbers.set(key, number);
+    const group = days.get(spellings(own)[0]) ?? groups.names.push(own) - 1;
+    days.set(spellings(own)[0], group);
+    const number = numbers.get(`${group} ${kind}`) ?? names.number(`${kind} ${groups.names[group]}`, line, columns[1]);
+    numbers.set(`${group} ${kind}`, number);
     groups.ofObjects.set(number, group);
     groups.kinds.set(number, kind);
     return number;
-  }
+  } };
 }
 
 /** @type {(sheet: Sheet) => boolean} Whether a sheet has lines of a person, a day, a shift and a cost. */
@@ -60,22 +51,22 @@ export function areDailyLines(sheet) {
   return areFit && rows.some((cells) => looksLikeNumber(cells[3]));
 }
 
-/** @type {(sheet: Sheet, costs: Costs, most: number) => Daily} Reads lines; the day stands third where dates stand there alone. */
-export function readDailyLines(sheet, costs, most) {
+/** @type {(sheet: Sheet, costs: Costs) => Daily} Reads lines; the day stands third where dates stand there alone. */
+export function readDailyLines(sheet, costs) {
   const { cells: title } = sheet.title();
   const rows = [...sheet.body(COLUMNS)];
   const [seconds, thirds] = [1, 2].map((column) => areDates(rows.map(({ cells }) => cells[column])));
   const day = thirds && !seconds ? 2 : 1;
   const titles = title.map((cell, place) => nameOf(cell, 1, place + 1));
-  const pairs = new Pairs(costs, most);
-  const objects = new Objects(titles[day], pairs.objects);
+  const pairs = new Pairs(costs);
+  const { groups, numberOf } = objectsBy(titles[day], pairs.objects);
   for (const { line, cells } of rows) {
     const person = pairs.persons.number(cells[0], line, 1);
-    const object = objects.number(cells[day], cells[3 - day], line, [day + 1, 4 - day]);
+    const object = numberOf(cells[day], cells[3 - day], line, [day + 1, 4 - day]);
     pairs.refuseTwice(person, object, [cells[0], pairs.objects.list[object]], line);
     pairs.take(person, object, cells[3], line, 4);
   }
-  return { titles: [titles[0], titles[3 - day], titles[3]], pairs, groups: objects.groups };
+  return { titles: [titles[0], titles[3 - day], titles[3]], pairs, groups };
 }
 
 /** @type {(sheet: Sheet) => { line: number, corner: string, days: string[], shifts: string[] } | null} The two title rows of a matrix; null where it has none. */
@@ -94,23 +85,23 @@ export function headsOf(sheet) {
   return { line, corner: below[0] || above[0], days, shifts };
 }
 
-/** @type {(sheet: Sheet, costs: Costs, most: number) => Daily} Reads a matrix with two title rows. */
-export function readDailyMatrix(sheet, costs, most) {
+/** @type {(sheet: Sheet, costs: Costs) => Daily} Reads a matrix with two title rows. */
+export function readDailyMatrix(sheet, costs) {
   const heads = headsOf(sheet);
   if (!heads) throw new Error("a matrix without two title rows");
-  const pairs = new Pairs(costs, most);
-  const objects = new Objects("day", pairs.objects);
+  const pairs = new Pairs(costs);
+  const { groups, numberOf } = objectsBy("day", pairs.objects);
   /** @type {number[]} */
   const columns = [];
   heads.shifts.forEach((shift, k) => {
-    const number = objects.number(heads.days[k], shift, heads.line, [k + 2, k + 2]);
-    if (columns.includes(number)) throw new RosterFault(said("shift twice", quoted(shift), quoted(heads.days[k])), heads.line, k + 2);
+    const number = numberOf(heads.days[k], shift, heads.line, [k + 2, k + 2]);
+    if (columns.includes(number)) refuse(heads.line, k + 2, "shift twice", quoted(shift), quoted(heads.days[k]));
     columns.push(number);
   });
   for (const { line, cells } of [...sheet.records()].slice(1)) {
-    if (cells.slice(columns.length + 1).some(Boolean)) throw new RosterFault(said("cells of two titles", cells.length, columns.length + 1), line);
+    if (cells.slice(columns.length + 1).some(Boolean)) refuse(line, 0, "cells of two titles", cells.length, columns.length + 1);
     pairs.takeRow(cells, columns, line);
   }
-  if (!pairs.persons.list.length) throw new RosterFault(said("no line after two"), heads.line);
-  return { titles: [heads.corner ? nameOf(heads.corner, heads.line, 1) : "person", "shift", "cost"], pairs, groups: objects.groups };
+  if (!pairs.persons.list.length) refuse(heads.line, 0, "no line after two");
+  return { titles: [heads.corner ? nameOf(heads.corner, heads.line, 1) : "person", "shift", "cost"], pairs, groups };
 }

@@ -1,6 +1,6 @@
 // Names that are dates with a year, such as 2027-03-01, 01.03.2027 or, where another has the year, Mo 01.03. A day is a number, that
 // of days since 1970.
-import { SHARED } from "./faults.mjs";
+import { said, SHARED } from "./faults.mjs";
 import { bare } from "./texts.mjs";
 
 const WORD = "\\p{L}{2,}";
@@ -96,18 +96,19 @@ function nearest(own, anchors) {
 export function datesOf(names) {
   const all = names.map(written);
   const none = all.findIndex((own) => own === null);
-  if (none >= 0) return { all: null, why: `${names[none]} is no date` };
+  if (none >= 0) return { all: null, why: said("no date", names[none]) };
   const own = /** @type {Written[]} */ (all);
   const dated = own.map(({ year, month, day }) => year ? dayOf(year, month, day) : null);
   const wrong = own.find(({ year }, k) => year && dated[k] === null);
-  if (wrong) return { all: null, why: `${wrong.name} is no day of the calendar` };
+  if (wrong) return { all: null, why: said("no day", wrong.name) };
   const anchors = dated.flatMap((day) => day === null ? [] : [day]).sort((one, other) => one - other);
-  if (!anchors.length) return { all: null, why: names.length ? `no date has a year: ${names[0]}` : "there are none" };
+  if (!anchors.length) return { all: null, why: names.length ? said("no year", names[0]) : said("there are none") };
   const days = [];
   for (const [k, one] of own.entries()) {
     const day = dated[k] ?? nearest(one, anchors);
-    if (day === null) return { all: null, why: `${one.name} is no day of the calendar` };
-    if (one.weekdays && !one.weekdays.has(weekdayOf(day))) return { all: null, why: `${one.name} is a ${DAY_NAMES[weekdayOf(day)]}` };
+    if (day === null) return { all: null, why: said("no day", one.name) };
+    const weekday = weekdayOf(day);
+    if (one.weekdays && !one.weekdays.has(weekday)) return { all: null, why: said("other weekday", one.name, DAY_NAMES[weekday]) };
     days.push(day);
   }
   return { all: days, why: "" };

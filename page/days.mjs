@@ -1,7 +1,8 @@
 // A plan as one sheet: who has what on which day, by letters, what each has in all, and each day's staff of how many.
 import { DAY_NAMES, datesOf, hasWeekday, isoOf, weekdayOf, weekendsAmong } from "./dates.mjs";
 import { costsOf, orderOf, pairKey } from "./earlier.mjs";
-import { countsOf } from "./gathered.mjs";
+import { said } from "./faults.mjs";
+import { countsOf, gathered, usesOf } from "./gathered.mjs";
 import { shown } from "./numbers.mjs";
 import { hasBounds, ofObject, withoutGroup } from "./takes.mjs";
 
@@ -74,40 +75,47 @@ export function sheetOf(roster, plan, kept) {
   const kinds = [...new Set(order.map((object) => labels[object]))];
   if (order.length < objects.length || groups.names.length > MOST_DAYS || kinds.length > MOST_KINDS || persons.length > MOST_ROWS) return null;
   const days = daysOf(roster, groups.names);
-  const costs = costsOf(roster);
-  const cells = persons.map((_, person) => days.map(({ group }) => dayCell(roster, plan, kept, { labels, person, costs, own: order.filter((object) => groups.ofObjects.get(object) === group) })));
+  const ofDays = gathered(order, (object) => groups.ofObjects.get(object));
+  const ofPersons = gathered(plan.pairs, ({ person }) => person);
+  const known = { costs: costsOf(roster), before: kept && new Set(kept.named.map(({ person, object }) => `${person}\n${object}`)) };
+  const cells = persons.map((_, person) => days.map(({ group }) => (
+    dayCell(roster, labels, known, { person, pairs: ofPersons.get(person) || [], own: ofDays.get(group) || [] }))));
   const letters = lettersOf(kinds);
   const ofKinds = kinds.length > 1 && kinds.length <= 4 ? kinds : [];
   const hasWeekends = days.some(({ isWeekend }) => isWeekend);
   const columns = [
-    { title: "\u03a3", meaning: "all shifts" }, ...ofKinds.map((kind) => ({ title: letters.get(kind) || "", meaning: kind })),
-    ...hasWeekends ? [{ title: "we", meaning: "weekends with a shift" }] : [], { title: roster.titles[2], meaning: "" }];
+    { title: "\u03a3", meaning: said("all shifts") }, ...ofKinds.map((kind) => ({ title: letters.get(kind) || "", meaning: kind })),
+    ...hasWeekends ? [{ title: "we", meaning: said("weekends") }] : [], { title: roster.titles[2], meaning: "" }];
   const rows = persons.map((name, person) => {
     const own = cells[person].flatMap(({ entries }) => entries);
-    const cost = plan.pairs.reduce((sum, pair) => pair.person === person ? sum + BigInt(pair.cost) : sum, 0n);
+    const cost = (ofPersons.get(person) || []).reduce((sum, pair) => sum + BigInt(pair.cost), 0n);
     return { name, cells: cells[person], sums: [
       String(own.length), ...ofKinds.map((kind) => String(own.filter(({ label }) => label === kind).length)),
       ...hasWeekends ? [String(weekendsIn(days, cells[person]))] : [], shown(roster, cost)] };
   });
+  const [, used] = usesOf(plan.pairs);
   const staff = kinds.map((kind) => ({ kind, staff: days.map(({ group }) => {
-    const object = order.find((one) => labels[one] === kind && groups.ofObjects.get(one) === group);
+    const object = (ofDays.get(group) || []).find((one) => labels[one] === kind);
     if (object === undefined) return null;
-    return { object, had: plan.pairs.filter((pair) => pair.object === object).length, wanted: hasBounds(roster) ? ofObject(roster, object).least : null };
+    return { object, had: used.get(object) || 0, wanted: hasBounds(roster) ? ofObject(roster, object).least : null };
   }) }));
   return { days, letters, persons: rows, columns, kinds: staff };
 }
 
 /**
- * @type {(roster: Roster, plan: Plan, kept: import("./earlier.mjs").OldPlan | null, spot: { labels: string[], person: number, costs: Map<number, number>, own: number[] }) => Cell}
- *   What a person has on a day, whose objects are its own.
+ * @type {(
+ *   roster: Roster, labels: string[], known: { costs: Map<number, number>, before: Set<string> | null },
+ *   spot: { person: number, pairs: Plan["pairs"], own: number[] }
+ * ) => Cell} What a person with these pairs has on a day, whose objects are its own.
  */
-function dayCell(roster, plan, kept, { labels, person, costs, own }) {
-  const before = new Set((kept?.named || []).filter((pair) => pair.person === roster.persons[person]).map(({ object }) => object));
-  const entries = plan.pairs.filter((pair) => pair.person === person && own.includes(pair.object)).map(({ object, isFixed }) => ({
-    label: labels[object], object, isFixed: isFixed && !roster.past.has(object), isNew: kept !== null && !before.has(roster.objects[object]),
+function dayCell(roster, labels, { costs, before }, { person, pairs, own }) {
+  const had = (/** @type {number} */ object) => before !== null && before.has(`${roster.persons[person]}\n${roster.objects[object]}`);
+  const entries = pairs.filter((pair) => own.includes(pair.object)).map(({ object, isFixed }) => ({
+    label: labels[object], object, isFixed: isFixed && !roster.past.has(object), isNew: before !== null && !had(object),
   }));
-  const gone = own.filter((object) => before.has(roster.objects[object]) && !entries.some((entry) => entry.object === object)).map((object) => labels[object]);
-  return { entries, gone, isOff: !entries.length && !own.some((object) => costs.has(pairKey(roster, person, object))) };
+  const gone = own.filter((object) => had(object) && !entries.some((entry) => entry.object === object));
+  const isOff = !entries.length && !own.some((object) => costs.has(pairKey(roster, person, object)));
+  return { entries, gone: gone.map((object) => labels[object]), isOff };
 }
 
 /** @type {(day: Day) => string[]} A day in few letters: the day of the week and of the month, where it is a date. */

@@ -1,16 +1,16 @@
 // An earlier plan: its pairs by names, what changes from it, and the past, whose pairs stay as they were.
 import { datesOf } from "./dates.mjs";
-import { RosterFault, said } from "./faults.mjs";
-import { gathered, usesOf } from "./gathered.mjs";
+import { refuse, RosterFault, said } from "./faults.mjs";
+import { gathered, rising, usesOf } from "./gathered.mjs";
 import { hintOf } from "./names.mjs";
 import { Costs, shown } from "./numbers.mjs";
 import { counted } from "./sentences.mjs";
 import { nameOf } from "./sheet.mjs";
 import { hasBounds, ofObject, ofPerson } from "./takes.mjs";
-import { joined, quoted } from "./texts.mjs";
+import { firstOf, joined, quoted } from "./texts.mjs";
 
 const [CHANGE, GOES, NOT_POSSIBLE] = ["change", "goes", "not possible"];
-export const MOST_SHOWN = 20;
+const MOST_SHOWN = 20;
 /**
  * @typedef {import("./roster.mjs").Roster} Roster
  * @typedef {import("./library.mjs").Bounds} Bounds
@@ -26,6 +26,21 @@ export function pairKey({ objects }, person, object) {
   return person * objects.length + object;
 }
 
+/**
+ * @template {{ person: string, object: string }} Own
+ * @param {Roster} roster
+ * @param {Own[]} pairs
+ * @returns Those whose names the roster has, with their numbers and their key.
+ */
+export function numbersOf(roster, pairs) {
+  return pairs.flatMap((pair) => {
+    const [person, object] = [roster.personNumbers.get(pair.person), roster.objectNumbers.get(pair.object)];
+    if (person === undefined || object === undefined) return [];
+    const name = `${roster.persons[person]}, ${roster.objects[object]}`;
+    return [{ ...pair, person, object, key: pairKey(roster, person, object), name }];
+  });
+}
+
 /** @type {(roster: Roster) => Map<number, number>} The cost of each pair that is allowed, by its key. */
 export function costsOf(roster) {
   return new Map(roster.costs.map((cost, k) => [pairKey(roster, roster.ofPersons[k], roster.ofObjects[k]), cost]));
@@ -33,8 +48,7 @@ export function costsOf(roster) {
 
 /** @type {(numbers: number[], names: string[]) => string} The first twenty names of many. */
 function listed(numbers, names) {
-  const more = numbers.length - MOST_SHOWN;
-  return joined(numbers.slice(0, MOST_SHOWN).map((number) => names[number])) + (more > 0 ? ` and ${more} more` : "");
+  return firstOf(numbers.map((number) => names[number]), MOST_SHOWN);
 }
 
 /** @type {(numbers: number[], word: string, names: string[]) => string} How many there are, and the first of their names. */
@@ -45,9 +59,9 @@ export function named(numbers, word, names) {
 /** @type {(sheet: import("./sheet.mjs").Sheet, roster: Roster) => Named[]} The pairs of a plan in lines, by names. */
 export function namedPairs(sheet, roster) {
   const { line: first, cells: title } = sheet.title();
-  if (title.length < 2) throw new RosterFault(said("person and object"), first);
+  if (title.length < 2) refuse(first, 0, "person and object");
   const { persons, objects, personNumbers, objectNumbers, groups } = roster;
-  if (personNumbers.has(title[0]) && objectNumbers.has(title[1])) throw new RosterFault(said("pair for a title", title[0], title[1]), first);
+  if (personNumbers.has(title[0]) && objectNumbers.has(title[1])) refuse(first, 0, "pair for a title", title[0], title[1]);
   const change = title.indexOf(CHANGE, 3);
   const hasCosts = title.length > 2 && (!groups || title[2] !== groups.title);
   return [...sheet.body(title.length)].filter(({ cells }) => change < 0 || ![GOES, NOT_POSSIBLE].includes(cells[change])).map(({ line, cells }) => {
@@ -59,43 +73,36 @@ export function namedPairs(sheet, roster) {
   });
 }
 
-/** @type {(roster: Roster, numbered: { person: number, object: number, line: number }[]) => void} Refuses a name that stands more often than it may. */
-function refuseOften(roster, numbered) {
+/** @type {(roster: Roster, numbered: { person: number, object: number, line: number }[], item: string) => void} Refuses a name that stands more often than it may. */
+function refuseOften(roster, numbered, item) {
   for (const [column, side] of /** @type {["person", "object"]} */ (["person", "object"]).entries()) {
     const all = [...gathered(numbered, (pair) => pair[side])].map(([number, own]) => (
       { number, lines: own.map(({ line }) => line), most: (column ? ofObject(roster, number) : ofPerson(roster, number)).most }));
     const often = all.filter(({ lines, most }) => lines.length > most).sort((one, other) => one.lines[one.most] - other.lines[other.most]);
     for (const { number, lines, most } of often) {
       const name = quoted((column ? roster.objects : roster.persons)[number]);
-      const text = `${name} ${most === 1 ? said("a second time") : said("more times", most)}${most ? `, after line ${lines[0]}` : ""}`;
+      const text = `${name} ${most === 1 ? said("a second time") : said("more times", most)}${most ? `, after ${item} ${lines[0]}` : ""}`;
       throw new RosterFault(text, lines[most], column + 1);
     }
   }
 }
 
-/** @type {(roster: Roster, named: Named[], byCounts: boolean) => OldPlan} An earlier plan as a roster has it now. */
-export function oldPlanOf(roster, named, byCounts) {
-  const gone = named.flatMap(({ person, object }) => [roster.personNumbers.has(person) ? [] : [person], roster.objectNumbers.has(object) ? [] : [object]]).flat();
-  const numbered = named.flatMap(({ person, object, line }) => {
-    const [one, other] = [roster.personNumbers.get(person), roster.objectNumbers.get(object)];
-    return one === undefined || other === undefined ? [] : [{ person: one, object: other, line }];
-  });
-  if (byCounts) refuseOften(roster, numbered);
+/** @type {(roster: Roster, named: Named[], byCounts: boolean, item?: string) => OldPlan} An earlier plan as a roster has it now. */
+export function oldPlanOf(roster, named, byCounts, item = "line") {
+  const those = numbersOf(roster, named);
+  if (byCounts) refuseOften(roster, those, item);
+  const [twice] = [...gathered(those, ({ key }) => key).values()].filter(([, again]) => again)
+    .sort(([, one], [, other]) => one.line - other.line);
+  if (twice) refuse(twice[1].line, 0, "pair twice", twice[0].name, item, twice[0].line);
   const costs = costsOf(roster);
-  /** @type {OldPlan} */
-  const plan = { named, known: new Map(), gone: [...new Set(gone)], forbidden: new Set() };
-  /** @type {Map<number, number>} */
-  const lines = new Map();
-  for (const { person, object, line } of numbered) {
-    const key = pairKey(roster, person, object);
-    const before = lines.get(key);
-    if (before) throw new RosterFault(said("pair twice", roster.persons[person], roster.objects[object], before), line);
-    lines.set(key, line);
+  const known = those.flatMap(({ person, object, key }) => {
     const cost = costs.get(key);
-    if (cost === undefined) plan.forbidden.add(key);
-    else plan.known.set(key, { person, object, cost });
-  }
-  return plan;
+    return cost === undefined ? [] : [/** @type {[number, Pair]} */ ([key, { person, object, cost }])];
+  });
+  const gone = named.flatMap(({ person, object }) => [
+    ...roster.personNumbers.has(person) ? [] : [person], ...roster.objectNumbers.has(object) ? [] : [object]]);
+  const forbidden = those.map(({ key }) => key).filter((key) => !costs.has(key));
+  return { named, known: new Map(known), gone: [...new Set(gone)], forbidden: new Set(forbidden) };
 }
 
 /** @type {(groups: import("./takes.mjs").Groups, name: string) => number[]} The groups before one: by date where all are dates, and else in the order of their file. */
@@ -112,7 +119,7 @@ function costInFile(roster, { cost, line }) {
   const costs = new Costs(roster.comma);
   costs.take(cost, line, 3);
   const { decimals, units } = costs.scaled();
-  if (decimals > roster.decimals) throw new RosterFault(said("many places", quoted(cost), roster.decimals, ""), line, 3);
+  if (decimals > roster.decimals) refuse(line, 3, "many places", quoted(cost), roster.decimals, "");
   return units[0] * 10 ** (roster.decimals - decimals);
 }
 
@@ -168,20 +175,20 @@ export function withPast(roster, groups, kept, name) {
  *   What is said of the past.
  */
 function pastLines(roster, groups, { earlier, name, count, added, passing }) {
-  if (!earlier.length) return [`no ${groups.title} is before ${name}`];
-  const which = `${counted(earlier.length, groups.title)} before ${name} (${listed(earlier, groups.names)})`;
+  if (!earlier.length) return [said("none before", groups.title, name)];
+  const which = said("before", counted(earlier.length, groups.title), name, listed(earlier, groups.names));
   const forbidden = [...new Set(added.map(({ person }) => person))].map((person) => {
     const own = added.filter((pair) => pair.person === person).map((pair) => `${roster.objects[pair.object]}, ${shown(roster, pair.cost)}`);
-    return `${roster.persons[person]} keeps what the roster doesn't allow now: ${own.join("; ")}`;
+    return said("kept though forbidden", roster.persons[person], own.join("; "));
   });
   const more = passing.map(([person, had]) => (
-    `${roster.persons[person]} has ${counted(had, roster.titles[1])} in the past, more than the most of ${ofPerson(roster, person).most}: ${had} is the most`));
-  return [`${counted(count, "pair")} of ${which} ${count === 1 ? "stays" : "stay"}`, ...forbidden, ...more];
+    said("past beyond most", roster.persons[person], counted(had, roster.titles[1]), ofPerson(roster, person).most, had)));
+  return [said(count === 1 ? "stays" : "stay", counted(count, "pair"), which), ...forbidden, ...more];
 }
 
-/** @type {(names: string[], word: string) => string[]} Names that come or go. */
-function moved(names, word) {
-  return names.length ? [`${joined(names)} ${word}${names.length === 1 ? "s" : ""}`] : [];
+/** @type {(way: "come" | "go", those: Pair[], what: string) => string[]} What comes, or goes. */
+function moved(way, those, what) {
+  return those.length ? [said(those.length === 1 ? `${way} alone` : way, what)] : [];
 }
 
 /**
@@ -196,13 +203,14 @@ export function changesOf(roster, pairs, kept) {
   const left = [...kept.known].filter(([key]) => !now.has(key)).map(([, pair]) => pair).sort((one, other) => one.person - other.person || one.object - other.object);
   const goes = left.filter(({ person, object }) => !isFull(person, object));
   const comes = pairs.filter(({ person, object }) => !kept.known.has(pairKey(roster, person, object)));
-  const of = (/** @type {number} */ person) => (/** @type {Pair} */ pair) => pair.person === person;
-  const names = (/** @type {Pair[]} */ those) => those.map(({ object }) => roster.objects[object]);
-  const persons = [...new Set([...goes, ...comes].map(({ person }) => person))].sort((one, other) => one - other);
-  const counts = [comes.length ? `${counted(comes.length, "pair")} come${comes.length === 1 ? "s" : ""}` : "",
-    goes.length ? `${comes.length ? goes.length : counted(goes.length, "pair")} go${goes.length === 1 ? "es" : ""}` : ""];
-  const own = persons.map((person) => (
-    `${roster.persons[person]}: ${[...moved(names(goes.filter(of(person))), "go").map((text) => text.replace(/gos$/, "goes")), ...moved(names(comes.filter(of(person))), "come")].join("; ")}`));
+  const names = (/** @type {Pair[]} */ those) => joined(those.map(({ object }) => roster.objects[object]));
+  const persons = [...new Set([...goes, ...comes].map(({ person }) => person))].sort(rising);
+  const gone = comes.length ? String(goes.length) : counted(goes.length, "pair");
+  const counts = [...moved("come", comes, counted(comes.length, "pair")), ...moved("go", goes, gone)];
+  const own = persons.map((number) => {
+    const [old, fresh] = [goes, comes].map((those) => those.filter(({ person }) => person === number));
+    return `${roster.persons[number]}: ${[...moved("go", old, names(old)), ...moved("come", fresh, names(fresh))].join("; ")}`;
+  });
   const lost = kept.named.flatMap(({ person, object }) => {
     const [one, other] = [roster.personNumbers.get(person), roster.objectNumbers.get(object)];
     if (one === undefined || other === undefined) return [{ person, object, why: "gone" }];
@@ -210,9 +218,9 @@ export function changesOf(roster, pairs, kept) {
     const why = kept.gone.includes(person) ? "gone" : isFull(one, other) ? "takes none" : kept.forbidden.has(key) ? "forbidden" : "";
     return now.has(key) || !why ? [] : [{ person, object, why }];
   });
-  const gone = [...gathered(lost, ({ person, why }) => `${person}\n${why}`).values()].map((own) => (
+  const impossible = [...gathered(lost, ({ person, why }) => `${person}\n${why}`).values()].map((own) => (
     `${own[0].person}: ${joined(own.map(({ object }) => object))} ${NOT_POSSIBLE} now (${own[0].why})`));
-  return { comes, goes, lines: [counts.filter(Boolean).join(", ") || "no pair changes", ...own, ...gone] };
+  return { comes, goes, lines: [counts.join(", ") || said("no change"), ...own, ...impossible] };
 }
 
 /** @type {(roster: Roster, pairs: Pair[]) => { isObject: boolean, number: number, had: number, least: number }[]} Who has fewer than it must. */

@@ -1,15 +1,17 @@
 // The text of a file's bytes: by its BOM, as UTF-8, or as western text of Windows.
 import { RosterFault, said, SHARED } from "./faults.mjs";
 
-const SAVE = "save the sheet as 'CSV UTF-8'";
+const SAVE = said("save");
 const WESTERN = "windows-1252";
 // So many bytes at the beginning say which encoding one with NUL bytes is.
 const SAMPLE = 65536;
-/** @type {[number[], string][]} */
-const BOMS = [[[0xef, 0xbb, 0xbf], "utf-8"], [[0xff, 0xfe], "utf-16le"], [[0xfe, 0xff], "utf-16be"]];
+const BOMS = [
+  { begin: [0xef, 0xbb, 0xbf], encoding: "utf-8", name: "UTF-8" }, { begin: [0xff, 0xfe], encoding: "utf-16le", name: "UTF-16" },
+  { begin: [0xfe, 0xff], encoding: "utf-16be", name: "UTF-16" }];
 const UTF_32 = [[0xff, 0xfe, 0, 0], [0, 0, 0xfe, 0xff]];
-// How workbooks begin: .xlsx, and what was before it.
-const WORKBOOKS = [[0x50, 0x4b, 3, 4], [0xd0, 0xcf, 0x11, 0xe0]];
+// How workbooks begin: .xlsx, which is a zip archive, and what was before it.
+export const ZIP = [0x50, 0x4b, 3, 4];
+const WORKBOOKS = [ZIP, [0xd0, 0xcf, 0x11, 0xe0]];
 // Letters and marks above 127 that western texts of Windows have. Other encodings use other bytes for common letters.
 const WESTERN_LETTERS = new Set(Object.values(SHARED.western).join(""));
 const PLAUSIBLE = new Set(Array.from({ length: 128 }, (_, k) => 128 + k).filter((code) => (
@@ -18,7 +20,7 @@ const PLAUSIBLE = new Set(Array.from({ length: 128 }, (_, k) => 128 + k).filter(
 const QUOTES = new Set([0x82, 0x84, 0x93, 0x94]);
 
 /** @type {(bytes: Uint8Array, begin: number[]) => boolean} */
-function beginsWith(bytes, begin) {
+export function beginsWith(bytes, begin) {
   return begin.every((byte, place) => bytes[place] === byte);
 }
 
@@ -31,14 +33,6 @@ function isSmall(byte) {
 function isQuoteInWord(bytes, place) {
   const before = bytes[place - 1];
   return QUOTES.has(bytes[place]) && (isSmall(before) || before >= 0x41 && before <= 0x5a) && isSmall(bytes[place + 1]);
-}
-
-/** @type {(bytes: Uint8Array) => number} Where bytes are no western text of Windows: the first byte that none has, else the first letter around a quote; -1 if nowhere. */
-function placeOfOther(bytes) {
-  const odd = bytes.findIndex((byte) => byte > 127 && !PLAUSIBLE.has(byte));
-  if (odd >= 0) return odd;
-  const quote = bytes.findIndex((_, place) => isQuoteInWord(bytes, place));
-  return quote < 0 ? -1 : quote - 1;
 }
 
 /**
@@ -62,35 +56,27 @@ function lineOf(bytes, place) {
   return bytes.subarray(0, place).reduce((count, byte) => count + Number(byte === 10), 1);
 }
 
-/** @type {(bytes: Uint8Array, encoding: string) => string} */
-function strictly(bytes, encoding) {
-  try {
-    return new TextDecoder(encoding, { fatal: true }).decode(bytes);
-  } catch (fault) {
-    throw new RosterFault(`bytes that are no ${encoding.slice(0, 6).toUpperCase().replace(/-$/, "")}: ${SAVE}`);
-  }
-}
-
 /** @type {(bytes: Uint8Array) => { text: string, isGuess: boolean }} The text of bytes, and whether its encoding is a guess. */
 export function decoded(bytes) {
   if (UTF_32.some((begin) => beginsWith(bytes, begin))) throw new RosterFault(`a text in UTF-32: ${SAVE}`);
-  const marked = BOMS.find(([begin]) => beginsWith(bytes, begin));
-  if (marked) return { text: strictly(bytes, marked[1]), isGuess: false };
+  const marked = BOMS.find(({ begin }) => beginsWith(bytes, begin));
   if (WORKBOOKS.some((begin) => beginsWith(bytes, begin))) {
     throw new RosterFault(`a workbook, and no text: ${SAVE}, or copy its cells and paste them here`);
   }
-  const nul = bytes.indexOf(0);
+  const nul = marked ? -1 : bytes.indexOf(0);
   if (nul >= 0) refuseNuls(bytes, nul);
   try {
-    return { text: strictly(bytes, "utf-8"), isGuess: false };
+    return { text: new TextDecoder(marked?.encoding, { fatal: true }).decode(bytes), isGuess: false };
   } catch (fault) {
+    if (marked) throw new RosterFault(`${said("no encoding", marked.name)}: ${SAVE}`);
     return { text: western(bytes), isGuess: true };
   }
 }
 
-/** @type {(bytes: Uint8Array) => string} */
+/** @type {(bytes: Uint8Array) => string} Bytes as western text of Windows; refused at the first byte that none has, or else at the first letter around a quote. */
 function western(bytes) {
-  const place = placeOfOther(bytes);
+  const odd = bytes.findIndex((byte) => byte > 127 && !PLAUSIBLE.has(byte));
+  const place = odd < 0 ? bytes.findIndex((_, k) => isQuoteInWord(bytes, k + 1)) : odd;
   if (place < 0) return new TextDecoder(WESTERN).decode(bytes);
   throw new RosterFault(`bytes that are no UTF-8 and no western text in Windows-1252: ${SAVE}`, lineOf(bytes, place));
 }

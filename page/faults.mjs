@@ -21,6 +21,21 @@ export class RosterFault extends Error {
   }
 }
 
+/** @type {(line: number, column: number, name: string, ...values: (string | number)[]) => never} Refuses a place by a text that both say. */
+export function refuse(line, column, name, ...values) {
+  throw new RosterFault(said(name, ...values), line, column);
+}
+
+/** @type {(name: string) => boolean} Whether a file is a plan in JSON, by its name. */
+export function isJson(name) {
+  return /\.json$/i.test(name);
+}
+
+/** @type {(name: string) => string} What a file lists, one after the other. */
+export function itemOf(name) {
+  return isJson(name) ? "pair" : "line";
+}
+
 /**
  * Runs some work on a file, whose name its fault has.
  * @template Result

@@ -1,15 +1,16 @@
 // Files that are known by their titles: a roster, what places and persons take, groups, an earlier plan and rules.
-import { decoded } from "./encodings.mjs";
-import { RosterFault } from "./faults.mjs";
 import { areDailyLines } from "./daily.mjs";
+import { beginsWith, decoded, ZIP } from "./encodings.mjs";
+import { isJson, RosterFault, said } from "./faults.mjs";
+import { sheetOfJson } from "./json.mjs";
 import { looksLikeNumber } from "./numbers.mjs";
 import { Sheet } from "./sheet.mjs";
-import { gridsOf } from "./workbook.mjs";
+import { calendarsIn, gridsOf } from "./workbook.mjs";
 
 // More bytes would need more memory than browsers give.
 const MOST_BYTES = 2 ** 25;
-export const UNUSED = "unused";
-export const KINDS = ["roster", "places", "tasks", "groups", "plan", "rules", UNUSED];
+const UNUSED = "unused";
+export const KINDS = ["roster", "places", "tasks", "groups", "plan", "calendars", "rules", UNUSED];
 const COUNT_TITLES = /^(?:(?:at )?(?:least|most)|wanted|price|min(?:imum)?|max(?:imum)?|count|number|how many)$/;
 const RULE = /^rules?$/;
 
@@ -19,30 +20,36 @@ const RULE = /^rules?$/;
  * @typedef {{ name: string, kind: string, sheet: Sheet, isGuess: boolean, isChosen: boolean, place: number }} Table `place` is that of its file
  */
 
-/** @type {(given: Given[], comma: boolean) => Promise<Table[]>} The tables of files. */
-export async function tablesOf(given, comma) {
-  const tables = [];
+/** @type {(given: Given[], comma: boolean, tables?: Table[]) => Promise<Table[]>} The tables of files, also of those that can't be read, of which the first is refused at the end. */
+export async function tablesOf(given, comma, tables = []) {
+  const faults = [];
   for (const [place, own] of given.entries()) {
     try {
       tables.push(...await tablesIn(own, comma, place));
     } catch (fault) {
-      if (fault instanceof RosterFault) fault.file = own.name;
-      throw fault;
+      if (!(fault instanceof RosterFault)) throw fault;
+      fault.file = own.name;
+      faults.push(fault);
+      const sheet = Object.assign(Sheet.ofRows([], ","), { fault });
+      tables.push({ name: own.name, kind: UNUSED, sheet, isGuess: false, isChosen: false, place });
     }
   }
   chooseKinds(tables);
+  if (faults.length) throw faults[0];
   return tables;
 }
 
 /** @type {(given: Given, comma: boolean, place: number) => Promise<Table[]>} */
 async function tablesIn({ name, kind, source, rows, separator }, comma, place) {
   const own = { name, kind, isChosen: kind !== "", isGuess: false, place };
-  if (rows) return [{ ...own, sheet: Sheet.ofRows(rows, separator || ",") }];
+  if (rows) return [{ ...own, sheet: Sheet.ofRows(rows, separator || ",", isJson(name) ? 0 : 1) }];
   const length = typeof source === "string" ? source.length : source?.byteLength || 0;
-  if (length > MOST_BYTES) throw new RosterFault(`longer than ${MOST_BYTES} bytes; the command reads more`);
+  if (length > MOST_BYTES) throw new RosterFault(`${said("long file", MOST_BYTES)}; the command reads more`);
   if (typeof source === "string") return [{ ...own, sheet: new Sheet(source) }];
   const bytes = new Uint8Array(source || new ArrayBuffer(0));
-  if (bytes[0] === 0x50 && bytes[1] === 0x4b && bytes[2] === 3 && bytes[3] === 4) {
+  if (beginsWith(bytes, ZIP)) {
+    const calendars = await calendarsIn(bytes);
+    if (calendars) return [{ ...own, kind: kind || "calendars", sheet: Sheet.ofRows(calendars, ",") }];
     const grids = (await gridsOf(bytes, comma)).filter((grid, k) => grid.rows.length || k === 0);
     return grids.map((grid) => {
       const sheet = Sheet.ofRows(grid.rows, comma ? ";" : ",");
@@ -52,6 +59,7 @@ async function tablesIn({ name, kind, source, rows, separator }, comma, place) {
     });
   }
   const { text, isGuess } = decoded(bytes);
+  if (isJson(name)) return [{ ...own, kind: kind || "plan", sheet: sheetOfJson(text, comma), isGuess }];
   return [{ ...own, sheet: new Sheet(text), isGuess }];
 }
 

@@ -16,6 +16,11 @@ export function gathered(items, keyOf) {
   return all;
 }
 
+/** @type {(one: number, other: number) => number} */
+export function rising(one, other) {
+  return one - other;
+}
+
 /** @type {<Item>(items: Item[]) => Map<Item, number>} How often each is there. */
 export function countsOf(items) {
   return new Map([...gathered(items, (item) => item)].map(([item, own]) => [item, own.length]));

@@ -1,7 +1,7 @@
 // Why counts can't be met: who is short, and by how much. Each side is looked at alone; what changes of as many pairs as can be reach from
 // those that lack some is short, in connected parts. The library checks each shortage.
 import { endsOf, graphOf, keyOf, strongParts, turned } from "./exchanges.mjs";
-import { gathered } from "./gathered.mjs";
+import { gathered, rising } from "./gathered.mjs";
 import { narrowed } from "./narrowed.mjs";
 
 /**
@@ -13,11 +13,6 @@ import { narrowed } from "./narrowed.mjs";
  * @typedef {import("./library.mjs").Bounds} Bounds
  * @typedef {import("./library.mjs").Library} Library
  */
-
-/** @type {(one: number, other: number) => number} */
-export function rising(one, other) {
-  return one - other;
-}
 
 /** @type {(ends: number[][], starts: number[], barred: number) => Set<number>} The vertices that arrows lead to from some, but not through one. */
 function reachedFrom(ends, starts, barred) {

@@ -1,7 +1,6 @@
 // The calls of nushbaret.h over the WebAssembly module. No proof covers this file; what a call returns is what the proved call wrote.
 
 export const MOST_PERSONS = 4194304;
-const VERSION_ROOM = 32;
 const CODES = [
   "BEST", "ROWS_LACK", "COLUMNS_LACK", "SENSE", "DENSE", "BUFFER", "SIZE", "LENGTH", "ROW", "ORDER", "COLUMN", "GROUP", "ROW_COUNTS",
   "COLUMN_COUNTS", "COST", "MEMORY", "STOPPED", "UNDECIDED", "NUMBERS", "TWICE", "ROW_LOOSE", "COLUMN_LOOSE", "SLACK", "MARKS", "ENOUGH",
@@ -62,10 +61,9 @@ export class Library {
     this.look = (/** @type {number} */ _pairs) => {};
   }
 
-  /** @type {(bytes: BufferSource) => Promise<Library>} */
-  static async load(bytes) {
-    const { instance } = await WebAssembly.instantiate(bytes, {});
-    return new Library(instance.exports);
+  /** @type {(module: WebAssembly.Module) => Promise<Library>} */
+  static async load(module) {
+    return new Library((await WebAssembly.instantiate(module)).exports);
   }
 
   /**
@@ -88,15 +86,6 @@ export class Library {
     } finally {
       blocks.forEach((block) => this.calls.free(block));
     }
-  }
-
-  /** @returns {string} The version of the library. */
-  version() {
-    return this.within((take) => {
-      const room = take(new Uint8Array(VERSION_ROOM));
-      const length = Number(this.calls.nushbaret_version(room.address, room.count));
-      return String.fromCharCode(...this.bytes({ ...room, count: BigInt(length) }));
-    });
   }
 
   /** @type {(block: Block) => bigint[]} Words of 64 bits that a call wrote. */
@@ -139,9 +128,8 @@ export class Library {
     /** @type {(count: number, own: number[]) => Uint8Array} */
     const marked = (count, own) => own.reduce((marks, number) => marks.fill(1, number, number + 1), new Uint8Array(count));
     return this.within((take) => {
-      const lists = wordsOf(...given(counted, take));
       const marks = wordsOf(take(marked(counted.rows.length, rows)), take(marked(counted.columns.length, columns)));
-      const info = take(new BigInt64Array(WORDS_OF_INFO));
+      const [lists, info] = [wordsOf(...given(counted, take)), take(new BigInt64Array(WORDS_OF_INFO))];
       const code = this.calls.nushbaret_check_shortage(0, ...lists, ofColumns ? 2 : 1, ...marks, info.address);
       return CODES[code] === (ofColumns ? "COLUMNS_LACK" : "ROWS_LACK");
     });

@@ -2,6 +2,7 @@
 import { calendarsOf, zipOf } from "./calendars.mjs";
 import { costsOf, pairKey } from "./earlier.mjs";
 import { button, byId, element, table } from "./elements.mjs";
+import { itemOf } from "./faults.mjs";
 import { clearResult, legendOf, listOf, sheetTable, showResult } from "./results.mjs";
 import { csvOf } from "./sheet.mjs";
 import { showTables } from "./tables.mjs";
@@ -10,18 +11,20 @@ const EXAMPLE = "nurse,early,late,night,office\nAda,2.50,4,,1\nBen,3.25,,1.75,2\
 // Spreadsheets read CSV as UTF-8 where it begins with this mark.
 const BOM = "\ufeff";
 const PASTED = "";
-const KEPT = "the kept plan";
+const [KEPT, KEPT_CALENDARS] = ["the kept plan", "the kept plan's calendars"];
 
 /**
  * @typedef {import("./answers.mjs").Reply} Reply
  * @typedef {import("./answers.mjs").Found} Found
  * @typedef {import("./answers.mjs").Shown} Shown
  * @typedef {import("./files.mjs").Given} Given
- * @typedef {{ worker: Worker, begin: number, clock: number }} Run
+ * @typedef {{ begin: number, clock: number }} Run
  */
 
 /** @type {Run | null} */
 let run = null;
+/** @type {Worker | null} Answers one question after the other, until one is stopped: what it has run once runs faster. */
+let worker = null;
 /** @type {Given[]} The files, the last one that was given last. */
 let files = [];
 /** @type {Shown[]} */
@@ -41,25 +44,42 @@ function seconds(time) {
   return `${(time / 1000).toFixed(time < 10000 ? 1 : 0)} s`;
 }
 
-/** The packed module, which the page holds as text. */
-function moduleBytes() {
+/** The module, which the page holds packed, as text: compiled once for all workers. */
+async function compiledModule() {
   const text = atob((byId("module", HTMLElement).textContent || "").trim());
-  return Uint8Array.from(text, (letter) => letter.charCodeAt(0)).buffer;
+  const packed = new Blob([Uint8Array.from(text, (letter) => letter.charCodeAt(0))]);
+  const stream = packed.stream().pipeThrough(new /** @type {any} */ (globalThis).DecompressionStream("gzip"));
+  return WebAssembly.compile(await new Response(stream).arrayBuffer());
 }
+const compiled = compiledModule();
+// A browser that can't says so when it is asked for a plan.
+compiled.catch(() => {});
 
 /** A worker of the script that the page holds as text. */
 function newWorker() {
   const source = byId("worker", HTMLElement).textContent || "";
   const place = URL.createObjectURL(new Blob([source], { type: "text/javascript" }));
-  const worker = new Worker(place);
+  const made = new Worker(place);
   URL.revokeObjectURL(place);
-  return worker;
+  made.addEventListener("message", (event) => take(event.data));
+  made.addEventListener("error", (event) => fail(event.message || "The worker doesn't start."));
+  return made;
+}
+
+/** @type {(text: string) => void} */
+function fail(text) {
+  stopWorker();
+  take({ kind: "failure", text });
+}
+
+function stopWorker() {
+  worker?.terminate();
+  worker = null;
 }
 
 /** @type {() => number} Ends a run, and returns how long it took. */
 function end() {
   if (run === null) return 0;
-  run.worker.terminate();
   clearInterval(run.clock);
   const time = performance.now() - run.begin;
   run = null;
@@ -69,6 +89,7 @@ function end() {
 }
 
 function stop() {
+  stopWorker();
   if (run) put("status", `Stopped after ${seconds(end())}.`);
   byId("plan", HTMLElement).focus();
 }
@@ -83,7 +104,8 @@ function choices() {
 }
 
 /** Plans the files. */
-function plan() {
+async function plan() {
+  if (run) stopWorker();
   end();
   clearResult();
   put("fault", files.length ? "" : "There is no roster yet: drop files, or paste cells.");
@@ -91,21 +113,25 @@ function plan() {
   found = null;
   if (!files.length) return;
   const begin = performance.now();
-  const worker = newWorker();
   const clock = window.setInterval(() => put("clock", seconds(performance.now() - begin)), 500);
-  run = { worker, begin, clock };
+  const own = run = { begin, clock };
   for (const id of ["stop", "progress"]) byId(id, HTMLElement).hidden = false;
-  worker.addEventListener("message", (event) => take(event.data));
-  worker.addEventListener("error", (event) => take({ kind: "failure", text: event.message || "The worker doesn't start." }));
-  worker.postMessage({ files, choices: choices(), marks, module: moduleBytes() });
+  try {
+    const module = await compiled;
+    if (run !== own) return;
+    worker = worker || newWorker();
+    worker.postMessage({ files, choices: choices(), marks, module });
+  } catch (fault) {
+    if (run === own) fail(`This browser doesn't run the page's module: ${fault}`);
+  }
 }
 
 /** @type {(fault: import("./answers.mjs").Fault | import("./answers.mjs").Failure) => string} Where a fault is: its file where there are several, line and column. */
 function placeOf(fault) {
   if (fault.kind === "failure") return "";
-  const [file, line] = [files.length > 1 ? fault.file : "", fault.line ? `line ${fault.line}` : ""];
+  const [file, line] = [files.length > 1 ? fault.file : "", fault.line ? `${itemOf(fault.file)} ${fault.line}` : ""];
   const parts = [file, line, line && fault.column ? `column ${fault.column}` : ""].filter(Boolean);
-  return parts.length ? `${parts.join(", ").replace(/^l/, file ? "l" : "L")}: ` : "";
+  return parts.length ? `${parts.join(", ").replace(/^[lp]/, (letter) => file ? letter : letter.toUpperCase())}: ` : "";
 }
 
 /** @type {(reply: Reply) => void} Shows what the worker replied. */
@@ -133,31 +159,33 @@ function take(reply) {
   document.documentElement.dataset.done = String(Number(document.documentElement.dataset.done || "0") + 1);
 }
 
-/** @type {(table: Shown, changed: (own: Given) => Given | null) => void} Changes a table; those of its file become files of their own, and all is planned again. */
+/** @type {(table: Shown, changed: (own: Given) => Given[]) => void} Changes a table; those of its file become files of their own. */
 function change(table, changed) {
   const { place } = table;
   const own = tables.filter((other) => other.place === place);
-  const given = own.map((other) => own.length === 1 && !other.rows ? files[place]
-    : { name: other.name, kind: other.isChosen || own.length > 1 ? other.kind : "", rows: other.rows || [], separator: other.separator });
-  files.splice(place, 1, ...given.flatMap((one, k) => own[k] === table ? changed(one) || [] : [one]));
+  const given = own.map(({ name, kind, rows, separator }) => (
+    own.length === 1 && !rows ? files[place] : { name, kind, rows: rows || [], separator }));
+  files.splice(place, 1, ...given.flatMap((one, k) => own[k] === table ? changed(one) : [one]));
+  tables.filter((other) => other.place > place).forEach((other) => { other.place += own.length - 1; });
+  own.forEach((other, k) => { other.place += k; });
+}
+
+/** @type {(table: Shown, changed: (own: Given) => Given[]) => void} */
+function changeAndPlan(table, changed) {
+  change(table, changed);
   if (table.name === PASTED) byId("text", HTMLTextAreaElement).value = "";
   plan();
 }
 
-/** @type {(table: Shown, rows: string[][]) => void} New cells are taken when the plan is asked for again. */
-function onRows(table, rows) {
-  table.rows = rows;
-  const { place } = table;
-  const own = tables.filter((other) => other.place === place);
-  const given = own.map(({ name, kind, rows: cells, separator }) => ({ name, kind, rows: cells || [], separator }));
-  files.splice(place, 1, ...given);
-  tables.forEach((other) => { other.place += other.place > place ? given.length - 1 : own.indexOf(other) > 0 ? own.indexOf(other) : 0; });
-  put("status", "Cells have changed: plan again.");
-}
-
-/** @type {import("./tables.mjs").Works} */
+/** @type {import("./tables.mjs").Works} New cells are taken when the plan is asked for again. */
 const ON_TABLES = {
-  onKind: (table, kind) => change(table, (own) => ({ ...own, kind })), onRemove: (table) => change(table, () => null), onRows,
+  onKind: (table, kind) => changeAndPlan(table, (own) => [{ ...own, kind }]),
+  onRemove: (table) => changeAndPlan(table, () => []),
+  onRows: (table, rows) => {
+    table.rows = rows;
+    change(table, (own) => [own]);
+    put("status", "Cells have changed: plan again.");
+  },
 };
 
 /** @type {(chosen: File[]) => Promise<void>} Takes files, each in place of one of its name, and plans. */
@@ -248,10 +276,15 @@ function choose(row, column) {
   room.showModal();
 }
 
-/** The plan is from now on the earlier one, from which as little changes as can be. */
+/** The plan is from now on the earlier one, from which as little changes as can be, and so are its calendars. */
 function keep() {
   if (!found) return;
-  files = [...files.filter((_, place) => !tables.some((table) => table.place === place && table.kind === "plan")), { name: KEPT, kind: "plan", rows: found.rows, separator: found.roster.separator }];
+  const calendars = calendarsNow().files.map(({ name, bytes }) => [name, new TextDecoder().decode(bytes)]);
+  const old = new Set(tables.filter(({ kind }) => ["plan", "calendars"].includes(kind)).map(({ place }) => place));
+  const others = files.filter((_, place) => !old.has(place));
+  const { separator } = found.roster;
+  files = [...others, { name: KEPT, kind: "plan", rows: found.rows, separator }];
+  if (calendars.length) files.push({ name: KEPT_CALENDARS, kind: "calendars", rows: calendars, separator });
   plan();
 }
 
@@ -297,9 +330,12 @@ function saveWall() {
   saveAs(new Blob([`<!DOCTYPE html>\n${page.outerHTML}\n`], { type: "text/html" }), `${rosterName()}-wall.html`);
 }
 
+function calendarsNow() {
+  return calendarsOf(/** @type {Found} */ (found), byId("version", HTMLElement).textContent || "");
+}
+
 function saveCalendars() {
-  const { roster, plan: own } = /** @type {Found} */ (found);
-  const { files: calendars, why } = own ? calendarsOf(roster, own, byId("version", HTMLElement).textContent || "") : { files: [], why: "there is no plan" };
+  const { files: calendars, why } = calendarsNow();
   if (calendars.length) saveAs(zipOf(calendars), `${rosterName()}-calendars.zip`);
   else put("status", `No calendars: ${why}.`);
 }

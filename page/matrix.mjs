@@ -1,5 +1,5 @@
 // The matrix: all costs, shaded, with the plan's cells outlined, in parts that each fit on a sheet of paper.
-import { pairKey } from "./earlier.mjs";
+import { costsOf, pairKey } from "./earlier.mjs";
 import { element } from "./elements.mjs";
 import { shown } from "./numbers.mjs";
 
@@ -20,14 +20,13 @@ const ROWS_AT_ONCE = 100;
 /**
  * @typedef {import("./answers.mjs").Found} Found
  * @typedef {{ begin: number, end: number }} Part Columns
- * @typedef {{ found: Found, costs: (number | undefined)[][], least: number, greatest: number, who: Set<number>, what: Set<number>, chosen: Set<number> }} Drawing
+ * @typedef {{ found: Found, costs: Map<number, number>, least: number, greatest: number, who: Set<number>, what: Set<number>, chosen: Set<number> }} Drawing
  */
 
 /** @type {(widths: number[], room: number) => Part[]} Columns one after the other, in parts of at most so much room. */
 function filled(widths, room) {
   const parts = [];
-  let begin = 0;
-  let width = 0;
+  let [begin, width] = [0, 0];
   widths.forEach((own, column) => {
     if (column > begin && width + own > room) {
       parts.push({ begin, end: column });
@@ -54,29 +53,20 @@ function partsOf({ found: { roster }, least, greatest }) {
 /** @type {(found: Found) => Drawing} */
 function drawingOf(found) {
   const { roster, short } = found;
-  /** @type {(number | undefined)[][]} */
-  const costs = roster.persons.map(() => new Array(roster.objects.length).fill(undefined));
-  roster.costs.forEach((cost, k) => { costs[roster.ofPersons[k]][roster.ofObjects[k]] = cost; });
   const least = roster.costs.reduce((one, other) => Math.min(one, other), Infinity);
   const greatest = roster.costs.reduce((one, other) => Math.max(one, other), -Infinity);
   const span = roster.costs.length ? { least, greatest } : { least: 0, greatest: 0 };
   const chosen = new Set((found.plan?.pairs || []).map(({ person, object }) => pairKey(roster, person, object)));
-  return { found, costs, ...span, who: new Set(short.persons), what: new Set(short.objects), chosen };
+  return { found, costs: costsOf(roster), ...span, who: new Set(short.persons), what: new Set(short.objects), chosen };
 }
 
 /** @type {(drawing: Drawing, person: number, object: number) => HTMLElement} */
 function cell(drawing, person, object) {
-  const { found, costs, least, greatest } = drawing;
-  const cost = costs[person][object];
-  const made = document.createElement("td");
-  if (cost === undefined) {
-    made.className = "none";
-    return made;
-  }
+  const { found: { roster }, costs, least, greatest, chosen } = drawing;
+  const cost = costs.get(pairKey(roster, person, object));
+  if (cost === undefined) return element("td", { class: "none" });
   const level = Math.floor((cost - least) * SHADES / (greatest - least + 1));
-  made.className = drawing.chosen.has(pairKey(found.roster, person, object)) ? `s${level} own` : `s${level}`;
-  made.textContent = shown(found.roster, cost);
-  return made;
+  return element("td", { class: chosen.has(pairKey(roster, person, object)) ? `s${level} own` : `s${level}` }, shown(roster, cost));
 }
 
 /** @type {(scope: "row" | "col", content: string | Node, isShort: boolean) => HTMLElement} */
@@ -115,7 +105,7 @@ export async function drawMatrix(found, room, isWanted) {
     const name = `${objects[part.begin]} to ${objects[part.end - 1]} (part ${place + 1} of ${parts.length})`;
     const body = element("tbody", {});
     for (let person = 0; person < persons.length && isWanted(); person++) {
-      if (person % ROWS_AT_ONCE === ROWS_AT_ONCE - 1) await new Promise((done) => setTimeout(done));
+      if (person % ROWS_AT_ONCE === 0) await new Promise((done) => setTimeout(done));
       body.append(rowOf(drawing, person, part));
     }
     tables.push(element("table", {}, headOf(drawing, part, parts.length > 1 ? name : ""), body));

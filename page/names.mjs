@@ -1,16 +1,16 @@
 // The names of one side of a roster. A date is one name however it is written.
 import { spellings } from "./dates.mjs";
-import { RosterFault, said } from "./faults.mjs";
+import { refuse, said } from "./faults.mjs";
 import { gathered } from "./gathered.mjs";
+import { MOST_PERSONS } from "./library.mjs";
 import { nameOf } from "./sheet.mjs";
 import { bare, quoted } from "./texts.mjs";
 
 /** The names of one side, numbered from 0 as they come. */
 export class Names {
-  /** @param {string} kind @param {number} most */
-  constructor(kind, most) {
+  /** @param {string} kind */
+  constructor(kind) {
     this.kind = kind;
-    this.most = most;
     /** @type {string[]} */
     this.list = [];
     /** @type {Map<string, number>} */
@@ -32,14 +32,14 @@ export class Names {
     const before = this.list.length;
     const number = this.number(cell, line, column);
     if (number < before) {
-      throw new RosterFault(`the name ${quoted(cell)} a second time (list it once; a file of ${this.kind === "persons" ? "tasks" : "places"} says how many it takes)`, line, column);
+      refuse(line, column, "name once", quoted(cell), `a file of ${this.kind === "persons" ? "tasks" : "places"}`);
     }
     return number;
   }
 
   /** @type {(name: string, line: number, column: number) => number} */
   add(name, line, column) {
-    if (this.list.length === this.most) throw new RosterFault(`more than ${this.most} ${this.kind}`, line, column);
+    if (this.list.length === MOST_PERSONS) refuse(line, column, "more names", MOST_PERSONS, this.kind);
     this.list.push(name);
     for (const spelling of spellings(name)) this.numbers.set(spelling, this.list.length - 1);
     return this.list.length - 1;
@@ -48,11 +48,11 @@ export class Names {
 
 /** The pairs of a roster and their costs, as they are read. */
 export class Pairs {
-  /** @param {import("./numbers.mjs").Costs} costs @param {number} most */
-  constructor(costs, most) {
+  /** @param {import("./numbers.mjs").Costs} costs */
+  constructor(costs) {
     this.costs = costs;
-    this.persons = new Names("persons", most);
-    this.objects = new Names("objects", most);
+    this.persons = new Names("persons");
+    this.objects = new Names("objects");
     /** @type {number[]} */
     this.ofPersons = [];
     /** @type {number[]} */
@@ -70,9 +70,9 @@ export class Pairs {
 
   /** @type {(person: number, object: number, names: string[], line: number) => void} Refuses a pair that a line before has. */
   refuseTwice(person, object, names, line) {
-    const key = person * this.objects.most + object;
+    const key = person * MOST_PERSONS + object;
     const before = this.lines.get(key);
-    if (before !== undefined) throw new RosterFault(said("pair twice", ...names, before), line);
+    if (before !== undefined) refuse(line, 0, "pair twice", names.join(", "), "line", before);
     this.lines.set(key, line);
   }
 

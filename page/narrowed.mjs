@@ -17,6 +17,11 @@ export function wholePlan({ places, taken }, plan, pairs) {
   return found;
 }
 
+/** @type {(bounds: Bounds, count?: number) => Bounds} What a count leaves next to what is taken. */
+export function less({ least, most }, count = 0) {
+  return { least: Math.max(0, least - count), most: most - count };
+}
+
 /** @type {(bounds: Bounds[], numbers: number[]) => Bounds[]} Bounds by which a count is the one that its number stands for. */
 export function fixedBy(bounds, numbers) {
   return bounds.map(({ least, most }, k) => ({ least: numbers[k] < 0 ? most : least, most: numbers[k] > 0 ? least : most }));
@@ -46,15 +51,13 @@ export function narrowed(counted, spare, rowBounds, columnBounds) {
   /** @type {(known: Map<number, number>, key: number) => number} */
   const numberOf = (known, key) => known.get(key) ?? known.set(key, known.size).size - 1;
   const [partRows, partColumns] = [open.map((k) => numberOf(rows, 2 * ofRows[k] + isFree(k))), open.map((k) => numberOf(columns, ofColumns[k]))];
-  /** @type {(bounds: Bounds, count: number) => Bounds} */
-  const less = (bounds, count) => ({ least: Math.max(0, bounds.least - count), most: bounds.most - count });
   const bounds = [...rows.keys()].map((key) => {
     const row = key >> 1;
     const own = must.get(row) || 0;
     return key & 1 ? less(rowBounds[row], (had.get(row) || 0) + own) : { least: own, most: own };
   });
   const part = {
-    rows: bounds, columns: [...columns.keys()].map((column) => less(columnBounds[column], used.get(column) || 0)), nGroups,
+    rows: bounds, columns: [...columns.keys()].map((column) => less(columnBounds[column], used.get(column))), nGroups,
     groupOf: [...columns.keys()].map((column, k) => groupOf[column] < nGroups ? groupOf[column] : nGroups + k),
     ofRows: partRows, ofColumns: partColumns, costs: open.map((k) => costs[k]),
   };

@@ -1,10 +1,9 @@
 // Costs as a roster writes them, read exactly: whole numbers of units of 10^-decimals.
-import { RosterFault, said } from "./faults.mjs";
+import { refuse, said } from "./faults.mjs";
 import { quoted } from "./texts.mjs";
 
-export const MOST_PLACES = 6;
-export const GREATEST_COST = 1e12;
-const MILLION = 10 ** MOST_PLACES;
+const MOST_PLACES = 6;
+const GREATEST_COST = 1e12;
 const WITH_POWER = /^([+-]?)([0-9]+)(?:[.,]([0-9]*))?[eE]([+-]?[0-9]{1,2})$/;
 
 /** @type {(cell: string) => boolean} Whether a cell might be meant as a number, of any make. */
@@ -12,16 +11,11 @@ export function looksLikeNumber(cell) {
   return /^[+-]?[0-9., ']*[0-9][0-9., ']*([eE][+-]?[0-9]{1,2})?$/.test(cell);
 }
 
-/** @type {(units: bigint, decimals: number, point: string) => string} A whole number of units of 10^-decimals as the roster writes it. */
-export function decimalText(units, decimals, point) {
-  const digits = String(units < 0n ? -units : units).padStart(decimals + 1, "0");
-  const whole = digits.slice(0, digits.length - decimals);
-  return (units < 0n ? "-" : "") + whole + (decimals ? point + digits.slice(-decimals) : "");
-}
-
 /** @type {(roster: { decimals: number, comma: boolean }, units: bigint | number) => string} Units of a roster as it writes costs. */
-export function shown(roster, units) {
-  return decimalText(BigInt(units), roster.decimals, roster.comma ? "," : ".");
+export function shown({ decimals, comma }, units) {
+  const digits = String(units).replace("-", "").padStart(decimals + 1, "0");
+  const part = decimals ? (comma ? "," : ".") + digits.slice(-decimals) : "";
+  return (units < 0 ? "-" : "") + digits.slice(0, digits.length - decimals) + part;
 }
 
 /** @type {(cell: string, comma: boolean) => string} A cell such as 1.2E+03 as a plain number, and any other as it is. */
@@ -44,66 +38,41 @@ export class Costs {
     const point = comma ? "," : "\\.";
     // Sign, whole part without leading zeros, decimal places without trailing zeros; at least one digit.
     this.plain = new RegExp(`^([+-]?)(?=${point}?[0-9])0*([0-9]*)(?:${point}([0-9]*?)0*)?$`);
-    /** @type {boolean[]} */
-    this.isNegative = [];
-    // Of each cost the whole part, and what follows the point in millionths.
-    /** @type {number[]} */
-    this.whole = [];
-    /** @type {number[]} */
-    this.millionths = [];
+    // In millionths.
+    /** @type {bigint[]} */
+    this.costs = [];
     this.places = 0;
-    this.greatest = { whole: 0, millionths: 0, line: 0, column: 0 };
+    this.greatest = { size: 0n, line: 0, column: 0 };
   }
 
   /** @type {(cell: string, line: number, column: number) => void} Takes a cell, or refuses it. */
   take(cell, line, column) {
     const found = this.plain.exec(cell) || this.plain.exec(withoutPower(cell, this.comma));
-    if (found === null) throw new RosterFault(said("no cost", quoted(cell), this.hint(cell)), line, column);
+    if (found === null) refuse(line, column, "no cost", quoted(cell), this.hint(cell));
     const [, sign, digits, part = ""] = found;
-    if (part.length > MOST_PLACES) {
-      throw new RosterFault(said("many places", quoted(cell), MOST_PLACES, ""), line, column);
-    }
+    if (part.length > MOST_PLACES) refuse(line, column, "many places", quoted(cell), MOST_PLACES, "");
     this.places = Math.max(this.places, part.length);
-    const whole = Number(digits.slice(0, 20));
-    const millionths = Number(part.padEnd(MOST_PLACES, "0"));
-    this.look({ whole, millionths, line, column });
-    this.isNegative.push(sign === "-");
-    this.whole.push(whole);
-    this.millionths.push(millionths);
-  }
-
-  /** @type {(cost: { whole: number, millionths: number, line: number, column: number }) => void} Keeps the greatest cost, either way. */
-  look(cost) {
-    const most = this.greatest;
-    if (cost.whole < most.whole || cost.whole === most.whole && cost.millionths <= most.millionths) return;
-    if (cost.whole > GREATEST_COST || cost.whole === GREATEST_COST && cost.millionths > 0) {
-      throw new RosterFault(said("beyond", GREATEST_COST, ""), cost.line, cost.column);
-    }
-    this.greatest = cost;
+    const size = BigInt(digits.slice(0, 20) + part.padEnd(MOST_PLACES, "0"));
+    if (size > BigInt(GREATEST_COST * 10 ** MOST_PLACES)) refuse(line, column, "beyond", GREATEST_COST, "");
+    if (size > this.greatest.size) this.greatest = { size, line, column };
+    this.costs.push(sign === "-" ? -size : size);
   }
 
   /** @type {() => { decimals: number, units: number[] }} How many places are used, and the costs as whole numbers of that unit. */
   scaled() {
     const decimals = this.places;
-    const unit = 10 ** decimals;
-    const rest = MILLION / unit;
-    const size = this.greatest.whole * unit + Math.floor(this.greatest.millionths / rest);
-    if (size > GREATEST_COST) {
-      const text = said("beyond", Math.floor(GREATEST_COST / unit), said("with places", decimals));
-      throw new RosterFault(text, this.greatest.line, this.greatest.column);
+    const unit = BigInt(10 ** (MOST_PLACES - decimals));
+    const { size, line, column } = this.greatest;
+    if (size / unit > GREATEST_COST) {
+      refuse(line, column, "beyond", Math.floor(GREATEST_COST / 10 ** decimals), said("with places", decimals));
     }
-    const units = this.whole.map((whole, place) => {
-      const own = whole * unit + this.millionths[place] / rest;
-      return this.isNegative[place] && own ? -own : own;
-    });
-    return { decimals, units };
+    return { decimals, units: this.costs.map((cost) => Number(cost / unit)) };
   }
 
   /** @type {(cell: string) => string} What a cell may have been meant as. */
   hint(cell) {
     if (this.comma && /^[+-]?[0-9]+\.[0-9]+$/.test(cell)) return said("comma");
     if (!this.comma && /^[+-]?[0-9]+,[0-9]+$/.test(cell)) return "; with a decimal comma it may be";
-    const forbids = ["x", "-", "n/a"].includes(cell.toLowerCase());
-    return forbids ? said("forbids") : "";
+    return ["x", "-", "n/a"].includes(cell.toLowerCase()) ? said("forbids") : "";
   }
 }

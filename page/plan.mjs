@@ -1,10 +1,11 @@
 // The plan of a roster, or who is short of what.
 import { changesOf, missingOf, named, orderOf, pairKey } from "./earlier.mjs";
 import { freePairs } from "./exchanges.mjs";
+import { said } from "./faults.mjs";
 import { gathered, usesOf } from "./gathered.mjs";
 import { cutOf, lacksOf } from "./lacks.mjs";
 import { exact, NoMemory } from "./library.mjs";
-import { fixedBy, narrowed, wholePlan } from "./narrowed.mjs";
+import { fixedBy, less, narrowed, wholePlan } from "./narrowed.mjs";
 import { shown } from "./numbers.mjs";
 import { counted, sentence } from "./sentences.mjs";
 import { hasBounds, ofObject, ofPerson } from "./takes.mjs";
@@ -22,11 +23,6 @@ const MOST_EXCHANGED = 100000;
  * @typedef {{ max: boolean, fullest: boolean, fixed: import("./earlier.mjs").Pair[], kept: import("./earlier.mjs").OldPlan | null }} Request
  * @typedef {{ plan: Plan | null, sentences: string[], short: { persons: number[], objects: number[] } }} Answer
  */
-
-/** @type {(bounds: import("./library.mjs").Bounds, count: number | undefined) => import("./library.mjs").Bounds} What a count leaves next to what is given. */
-function less({ least, most }, count = 0) {
-  return { least: Math.max(0, least - count), most: most - count };
-}
 
 /** @type {(roster: Roster, request: Request) => { counted: Counted, places: number[] }} What is left to plan around the fixed pairs, with costs that are to be least, and the places of its pairs in the roster. */
 export function countedOf(roster, { max, fixed }) {
@@ -55,9 +51,8 @@ export function countedOf(roster, { max, fixed }) {
 
 /** @type {(roster: Roster, fixed: { object: number }[]) => string} What is planned around, in words. */
 function aroundOf(roster, fixed) {
-  const isPast = fixed.map(({ object }) => roster.past.has(object));
-  const names = [...isPast.includes(true) ? ["the past"] : [], ...isPast.includes(false) ? ["the fixed pairs"] : []];
-  return names.length ? `around ${names.join(" and ")}, ` : "";
+  const names = ["the past", "the fixed pairs"].filter((_, k) => fixed.some(({ object }) => roster.past.has(object) === (k === 0)));
+  return names.length ? said("around", names.map((name) => said(name)).join(said("and"))) : "";
 }
 
 /** @type {(library: Library, counted: Counted) => import("./library.mjs").Answer} A best plan with its numbers. */
@@ -128,8 +123,9 @@ function planOf(roster, fixed, chosen, swaps) {
 /** @type {(roster: Roster, max: boolean, answer: Answer) => string[]} The first lines: a sentence for each group that is short, and the cost of the plan. */
 export function firstLines(roster, max, { plan, sentences }) {
   if (!plan) return sentences;
-  const partial = sentences.length ? ` of ${plan.pairs.length} pairs${hasBounds(roster) ? " that miss least" : ""}` : "";
-  return [...sentences, `${max ? "greatest" : "least"} ${roster.titles[2]}${partial}: ${shown(roster, plan.cost)}`];
+  const name = hasBounds(roster) ? "of pairs that miss least" : "of pairs";
+  const title = sentences.length ? said(name, roster.titles[2], plan.pairs.length) : roster.titles[2];
+  return [...sentences, `${max ? "greatest" : "least"} ${title}: ${shown(roster, plan.cost)}`];
 }
 
 /** @type {(roster: Roster, plan: Plan) => { how: string, count: string, names: string }[]} Who and what has too few: how that is called, how many they are, and their names. */
@@ -175,6 +171,6 @@ export function listsOf(roster, plan) {
 /** @type {(roster: Roster, plan: Plan, kept: import("./earlier.mjs").OldPlan | null) => string[]} Other plans that are as good, and what changes from an earlier plan. */
 export function notesOf(roster, plan, kept) {
   const swaps = (plan.swaps || []).map(([persons, objects]) => (
-    `could change places at no cost: ${named(persons, roster.titles[0], roster.persons)} on ${named(objects, roster.titles[1], roster.objects)}`));
-  return [...plan.swaps && !swaps.length ? ["no other plan is as good"] : swaps, ...kept ? changesOf(roster, plan.pairs, kept).lines : []];
+    said("swap", named(persons, roster.titles[0], roster.persons), named(objects, roster.titles[1], roster.objects))));
+  return [...plan.swaps && !swaps.length ? [said("only plan")] : swaps, ...kept ? changesOf(roster, plan.pairs, kept).lines : []];
 }

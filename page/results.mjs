@@ -1,6 +1,7 @@
 // The answer on the page: the cost, the plan as one sheet and as lists, who is left over or short, and the matrix.
 import { shortDay } from "./days.mjs";
 import { button, byId, element, table } from "./elements.mjs";
+import { said } from "./faults.mjs";
 import { drawMatrix, MOST_AT_ONCE, MOST_CELLS } from "./matrix.mjs";
 
 // So many kinds have a colour of their own. What is printed: the height of a sheet for rows, and of a row at most.
@@ -91,10 +92,10 @@ export function legendOf(sheet, isPlanOnly) {
   const notes = columns.filter(({ meaning }) => meaning && !sheet.letters.has(meaning)).map(({ title, meaning }) => `${title}: ${meaning}`);
   /** @type {[string, boolean][]} */
   const marks = [
-    ["shaded: weekend", sheet.days.some(({ isWeekend }) => isWeekend)], ["hatched: nothing possible", cells.some(({ isOff }) => isOff)],
-    ["framed: changed", cells.some(({ entries, gone }) => gone.length > 0 || entries.some(({ isNew }) => isNew))],
+    ["shaded: weekend", sheet.days.some(({ isWeekend }) => isWeekend)], [said("hatched"), cells.some(({ isOff }) => isOff)],
+    [said("framed"), cells.some(({ entries, gone }) => gone.length > 0 || entries.some(({ isNew }) => isNew))],
     ["underlined: given", cells.some(({ entries }) => entries.some(({ isFixed }) => isFixed))],
-    ["3/4: 3 of 4 wanted", sheet.kinds.some(({ staff }) => staff.some((own) => own !== null && own.wanted !== null))]];
+    [said("3/4"), sheet.kinds.some(({ staff }) => staff.some((own) => own !== null && own.wanted !== null))]];
   return element("p", { class: "legend" }, ...kinds, [...notes, ...marks.filter(([, isThere]) => isThere).map(([text]) => text)].join(" \u00b7 "));
 }
 

@@ -1,12 +1,12 @@
 // Rosters: persons, objects and costs by name, in lines of pairs or as a matrix. They are read as the command reads them.
 import { areDailyLines, headsOf, readDailyLines, readDailyMatrix } from "./daily.mjs";
-import { RosterFault, said } from "./faults.mjs";
+import { refuse, RosterFault, said } from "./faults.mjs";
 import { Pairs } from "./names.mjs";
 import { Costs, looksLikeNumber } from "./numbers.mjs";
 import { nameOf } from "./sheet.mjs";
 import { quoted } from "./texts.mjs";
 
-export const TITLES = ["person", "object", "cost"];
+const TITLES = ["person", "object", "cost"];
 
 /**
  * A problem by names. Pair k is of `persons[ofPersons[k]]` and `objects[ofObjects[k]]`, no pair twice; `costs[k]` is in units of
@@ -32,18 +32,18 @@ export const TITLES = ["person", "object", "cost"];
 
 /**
  * What the reader says of a roster: `form` is 'lines', 'matrix' or '', which takes the form from the text.
- * @typedef {{ form: string, comma: boolean, most: number }} Reading
+ * @typedef {{ form: string, comma: boolean }} Reading
  * @typedef {import("./sheet.mjs").Sheet} Sheet
  * @typedef {{ titles: string[], pairs: Pairs, groups?: import("./takes.mjs").Groups | null }} Read
  */
 
 /** @type {(sheet: Sheet, reading: Reading) => Roster} The roster that a sheet holds. */
-export function rosterOf(sheet, { form, comma, most }) {
+export function rosterOf(sheet, { form, comma }) {
   const costs = new Costs(comma);
   const isDaily = form !== "matrix" && areDailyLines(sheet);
   const isMatrix = !isDaily && (form === "matrix" || form === "" && !mayBeLines(sheet));
   const read = isDaily ? readDailyLines : isMatrix ? headsOf(sheet) ? readDailyMatrix : readMatrix : form ? readLines : readSureLines;
-  const { titles, pairs, groups = null } = read(sheet, costs, most);
+  const { titles, pairs, groups = null } = read(sheet, costs);
   const { persons, objects, ofPersons, ofObjects } = pairs;
   const { decimals, units } = costs.scaled();
   return {
@@ -76,12 +76,12 @@ function refuseUnsure(sheet) {
   throw new RosterFault("lines of pairs, or a matrix of two objects? Choose the form", line);
 }
 
-/** @type {(sheet: Sheet, costs: Costs, most: number) => Read} Reads lines, unless they might be a matrix as well: that is refused before any other fault. */
-function readSureLines(sheet, costs, most) {
+/** @type {(sheet: Sheet, costs: Costs) => Read} Reads lines, unless they might be a matrix as well: that is refused before any other fault. */
+function readSureLines(sheet, costs) {
   /** @type {Read} */
   let read;
   try {
-    read = readLines(sheet, costs, most);
+    read = readLines(sheet, costs);
   } catch (fault) {
     refuseUnsure(sheet);
     throw fault;
@@ -90,37 +90,33 @@ function readSureLines(sheet, costs, most) {
   return read;
 }
 
-/** @type {(sheet: Sheet, costs: Costs, most: number) => Read} */
-function readLines(sheet, costs, most) {
+/** @type {(sheet: Sheet, costs: Costs) => Read} */
+function readLines(sheet, costs) {
   const { line: first, cells: title } = sheet.title();
   if (title.length !== 3) {
     const fourth = title.length > 3 ? said("fourth", quoted(title[3])) : "";
-    throw new RosterFault(said("titles", title.length, fourth), first);
+    refuse(first, 0, "titles", title.length, fourth);
   }
-  if (looksLikeNumber(title[2])) {
-    throw new RosterFault(said("no title", quoted(title[2])), first, 3);
-  }
+  if (looksLikeNumber(title[2])) refuse(first, 3, "no title", quoted(title[2]));
   const titles = title.map((cell, place) => cell === "" ? TITLES[place] : nameOf(cell, first, place + 1));
-  const pairs = new Pairs(costs, most);
+  const pairs = new Pairs(costs);
   for (const { line, cells } of sheet.body(3)) {
     const [person, object] = [pairs.persons.number(cells[0], line, 1), pairs.objects.number(cells[1], line, 2)];
     pairs.refuseTwice(person, object, cells.slice(0, 2), line);
     pairs.take(person, object, cells[2], line, 3);
   }
-  if (!pairs.ofPersons.length) throw new RosterFault(said("no line"), first);
+  if (!pairs.ofPersons.length) refuse(first, 0, "no line");
   return { titles, pairs };
 }
 
-/** @type {(sheet: Sheet, costs: Costs, most: number) => Read} */
-function readMatrix(sheet, costs, most) {
+/** @type {(sheet: Sheet, costs: Costs) => Read} */
+function readMatrix(sheet, costs) {
   const { line: first, cells: title } = sheet.title();
-  if (looksLikeNumber(title[0])) {
-    throw new RosterFault(said("number for a title", quoted(title[0])), first, 1);
-  }
-  if (title.length < 2) throw new RosterFault(said("no object"), first);
-  const pairs = new Pairs(costs, most);
+  if (looksLikeNumber(title[0])) refuse(first, 1, "number for a title", quoted(title[0]));
+  if (title.length < 2) refuse(first, 0, "no object");
+  const pairs = new Pairs(costs);
   const objects = title.slice(1).map((cell, place) => pairs.objects.once(cell, first, place + 2));
   for (const { line, cells } of sheet.body(title.length)) pairs.takeRow(cells, objects, line);
-  if (!pairs.persons.list.length) throw new RosterFault(said("no line"), first);
+  if (!pairs.persons.list.length) refuse(first, 0, "no line");
   return { titles: [title[0] === "" ? TITLES[0] : nameOf(title[0], first, 1), TITLES[1], TITLES[2]], pairs };
 }

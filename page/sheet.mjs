@@ -1,5 +1,5 @@
 // The cells of CSV and of pasted cells, and what is wrong in them; and a plan as CSV, a roster of lines that is read again. Lines and columns are counted from 1.
-import { RosterFault, said } from "./faults.mjs";
+import { refuse, RosterFault, said } from "./faults.mjs";
 import { guarded, hasControl, isPrintable, onOneLine, quoted, stripped, unguarded } from "./texts.mjs";
 
 const SEPARATORS = ";\t,";
@@ -26,55 +26,26 @@ function breaksIn(text) {
   return (text.match(/\r\n?|\n/g) || []).length;
 }
 
-/**
- * A cell in quotes, which begins at a place, and where the text after it begins; -1 where its end is missing.
- * @type {(text: string, begin: number) => { cell: string, end: number }}
- */
-function quotedCell(text, begin) {
-  let at = begin + 1;
-  const parts = [];
-  for (;;) {
-    const quote = text.indexOf('"', at);
-    if (quote < 0) return { cell: "", end: -1 };
-    parts.push(text.slice(at, quote));
-    if (text[quote + 1] !== '"') return { cell: parts.join('"'), end: quote + 1 };
-    at = quote + 2;
-  }
-}
-
-/** @type {(text: string, begin: number, separator: string) => Record} The record that begins at a place of a text. The end of its line isn't read. */
-function recordAt(text, begin, separator) {
+/** @type {(text: string, begin: number, separator: string, cellAt: RegExp) => Record} The record that begins at a place of a text. The end of its line isn't read. */
+function recordAt(text, begin, separator, cellAt) {
   const cells = [];
-  let at = begin;
+  cellAt.lastIndex = begin;
   for (;;) {
-    let cell = "";
-    if (text[at] === '"') {
-      ({ cell, end: at } = quotedCell(text, at));
-      if (at < 0) return { cells, end: text.length, fault: said("open quotes") };
-    } else {
-      const end = endOfCell(text, at, separator);
-      cell = text.slice(at, end);
-      at = end;
-    }
+    const [bare, quotedText, quote] = /** @type {RegExpExecArray} */ (cellAt.exec(text));
+    if (quote === "") return { cells, end: text.length, fault: said("open quotes") };
+    const [cell, at] = [quotedText === undefined ? bare : quotedText.replace(/""/g, '"'), cellAt.lastIndex];
     if (isLong(cell)) return { cells, end: at, fault: said("long cell", MOST_LETTERS) };
     if (cells.length === MOST_IN_RECORD) return { cells, end: at, fault: said("long record", MOST_IN_RECORD) };
     cells.push(cell);
     if (at >= text.length || text[at] === "\n" || text[at] === "\r") return { cells, end: at, fault: "" };
     if (text[at] !== separator) return { cells, end: at, fault: said("after quotes") };
-    at++;
+    cellAt.lastIndex = at + 1;
   }
 }
 
 /** @type {(text: string) => boolean} Whether a text has more characters than a cell may. */
 function isLong(text) {
   return text.length > MOST_LETTERS && Array.from(text).length > MOST_LETTERS;
-}
-
-/** @type {(text: string, begin: number, separator: string) => number} Where a cell without quotes ends. */
-function endOfCell(text, begin, separator) {
-  let at = begin;
-  while (at < text.length && text[at] !== separator && text[at] !== "\n" && text[at] !== "\r") at++;
-  return at;
 }
 
 /** The records of a text that aren't empty, with `;`, TAB or `,` between cells, the one that its first line has most of. */
@@ -95,20 +66,21 @@ export class Sheet {
     this.read(text);
   }
 
-  /** @type {(rows: string[][], separator: string) => Sheet} A sheet of rows of cells, those of a workbook or of a table. */
-  static ofRows(rows, separator) {
+  /** @type {(rows: string[][], separator: string, first?: number) => Sheet} A sheet of rows of cells, those of a workbook or of a table. */
+  static ofRows(rows, separator, first = 1) {
     const sheet = new Sheet("");
     sheet.separator = separator;
-    rows.forEach((cells, row) => sheet.add(row + 1, cells.map((cell) => unguarded(stripped(cell)))));
+    rows.forEach((cells, row) => sheet.add(row + first, cells.map((cell) => unguarded(stripped(cell)))));
     return sheet;
   }
 
   /** @type {(text: string) => void} Reads the rows, up to the first fault. */
   read(text) {
-    let line = 1;
-    let at = 0;
+    // A cell: in quotes, of which the last one may be missing, or up to the next separator.
+    const cellAt = new RegExp(`"([^"]*(?:""[^"]*)*)("?)|[^${this.separator}\\r\\n]*`, "y");
+    let [line, at] = [1, 0];
     while (at < text.length && this.fault === null) {
-      const record = recordAt(text, at, this.separator);
+      const record = recordAt(text, at, this.separator, cellAt);
       if (record.fault) this.fault = new RosterFault(record.fault, line);
       else this.add(line, record.cells.map((cell) => unguarded(stripped(cell))));
       const end = text.startsWith("\r\n", record.end) ? record.end + 2 : record.end + 1;
@@ -129,7 +101,7 @@ export class Sheet {
     const { line, cells } = this.rows[0];
     let width = cells.length;
     while (cells[width - 1] === "") width--;
-    if (this.merged.has(line)) throw new RosterFault(said("merged title", quoted(cells[0])), line);
+    if (this.merged.has(line)) refuse(line, 0, "merged title", quoted(cells[0]));
     return { line, cells: cells.slice(0, width) };
   }
 
@@ -138,7 +110,7 @@ export class Sheet {
     for (const { line, cells } of this.records()) {
       if (cells.length < width || cells.slice(width).some((cell) => cell !== "")) {
         const hint = cells.length > width && this.separator === "," ? said("comma in a cell") : "";
-        throw new RosterFault(said("cells", cells.length, width, hint), line);
+        refuse(line, 0, "cells", cells.length, width, hint);
       }
       yield { line, cells: cells.slice(0, width) };
     }
@@ -157,9 +129,9 @@ export class Sheet {
  */
 export function nameOf(cell, line, column) {
   const name = isPrintable(cell) ? cell : onOneLine(cell);
-  if (name === "") throw new RosterFault(said("no name"), line, column);
-  if (isLong(name)) throw new RosterFault(said("long name", MOST_LETTERS), line, column);
-  if (hasControl(name)) throw new RosterFault(said("control", quoted(name)), line, column);
+  if (name === "") refuse(line, column, "no name");
+  if (isLong(name)) refuse(line, column, "long name", MOST_LETTERS);
+  if (hasControl(name)) refuse(line, column, "control", quoted(name));
   return name.normalize("NFC");
 }
 

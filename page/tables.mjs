@@ -6,7 +6,8 @@ import { KINDS } from "./files.mjs";
 const MOST_EDITED = 6000;
 const WORDS = {
   roster: "roster", places: "places: how many persons each takes", tasks: "tasks: how many each person takes",
-  groups: "groups: nobody takes two of one", plan: "earlier plan", rules: "rules (the command's)", unused: "not used",
+  groups: "groups: nobody takes two of one", plan: "earlier plan", calendars: "calendars of an earlier plan",
+  rules: "rules (the command's)", unused: "not used",
 };
 /** @typedef {import("./answers.mjs").Shown} Shown @typedef {{ onKind: (table: Shown, kind: string) => void, onRows: (table: Shown, rows: string[][]) => void, onRemove: (table: Shown) => void }} Works */
 
@@ -32,7 +33,7 @@ function editor(shown, rows, works) {
 }
 
 /** @type {(shown: Shown, isEditable: boolean, works: Works) => HTMLElement} */
-function itemOf(shown, isEditable, works) {
+function entryOf(shown, isEditable, works) {
   const choice = /** @type {HTMLSelectElement} */ (element("select", { "aria-label": `What ${shown.name} is` }, ...KINDS.map((kind) => (
     element("option", kind === shown.kind ? { value: kind, selected: "" } : { value: kind }, WORDS[/** @type {keyof typeof WORDS} */ (kind)])))));
   choice.addEventListener("change", () => works.onKind(shown, choice.value));
@@ -51,7 +52,7 @@ function itemOf(shown, isEditable, works) {
 /** @type {(tables: Shown[], works: Works) => void} Lists the files on the page. */
 export function showTables(tables, works) {
   const whole = (/** @type {Shown} */ shown) => tables.filter(({ place }) => place === shown.place).every(({ rows }) => rows);
-  byId("files", HTMLElement).replaceChildren(...tables.map((shown) => itemOf(shown, whole(shown), works)));
+  byId("files", HTMLElement).replaceChildren(...tables.map((shown) => entryOf(shown, whole(shown), works)));
   byId("read", HTMLElement).hidden = !tables.length;
   byId("rules", HTMLElement).hidden = !tables.some(({ kind }) => kind === "rules");
 }

@@ -1,6 +1,6 @@
 // Counts and groups of a roster: files that say how many each name takes, and of which objects nobody takes two.
 import { spellings } from "./dates.mjs";
-import { RosterFault, said } from "./faults.mjs";
+import { refuse, RosterFault, said } from "./faults.mjs";
 import { MOST_PERSONS } from "./library.mjs";
 import { hintOf } from "./names.mjs";
 import { looksLikeNumber } from "./numbers.mjs";
@@ -8,7 +8,7 @@ import { nameOf } from "./sheet.mjs";
 import { isPrintable, quoted } from "./texts.mjs";
 
 const [DAY, FROM, TO, KIND] = [24 * 60, "from", "to", "kind"];
-export const PRICED = ["wanted", "price"];
+const PRICED = ["wanted", "price"];
 /**
  * @typedef {import("./library.mjs").Bounds} Bounds
  * @typedef {import("./roster.mjs").Roster} Roster
@@ -38,16 +38,16 @@ export function known(roster, cell, line, column, isPerson) {
 /** @type {(cell: string, line: number, column: number) => number} */
 function countIn(cell, line, column) {
   if (/^[0-9]{1,9}$/.test(cell) && Number(cell) <= MOST_PERSONS) return Number(cell);
-  throw new RosterFault(said("no count", quoted(cell), MOST_PERSONS), line, column);
+  refuse(line, column, "no count", quoted(cell), MOST_PERSONS);
 }
 
 /** @type {(cells: string[], limit: number, line: number) => Bounds} At least and at most so many: one number is both, and an empty one of two is 0 or the limit. */
 function boundsIn(cells, limit, line) {
-  if (!cells.some(Boolean)) throw new RosterFault(said("no number"), line, 2);
+  if (!cells.some(Boolean)) refuse(line, 2, "no number");
   const least = cells[0] ? countIn(cells[0], line, 2) : 0;
   if (cells.length === 1) return { least, most: least };
   const most = cells[1] ? countIn(cells[1], line, 3) : Math.max(limit, least);
-  if (least > most) throw new RosterFault(said("least and most", least, most), line, 3);
+  if (least > most) refuse(line, 3, "least and most", least, most);
   return { least, most };
 }
 
@@ -60,19 +60,19 @@ function firstTeam(sheet, width) {
 /** @type {(cells: string[], width: number, first: number, line: number) => string[]} A line's name and its one number or two. */
 function countCells(cells, width, first, line) {
   if (first < width) {
-    if (cells.slice(width).some(Boolean)) throw new RosterFault(said("cells of a title", cells.length, width), line);
+    if (cells.slice(width).some(Boolean)) refuse(line, 0, "cells of a title", cells.length, width);
     return [...cells, ...new Array(width).fill("")].slice(0, first);
   }
-  if (cells.slice(Math.max(width, 3)).some(Boolean)) throw new RosterFault(said("cells of counts", cells.length), line);
+  if (cells.slice(Math.max(width, 3)).some(Boolean)) refuse(line, 0, "cells of counts", cells.length);
   return cells.length > 2 && (width > 2 || cells[2] !== "") ? cells.slice(0, 3) : [...cells, ""].slice(0, 2);
 }
 
 /** @type {(sheet: Sheet, roster: Roster, ofObjects: boolean) => Counts} Reads how many each object, or each person, takes. */
 export function readCounts(sheet, roster, ofObjects) {
   const { line: first, cells: title } = sheet.title();
-  if (title.length < 2) throw new RosterFault(said("name and count"), first);
-  if (looksLikeNumber(title[1])) throw new RosterFault(said("no title", quoted(title[1])), first, 2);
-  if (ofObjects && title.slice(1).some((cell) => PRICED.includes(cell.toLowerCase()))) throw new RosterFault(said("wanted"));
+  if (title.length < 2) refuse(first, 0, "name and count");
+  if (looksLikeNumber(title[1])) refuse(first, 2, "no title", quoted(title[1]));
+  if (ofObjects && title.slice(1).some((cell) => PRICED.includes(cell.toLowerCase()))) refuse(0, 0, "wanted");
   const limit = (ofObjects ? roster.persons : roster.objects).length;
   const team = ofObjects ? title.length : firstTeam(sheet, title.length);
   const kinds = new Set(ofObjects ? roster.groups?.kinds.values() : []);
@@ -85,7 +85,7 @@ export function readCounts(sheet, roster, ofObjects) {
     const cells = countCells(all, title.length, team, line);
     const isKind = kinds.has(cells[0]) && !roster.objectNumbers.has(cells[0]) && !ofKinds.has(cells[0]);
     const number = isKind ? -1 : known(roster, cells[0], line, 1, !ofObjects);
-    if (bounds.has(number)) throw new RosterFault(said("name twice", quoted(cells[0])), line, 1);
+    if (bounds.has(number)) refuse(line, 1, "name twice", quoted(cells[0]));
     const own = boundsIn(cells.slice(1), limit, line);
     if (isKind) ofKinds.set(cells[0], own);
     else bounds.set(number, own);
@@ -98,14 +98,19 @@ export function readCounts(sheet, roster, ofObjects) {
   return { bounds, areRanges, title: title[0] };
 }
 
+/** @type {(title: string[], word: string) => number[]} The columns after the first two that are titled so. */
+function columnsOf(title, word) {
+  return [...title.keys()].filter((place) => place > 1 && title[place].toLowerCase() === word);
+}
+
 /** @type {(title: string[], line: number) => number[]} Which columns have times, none where no title says so. */
 function columnsOfTimes(title, line) {
-  const places = [FROM, TO].map((word) => [...title.keys()].filter((place) => place > 1 && title[place].toLowerCase() === word));
+  const places = [FROM, TO].map((word) => columnsOf(title, word));
   if (!places.flat().length) return [];
   [[FROM, TO], [TO, FROM]].forEach(([word, other], k) => {
     const count = places[k].length;
-    if (count > 1) throw new RosterFault(said("times", count, quoted(word), quoted(other)), line);
-    if (!count) throw new RosterFault(said("one time", quoted(other), quoted(word)), line);
+    if (count > 1) refuse(line, 0, "times", count, quoted(word), quoted(other));
+    if (!count) refuse(line, 0, "one time", quoted(other), quoted(word));
   });
   return places.flat();
 }
@@ -115,17 +120,17 @@ function minutesIn(cell, line, column, most) {
   const found = /^([0-9]{1,2}):([0-9]{2})(?::00)?$/.exec(cell);
   const minutes = found ? Number(found[1]) * 60 + Number(found[2]) : 0;
   if (found && Number(found[2]) < 60 && minutes <= most) return minutes;
-  throw new RosterFault(said("no time", quoted(cell)), line, column);
+  refuse(line, column, "no time", quoted(cell));
 }
 
 /** @type {(sheet: Sheet, roster: Roster) => Groups} Reads groups of objects of which nobody takes two. */
 export function readGroups(sheet, roster) {
   const { line: first, cells: title } = sheet.title();
-  if (title.length < 2) throw new RosterFault(said("object and group"), first);
-  if (roster.objectNumbers.has(title[0])) throw new RosterFault(said("object for a title", quoted(title[0])), first, 1);
+  if (title.length < 2) refuse(first, 0, "object and group");
+  if (roster.objectNumbers.has(title[0])) refuse(first, 1, "object for a title", quoted(title[0]));
   const times = columnsOfTimes(title, first);
-  const kinds = [...title.keys()].filter((place) => place > 1 && title[place].toLowerCase() === KIND);
-  if (kinds.length > 1) throw new RosterFault(said("kinds", kinds.length, quoted(KIND)), first, kinds[1] + 1);
+  const kinds = columnsOf(title, KIND);
+  if (kinds.length > 1) refuse(first, kinds[1] + 1, "kinds", kinds.length, quoted(KIND));
   /** @type {Groups} */
   const groups = { title: title[1] && nameOf(title[1], first, 2), names: [], ofObjects: new Map(), times: new Map(), kinds: new Map(), of: title[0] };
   /** @type {Map<string, number>} */
@@ -139,7 +144,7 @@ export function readGroups(sheet, roster) {
       ? times.map((place, k) => minutesIn(cells[place], line, place + 1, k ? DAY : DAY - 1)) : [];
     const name = nameOf(cells[1], line, 2);
     const before = lines.get(object);
-    if (before) throw new RosterFault(said("object twice", quoted(cells[0]), groups.names[groups.ofObjects.get(object) ?? 0], before), line, 1);
+    if (before) refuse(line, 1, "object twice", quoted(cells[0]), groups.names[groups.ofObjects.get(object) ?? 0], before);
     lines.set(object, line);
     const group = numbers.get(spellings(name)[0]) ?? groups.names.push(name) - 1;
     numbers.set(spellings(name)[0], group);
@@ -147,7 +152,7 @@ export function readGroups(sheet, roster) {
     if (begin !== undefined) groups.times.set(object, { begin, end: end > begin ? end : end + DAY });
     if (kind) groups.kinds.set(object, kind);
   }
-  if (!lines.size) throw new RosterFault(said("no line"), first);
+  if (!lines.size) refuse(first, 0, "no line");
   return groups;
 }
 
@@ -189,8 +194,8 @@ export function forgotten(roster, { bounds }, isObjects, named) {
   const names = isObjects ? roster.objects : roster.persons;
   const numbers = [...names.keys()].filter((number) => !bounds.has(number));
   const bound = !hasBounds(roster) ? "" : isObjects ? "exactly " : "at most ";
-  const takes = numbers.length === 1 ? "takes" : "each takes";
-  return numbers.length ? [`no line for ${named(numbers, roster.titles[isObjects ? 1 : 0], names)}: ${takes} ${bound}one`] : [];
+  const takes = said(numbers.length === 1 ? "takes" : "each takes");
+  return numbers.length ? [said("no count line", named(numbers, roster.titles[Number(isObjects)], names), takes, bound)] : [];
 }
 
 /** @type {(name: string, group: string) => string} A name without its group's at its begin or end. */

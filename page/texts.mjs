@@ -1,4 +1,5 @@
 // Cells and names as texts: white space, what can be printed, and how a message quotes a cell.
+import { said } from "./faults.mjs";
 
 const SPACES = "\\t-\\r\\x1c-\\x20\\x85\\xa0\\u1680\\u2000-\\u200a\\u2028\\u2029\\u202f\\u205f\\u3000";
 const IS_SPACE = new RegExp(`[${SPACES}]`);
@@ -77,4 +78,10 @@ export function quoted(cell) {
 /** @type {(names: string[]) => string} Names in a row, parted by semicolons where one has a comma. */
 export function joined(names) {
   return names.join(names.some((name) => name.includes(",")) ? "; " : ", ");
+}
+
+/** @type {(names: string[], most: number) => string} The first names of many in a row. */
+export function firstOf(names, most) {
+  const first = joined(names.slice(0, most));
+  return names.length > most ? said("and more", first, names.length - most) : first;
 }

@@ -1,5 +1,5 @@
 // Workbooks: the sheets of an .xlsx, whose parts the browser unpacks, as rows of cells, each as a spreadsheet shows it.
-import { RosterFault, said } from "./faults.mjs";
+import { refuse, said } from "./faults.mjs";
 
 const [END_OF_ZIP, ENTRY] = [0x06054b50, 0x02014b50];
 // What a workbook's parts may come to when they are unpacked, and its cells.
@@ -15,13 +15,13 @@ function partsIn(bytes) {
   const view = new DataView(bytes.buffer, bytes.byteOffset, bytes.byteLength);
   let end = bytes.length - 22;
   while (end >= 0 && view.getUint32(end, true) !== END_OF_ZIP) end--;
-  if (end < 0) throw new RosterFault(said("no workbook", "it is no zip archive"));
+  if (end < 0) refuse(0, 0, "no workbook", said("no zip"));
   const parts = new Map();
   for (let at = view.getUint32(end + 16, true); at + 46 <= bytes.length && view.getUint32(at, true) === ENTRY;) {
     const [size, name, extra, comment] = [view.getUint32(at + 20, true), ...[28, 30, 32].map((place) => view.getUint16(at + place, true))];
     const [method, length, begin] = [view.getUint16(at + 10, true), view.getUint32(at + 24, true), view.getUint32(at + 42, true)];
     const own = new TextDecoder().decode(bytes.subarray(at + 46, at + 46 + name));
-    if (length > LEAST_BYTES + MOST_TIMES * bytes.length) throw new RosterFault(said("great part", own, length));
+    if (length > LEAST_BYTES + MOST_TIMES * bytes.length) refuse(0, 0, "great part", own, length);
     parts.set(own, () => {
       const from = begin + 30 + view.getUint16(begin + 26, true) + view.getUint16(begin + 28, true);
       return unpacked(bytes.subarray(from, from + size), method, own);
@@ -37,7 +37,7 @@ async function unpacked(bytes, method, name) {
     const stream = new Blob([bytes]).stream();
     return await new Response(method ? stream.pipeThrough(new /** @type {any} */ (globalThis).DecompressionStream("deflate-raw")) : stream).text();
   } catch (fault) {
-    throw new RosterFault(said("no workbook", `its part '${name}' can't be unpacked`));
+    refuse(0, 0, "no workbook", `its part '${name}' can't be unpacked`);
   }
 }
 
@@ -83,7 +83,7 @@ function dateText(number, first) {
 /** @type {(name: string) => number[]} Row and column of a cell such as B12, from 0. */
 function coordinates(name) {
   const found = /^\$?([A-Z]{1,3})\$?([0-9]{1,7})$/.exec(name);
-  if (!found) throw new RosterFault(said("no workbook", `'${name.slice(0, 40)}' is no cell`));
+  if (!found) refuse(0, 0, "no workbook", `'${name.slice(0, 40)}' is no cell`);
   return [Number(found[2]) - 1, [...found[1]].reduce((sum, letter) => sum * 26 + letter.charCodeAt(0) - 64, 0) - 1];
 }
 
@@ -92,7 +92,7 @@ function coordinates(name) {
 /** @type {(tag: string, inner: string, book: Book, row: number, column: number) => string} A cell as a text. */
 function cellText(tag, inner, { texts, areDates, first, isStale, comma }, row, column) {
   const [kind, [value]] = [attribute(tag, "t"), elements(inner, "v").map((own) => decodedXml(own.inner))];
-  if (/<(?:\w+:)?f[\s>/]/.test(inner) && (isStale || !value && kind !== "str")) throw new RosterFault(said("formula"), row + 1, column + 1);
+  if (/<(?:\w+:)?f[\s>/]/.test(inner) && (isStale || !value && kind !== "str")) refuse(row + 1, column + 1, "formula");
   if (kind === "inlineStr") return textIn(inner);
   if (!value) return "";
   if (kind === "s") return texts[Number(value)] ?? "";
@@ -119,7 +119,7 @@ function gridOf(name, xml, book) {
     const text = cellText(tag || "", inner, book, row, column);
     if (!text) continue;
     count += Math.max(0, row + 1 - rows.length) + column;
-    if (count > 2 * MOST_UNPACKED) throw new RosterFault(said("many cells", MOST_UNPACKED), row + 1);
+    if (count > 2 * MOST_UNPACKED) refuse(row + 1, 0, "many cells", MOST_UNPACKED);
     while (rows.length <= row) rows.push([]);
     while (rows[row].length < column) rows[row].push("");
     rows[row][column] = text;
@@ -142,6 +142,12 @@ function withMerged({ name, rows, merged }, xml) {
   return { name, rows: rows.map((cells) => cells.length ? Array.from({ length: Math.max(first, cells.length) }, (_, k) => cells[k] || "") : []), merged };
 }
 
+/** @type {(bytes: Uint8Array) => Promise<string[][] | null>} The calendars of a zip archive, each as its name and its text; null where it has none. */
+export async function calendarsIn(bytes) {
+  const parts = [...partsIn(bytes)].filter(([name]) => /\.ics$/i.test(name));
+  return parts.length ? Promise.all(parts.map(async ([name, unpack]) => [name.replace(/.*\//, ""), await unpack()])) : null;
+}
+
 /** @type {(bytes: Uint8Array, comma: boolean) => Promise<Grid[]>} The sheets of a workbook. */
 export async function gridsOf(bytes, comma) {
   const parts = partsIn(bytes);
@@ -161,6 +167,6 @@ export async function gridsOf(bytes, comma) {
     const link = links.get(attribute(tag, "id"));
     if (link?.kind === "worksheet") grids.push(gridOf(attribute(tag, "name"), await part(link.path), { texts, areDates, first, isStale, comma }));
   }
-  if (!grids.length) throw new RosterFault("a workbook without a sheet of cells");
+  if (!grids.length) refuse(0, 0, "no sheet");
   return grids;
 }

@@ -107,28 +107,42 @@ async function saved(id, name) {
   return file;
 }
 
+// The command's calendars of a plan, in place of those that are there.
+function command(tasks, plan, ...words) {
+  const given = (name) => path.join(folder, name);
+  execFileSync("python3", ["-m", "nushbaret", given("month_roster.csv"), "--places", given("month_places.csv"), "--tasks", given(`${tasks}.csv`),
+    "--groups", given("month_groups.csv"), "--keep", given(plan), "--each", given("each"), "--force", ...words], { stdio: "ignore" });
+}
+
+async function sameCalendars(...words) {
+  const [each, unzipped] = ["each", "unzipped"].map((name) => path.join(folder, name));
+  for (const name of ["month_roster-plan.csv", "month_roster-calendars.zip", "unzipped"]) fs.rmSync(path.join(folder, name), { recursive: true, force: true });
+  await saved("save", "month_roster-plan.csv");
+  const zip = await saved("calendars", "month_roster-calendars.zip");
+  command(words[0], "month_roster-plan.csv", ...words.slice(1));
+  execFileSync("python3", ["-c", "import sys, zipfile\nzipfile.ZipFile(sys.argv[1]).extractall(sys.argv[2])", zip, unzipped]);
+  const texts = fs.readdirSync(unzipped).map((name) => [path.join(unzipped, name), path.join(each, name)].map((file) => fs.readFileSync(file, "utf8")));
+  assert.strictEqual(texts.length, 28);
+  texts.forEach(([own, wanted]) => assert.strictEqual(own, wanted));
+  return texts.map(([own]) => own);
+}
+
 async function tryMonthFiles() {
   const wanted = monthFiles(folder);
   await tryMonth(browser, folder, wanted);
   await press("clear");
   await browser.answered(() => browser.giveFiles(["roster", "places", "tasks", "groups"].map((name) => path.join(folder, `month_${name}.csv`))));
-  const plan = await saved("save", "month_roster-plan.csv");
-  const zip = await saved("calendars", "month_roster-calendars.zip");
   const wall = fs.readFileSync(await saved("wall", "month_roster-wall.html"), "utf8");
   assert(wall.includes("Nurse 28") && !wall.includes("<script") && !wall.includes("<button"));
-  const given = (name) => path.join(folder, `month_${name}.csv`);
-  const each = path.join(folder, "each");
-  execFileSync("python3", ["-m", "nushbaret", given("roster"), "--places", given("places"), "--tasks", given("tasks"), "--groups", given("groups"),
-    "--keep", plan, "--each", each], { stdio: "ignore" });
-  const unzip = "import sys, zipfile\nzipfile.ZipFile(sys.argv[1]).extractall(sys.argv[2])";
-  execFileSync("python3", ["-c", unzip, zip, path.join(folder, "unzipped")]);
-  const calendars = fs.readdirSync(path.join(folder, "unzipped"));
-  assert.strictEqual(calendars.length, 28);
-  calendars.forEach((name) => assert.deepStrictEqual(fs.readFileSync(path.join(folder, "unzipped", name)), fs.readFileSync(path.join(each, name)), name));
+  await sameCalendars("month_tasks");
   await browser.answered(() => browser.giveFile(path.join(examples, "month_rules.csv")));
   assert.strictEqual(await browser.value("document.getElementById('rules').hidden"), false);
   await browser.answered(() => browser.value("[...document.querySelectorAll('#files button')].at(-1).click()"));
   await trySick(browser, folder, wanted);
+  fs.rmSync(path.join(folder, "each"), { recursive: true });
+  command("month_tasks", "command_plan.csv");
+  const texts = await sameCalendars("sick_tasks", "--past", "2027-03-12");
+  assert(texts.some((text) => text.includes("STATUS:CANCELLED\r\nSEQUENCE:1\r\n")));
   await tryMarks(browser);
   await tryShort(browser);
 }

@@ -157,13 +157,18 @@ function tryRefusals(library) {
 }
 
 const [page, howMany, tried] = process.argv.slice(2);
-const library = await Library.load(moduleOf(page));
+const library = await Library.load(new WebAssembly.Module(moduleOf(page)));
 tryFaults(library);
 const codes = Array.from({ length: Number(howMany) }, () => tryOne(library));
 const halls = codes.filter((code) => code !== "BEST").length;
-console.log(`page: version ${library.version()}, ${codes.length} problems as a plain search says, ${halls} of them without a plan`);
+const version = library.within((take) => {
+  const room = take(new Uint8Array(32));
+  const length = library.calls.nushbaret_version(room.address, room.count);
+  return String.fromCharCode(...library.bytes({ ...room, count: BigInt(length) }));
+});
+console.log(`page: version ${version}, ${codes.length} problems as a plain search says, ${halls} of them without a plan`);
 if (tried) {
-  const other = await Library.load(fs.readFileSync(tried));
+  const other = await Library.load(new WebAssembly.Module(fs.readFileSync(tried)));
   tryHeap(other, HEAP_STEPS);
   console.log(`page: ${HEAP_STEPS} steps of the heap, and ${tryRefusals(other)} growths refused`);
 }

@@ -140,7 +140,11 @@ def drawn_ward(random_: random.Random) -> Dict[str, Any]:
         case["plan"] = _csv([["nurse", "shift", "dislike"], *taken])
         if "groups" in case and random_.random() < 0.6:
             case["past"] = random_.choice(days)
-    return _with_odd_file(random_, case) if random_.random() < 0.25 else case
+    if random_.random() < 0.25:
+        return _with_odd_file(random_, case)
+    if "plan" in case and random_.random() < 0.5:
+        case["plan"] = json.dumps({"pairs": [dict(zip(("person", "object", "cost"), row)) for row in taken]})
+    return case
 
 
 def _csv(rows: List[List[str]]) -> str:
@@ -201,6 +205,8 @@ def plan_of_ward(folder: str, case: Dict[str, Any]) -> Dict[str, Any]:
     """What the command says of a roster with counts and groups, of its plan, and of what changes from an earlier
     one."""
     paths = {name: os.path.join(folder, f"{name}.csv") for name in ("roster", *FILES)}
+    if case.get("plan", "").startswith("{"):
+        paths["plan"] = os.path.join(folder, "plan.json")
     for name in ("roster", *FILES):
         text = case["text"] if name == "roster" else case.get(name)
         if text is not None:

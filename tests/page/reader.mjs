@@ -9,13 +9,13 @@ const { readTables } = await import("../../page/answers.mjs");
 const { changesOf } = await import("../../page/earlier.mjs");
 const { RosterFault } = await import("../../page/faults.mjs");
 const { tablesOf } = await import("../../page/files.mjs");
-const { Library, MOST_PERSONS } = await import("../../page/library.mjs");
+const { Library } = await import("../../page/library.mjs");
 const { answerOf, firstLines, leftOut, rowsOf } = await import("../../page/plan.mjs");
 const { csvOf, Sheet } = await import("../../page/sheet.mjs");
 const { guarded } = await import("../../page/texts.mjs");
 
 const { rosters, wards, workbook } = JSON.parse(fs.readFileSync(process.argv[2], "utf8"));
-const library = await Library.load(moduleOf(process.argv[3]));
+const library = await Library.load(new WebAssembly.Module(moduleOf(process.argv[3])));
 const FIELDS = ["titles", "persons", "objects", "ofPersons", "ofObjects", "costs", "decimals", "separator", "comma", "isMatrix"];
 
 function said(roster, max) {
@@ -31,14 +31,14 @@ async function faultOr(work) {
     return await work();
   } catch (fault) {
     if (!(fault instanceof RosterFault)) throw fault;
-    return { text: fault.text, file: fault.file, line: fault.line, column: fault.column };
+    return { text: fault.text, file: fault.file.replace(/\.json$/, ""), line: fault.line, column: fault.column };
   }
 }
 
 async function read({ bytes, form, comma, max }) {
   const source = new Uint8Array(Buffer.from(bytes, "base64")).buffer;
   const tables = await tablesOf([{ name: "", kind: "roster", source }], comma);
-  const { roster } = readTables(tables, { form, comma, past: "" }, MOST_PERSONS);
+  const { roster } = readTables(tables, { form, comma, past: "" });
   const { titles, persons, objects } = roster;
   // What the page writes it reads again as it was.
   const rows = [titles, ...persons.map((person) => [person, objects[0], "1"])];
@@ -49,8 +49,9 @@ async function read({ bytes, form, comma, max }) {
 
 async function planned(ward) {
   const given = [["roster", ward.text], ...["places", "tasks", "groups", "plan"].map((kind) => [kind, ward[kind]])];
-  const files = given.filter(([, source]) => source !== undefined).map(([kind, source]) => ({ name: kind, kind, source }));
-  const { roster, kept, fixed } = readTables(await tablesOf(files, false), { form: "", comma: false, past: ward.past || "" }, MOST_PERSONS);
+  const files = given.filter(([, source]) => source !== undefined).map(([kind, source]) => (
+    source.startsWith("{") ? { name: `${kind}.json`, kind: "", source: new TextEncoder().encode(source).buffer } : { name: kind, kind, source }));
+  const { roster, kept, fixed } = readTables(await tablesOf(files, false), { form: "", comma: false, past: ward.past || "" });
   const answer = answerOf(roster, { max: ward.max || false, fullest: ward.fullest || false, fixed, kept }, library);
   const found = { said: firstLines(roster, ward.max, answer) };
   if (!answer.plan) return found;
@@ -79,7 +80,7 @@ for (const ward of wards) {
 console.log(`page: ${wards.length} wards planned as the command plans them, ${refused} refused, ${without} with shortages, ${kept} from an earlier plan`);
 if (workbook) {
   const source = new Uint8Array(Buffer.from(workbook.bytes, "base64")).buffer;
-  const { roster } = readTables(await tablesOf([{ name: "book.xlsx", kind: "", source }], false), { form: "", comma: false, past: "" }, MOST_PERSONS);
+  const { roster } = readTables(await tablesOf([{ name: "book.xlsx", kind: "", source }], false), { form: "", comma: false, past: "" });
   const { persons, objects, costs, decimals, takes } = roster;
   assert.deepStrictEqual({ persons, objects, costs, decimals, tasks: [...takes.persons.values()].map(({ least, most }) => [least, most]) }, workbook.wanted);
   console.log("page: a workbook read as the command reads it");

@@ -116,7 +116,6 @@ class Channel(process.Channel):
 
     def say(self, **told):
         self.told.append(told)
-        self.is_hopeless = self.is_hopeless or "hopeless" in told
 
 
 def found_here(model, seconds=600, sums=()):

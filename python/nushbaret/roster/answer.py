@@ -3,17 +3,18 @@ and what changes from an earlier plan: who loses which pairs, and who gets which
 from array import array
 from collections import Counter
 from itertools import compress, islice
-from typing import Callable, Dict, Iterable, List, Mapping, NamedTuple, Optional, Sequence, Set, Tuple
+from typing import Callable, Dict, Iterable, List, Mapping, NamedTuple, Optional, Sequence, Set, Tuple, Union
 
 from ..costs.limits import Numbers
 from ..counts.counted import Bounds
+from ..counts.lack import Lack
 from ..lap.duals import duals_of_whole
 from ..lap.matching import short_groups
 from ..lap.proved import rents
 from ..lap.ranking import plans_in_order
 from ..lap.solving import BestPlan, best_plan
 from .groups import Paired, missing_of, order_of
-from .names import SHARED, NamesShown, joined, numbered
+from .names import SHARED, NamesShown, joined, numbered, said
 from .roster import OldPlan, PlanLine, Roster
 from .single_nodes import (Edges, RosterNodes, Swap, changed, face_of, fewest_changes, is_only_one, least_costs,
     nodes_without, problem_of, swaps_of)
@@ -243,40 +244,21 @@ def sentence(roster: Roster, short: ShortGroup, some_fixed: bool) -> str:
     if short.text:
         return short.text
     shown = NamesShown(len(short.persons), len(short.objects))
-    persons, objects = numbered(roster.persons, short.persons), numbered(roster.objects, short.objects)
-    person, object_ = roster.titles[0], roster.titles[1]
-    if short.of_objects:
-        many = counted(len(objects), object_) + shown.bracketed(1, objects)
-        said = f"{many} can go to {_only(persons, person, shown, 0)}: {_advice_on_objects(short)}"
+    sides = numbered(roster.persons, short.persons), numbered(roster.objects, short.objects)
+    own, other, side = (1, 0, "objects") if short.of_objects else (0, 1, "persons")
+    many, rest = ((counted(len(sides[k]), roster.titles[k]), shown.bracketed(k, sides[k])) for k in (own, other))
+    if sides[other]:
+        only, advice = said("only", *rest), said(f"some {side}", few(short), few(short))
     else:
-        many = counted(len(persons), person) + shown.bracketed(0, persons)
-        said = f"{many} can take {_only(objects, object_, shown, 1)}: {_advice_on_persons(person, short)}"
-    return "around the fixed pairs, " + said if some_fixed else said
+        only = said("no one", roster.titles[other])
+        advice = said(f"one of {side}" if len(sides[own]) == 1 else f"all {side}", roster.titles[own])
+    text = said(f"short {side}", "".join(many), only, advice)
+    return said("around", said("the fixed pairs")) + text if some_fixed else text
 
 
-def _only(names: List[str], word: str, shown: NamesShown, side: int) -> str:
-    return f"only {counted(len(names), word)} between them{shown.bracketed(side, names)}" if names else f"no {word}"
-
-
-def _few(short: ShortGroup) -> str:
-    lack = short.wanted - short.had
-    return "one" if lack == 1 else str(lack)
-
-
-def _advice_on_persons(word: str, short: ShortGroup) -> str:
-    if short.objects:
-        return f"allow {_few(short)} of them another, or leave {_few(short)} out"
-    if len(short.persons) == 1:
-        return f"allow one, or leave this {word} out"
-    return "allow each one, or leave them out"
-
-
-def _advice_on_objects(short: ShortGroup) -> str:
-    if short.persons:
-        return f"allow {_few(short)} of them to another, or leave {_few(short)} open"
-    if len(short.objects) == 1:
-        return "allow it to somebody, or leave it open"
-    return "allow each to somebody, or leave them open"
+def few(lack: Union[ShortGroup, Lack]) -> str:
+    """How many are short."""
+    return said("one") if lack.wanted - lack.had == 1 else str(lack.wanted - lack.had)
 
 
 Solve = Callable[[Roster, Request], Answer]

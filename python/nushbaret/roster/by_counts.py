@@ -7,6 +7,7 @@ from ..counts.lack import Lack
 from ..counts.planned import planned, with_fewest_changes
 from ..counts.counted import Bounds, Counted
 from .answer import Answer, Request, ShortGroup, plan_of, with_following
+from .names import said
 from .roster import PlanLine, Roster
 from .sentences import sentence_of
 from .single_nodes import Swap
@@ -76,8 +77,8 @@ def bounds_around(roster: Roster, fixed: Sequence[PlanLine]) -> Tuple[List[Bound
 def _around(roster: Roster, fixed: Sequence[PlanLine]) -> str:
     """What stands, and is planned around, in words."""
     is_past = {pair.object in roster.past for pair in fixed}
-    names = ["the past"] * (True in is_past) + ["the fixed pairs"] * (False in is_past)
-    return f"around {' and '.join(names)}, " if names else ""
+    names = [said("the past")] * (True in is_past) + [said("the fixed pairs")] * (False in is_past)
+    return said("around", said("and").join(names)) if names else ""
 
 
 def _short(roster: Roster, counted: Counted, lack: Lack, around: str) -> ShortGroup:

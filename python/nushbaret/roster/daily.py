@@ -78,7 +78,7 @@ def read_daily_lines(sheet: Sheet, costs: CostColumn) -> Daily:
         object_ = objects.number(cells[day], cells[3 - day], line, (day + 1, 4 - day))
         first = before.setdefault((person, object_), line)
         if first != line:
-            sheet.refuse(said("pair twice", cells[0], objects.names.list[object_], first), line)
+            sheet.refuse(said("pair twice", f"{cells[0]}, {objects.names.list[object_]}", "line", first), line)
         costs.take(cells[3], line, 4)
         of_persons.append(person)
         of_objects.append(object_)

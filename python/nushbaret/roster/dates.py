@@ -101,13 +101,13 @@ def dates_of(names: Sequence[str]) -> Dates:
     for name in names:
         found = _written(name)
         if found is None:
-            return Dates(None, f"{name} is no date", name)
+            return Dates(None, said("no date", name), name)
         written.append(found)
     wrong = [own.name for own in written if own.year is not None and _dated(own) is None]
     if wrong:
-        return Dates(None, f"{wrong[0]} is no day of the calendar", wrong[0])
+        return Dates(None, said("no day", wrong[0]), wrong[0])
     if all(own.year is None for own in written):
-        return Dates(None, f"no date has a year: {names[0]}" if names else "there are none")
+        return Dates(None, said("no year", names[0]) if names else said("there are none"))
     return _all_dated(written, sorted(found for found in map(_dated, written) if found is not None))
 
 
@@ -116,9 +116,9 @@ def _all_dated(written: Sequence[_Written], anchors: Sequence[date]) -> Dates:
     for own in written:
         found = _dated(own) if own.year is not None else _nearest(own, anchors)
         if found is None:
-            return Dates(None, f"{own.name} is no day of the calendar", own.name)
+            return Dates(None, said("no day", own.name), own.name)
         if own.weekdays and found.weekday() not in own.weekdays:
-            return Dates(None, f"{own.name} is a {DAY_NAMES[found.weekday()]}", own.name)
+            return Dates(None, said("other weekday", own.name, DAY_NAMES[found.weekday()]), own.name)
         dates.append(found)
     return Dates(dates)
 

@@ -5,7 +5,7 @@ from typing import NamedTuple, NoReturn, Optional
 
 from .names import SHARED, said
 
-SAVE = "save the sheet as 'CSV UTF-8'"
+SAVE = said("save")
 WESTERN = "Windows-1252"
 # Four bytes go first: the shorter marks begin as they do.
 BOMS = ((b"\xff\xfe\x00\x00", "utf-32"), (b"\x00\x00\xfe\xff", "utf-32"), (b"\xef\xbb\xbf", "utf-8-sig"),
@@ -81,10 +81,10 @@ def _strictly(data: bytes, encoding: str) -> str:
         return data.decode(encoding)
     except UnicodeDecodeError as error:
         name = encoding.replace("-sig", "").upper() if encoding.startswith("utf") else encoding
-        raise Undecodable(f"bytes that are no {name}: {SAVE}, or name its encoding by --encoding",
+        raise Undecodable(f"{said('no encoding', name)}: {SAVE}, or name its encoding by --encoding",
                           error.start) from error
     except UnicodeError as error:
-        raise Undecodable(f"bytes that are no {encoding}: {SAVE}, or name its encoding by --encoding") from error
+        raise Undecodable(f"{said('no encoding', encoding)}: {SAVE}, or name its encoding by --encoding") from error
 
 
 def _western(data: bytes) -> str:

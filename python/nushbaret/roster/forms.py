@@ -164,7 +164,7 @@ class Lines:
         for pair, (line, cells) in zip(self._pairs, self._sheet.body(3)):
             before = lines.setdefault(pair, line)
             if before != line:
-                self._sheet.refuse(said("pair twice", cells[0], cells[1], before), line)
+                self._sheet.refuse(said("pair twice", f"{cells[0]}, {cells[1]}", "line", before), line)
 
 
 def _read_matrix(sheet: Sheet, costs: CostColumn) -> Read:

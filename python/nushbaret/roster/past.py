@@ -128,9 +128,9 @@ def _cost_in_file(path: str, roster: Roster, pair: NamedPair, rounds: Optional[i
 def _first_line(roster: Roster, groups: Groups, kept: OldPlan, name: str, earlier: List[int], count: int) -> str:
     """How much stays."""
     if not earlier:
-        return f"{shown_path(kept.path)}: no {groups.title} is before {name}"
-    which = f"{counted(len(earlier), groups.title)} before {name} ({listed(groups.names, earlier)})"
-    return f"{shown_path(kept.path)}: {counted(count, 'pair')} of {which} {'stays' if count == 1 else 'stay'}"
+        return f"{shown_path(kept.path)}: {said('none before', groups.title, name)}"
+    which = said("before", counted(len(earlier), groups.title), name, listed(groups.names, earlier))
+    return f"{shown_path(kept.path)}: {said('stays' if count == 1 else 'stay', counted(count, 'pair'), which)}"
 
 
 def _forbidden_lines(roster: Roster, kept: OldPlan, added: Sequence[Triple]) -> List[str]:
@@ -139,13 +139,14 @@ def _forbidden_lines(roster: Roster, kept: OldPlan, added: Sequence[Triple]) -> 
     for person, object_, cost in added:
         own.setdefault(person, []).append(f"{roster.objects[object_]}, {roster.shown(cost)}")
     begin = shown_path(kept.path)
-    return [f"{begin}: {roster.persons[person]} keeps what the roster doesn't allow now: {'; '.join(pairs)}"
+    return [f"{begin}: {said('kept though forbidden', roster.persons[person], '; '.join(pairs))}"
             for person, pairs in own.items()]
 
 
 def _most_line(roster: Roster, kept: OldPlan, person: int, had: int) -> str:
-    return (f"{shown_path(kept.path)}: {roster.persons[person]} has {counted(had, roster.titles[1])} in the past, more "
-            f"than the most of {roster.tasks_of(person)}: {had} is the most")
+    text = said("past beyond most", roster.persons[person], counted(had, roster.titles[1]), roster.tasks_of(person),
+                had)
+    return f"{shown_path(kept.path)}: {text}"
 
 
 def with_fixed(roster: Roster, past: Past, fixed: Sequence[PlanLine], path: str) -> List[PlanLine]:

@@ -4,17 +4,16 @@ import math
 from collections import Counter
 from typing import Any, Dict, List, NamedTuple, NoReturn, Tuple
 
-from .names import NoName, as_name, quoted
+from .names import NoName, as_name, quoted, said
 from .sheets import MOST_BYTES, RosterFault, content_of
 
 # Of plans in JSON; those before are read too.
 FORMAT = 4
 # More digits make no cost.
 MOST_DIGITS = 1000
-# How messages call what JSON has.
+# How messages call what JSON has, by the names of texts.
 KINDS: Tuple[Tuple[Tuple[type, ...], str], ...] = (
-    ((bool,), "true or false"), ((str,), "a text"), ((int, float), "a number"), ((list,), "a list"),
-    ((dict,), "an object"))
+    ((bool,), "boolean"), ((str,), "string"), ((int, float), "number"), ((list,), "array"), ((dict,), "object"))
 
 
 class NamedPair(NamedTuple):
@@ -40,22 +39,22 @@ def plan_of_json(path: str) -> List[NamedPair]:
     plan = _parsed(path)
     if not isinstance(plan, dict) or not isinstance(plan.get("pairs"), list):
         is_there = isinstance(plan, dict) and "pairs" in plan
-        found = f"its 'pairs' are {_kind(plan['pairs'])}" if is_there else (
-            "it has no 'pairs'" if isinstance(plan, dict) else f"it is {_kind(plan)}")
-        raise RosterFault(path, f"no plan: {found}, where an object with a list of 'pairs' is needed")
+        found = said("its pairs", _kind(plan["pairs"])) if is_there else (
+            said("it has no", "'pairs'") if isinstance(plan, dict) else said("it is", _kind(plan)))
+        raise RosterFault(path, said("no plan", found))
     form = plan.get("format", FORMAT)
     if isinstance(form, bool) or not isinstance(form, int) or not 1 <= form <= FORMAT:
-        raise RosterFault(path, f"{_shown(form)} is the format of this plan in JSON, where 1 to {FORMAT} can be read")
+        raise RosterFault(path, said("format", _shown(form), FORMAT))
     return [_pair(path, pair, number) for number, pair in enumerate(plan["pairs"], 1)]
 
 
 def _pair(path: str, pair: Any, number: int) -> NamedPair:
     """A pair, by its number from 1."""
     if not isinstance(pair, dict):
-        raise RosterFault(path, f"{_kind(pair)}, where an object with a person and an object is needed", number)
+        raise RosterFault(path, said("no pair", _kind(pair)), number)
     cost = pair.get("cost", "")
     if isinstance(cost, (bool, list, dict)):
-        raise RosterFault(path, f"its cost is {_kind(cost)}, where a number is needed", number)
+        raise RosterFault(path, said("odd cost", _kind(cost)), number)
     person, object_ = (_name(path, pair, key, number) for key in ("person", "object"))
     return NamedPair(person, object_, number, "" if cost is None else str(cost))
 
@@ -64,19 +63,19 @@ def _name(path: str, pair: Dict[str, Any], key: str, number: int) -> str:
     """The name of a pair's person or object."""
     name = pair.get(key)
     if not isinstance(name, str):
-        found = f"its {key} is {_kind(name)}" if key in pair else f"it has no {key}"
-        raise RosterFault(path, f"a person and an object are needed, each a text: {found}", number)
+        found = said("its name", key, _kind(name)) if key in pair else said("it has no", key)
+        raise RosterFault(path, said("two texts", found), number)
     try:
         return as_name(name.strip())
     except NoName as fault:
-        raise RosterFault(path, f"{fault}, its {key}", number) from None
+        raise RosterFault(path, said("odd name", fault, key), number) from None
 
 
 def _parsed(path: str) -> Any:
     """What a file has in JSON."""
     data = content_of(path)
     if len(data) > MOST_BYTES:
-        raise RosterFault(path, f"longer than {MOST_BYTES} bytes")
+        raise RosterFault(path, said("long file", MOST_BYTES))
     try:
         text = data.decode("utf-8-sig")
     except UnicodeDecodeError as fault:
@@ -86,10 +85,10 @@ def _parsed(path: str) -> Any:
                           parse_float=_fraction)
     except json.JSONDecodeError as fault:
         what = "it is empty" if not text.strip() else "it ends too early" if fault.pos >= len(
-            text.rstrip()) else "it isn't written as JSON is"
-        raise RosterFault(path, f"no JSON: {what}, in line {fault.lineno}, column {fault.colno}") from None
+            text.rstrip()) else said("JSON is otherwise")
+        raise RosterFault(path, said("no JSON", f"{what}, in line {fault.lineno}, column {fault.colno}")) from None
     except _NoJson as fault:
-        raise RosterFault(path, f"no JSON: {fault}") from None
+        raise RosterFault(path, said("no JSON", fault)) from None
     except RecursionError:
         raise RosterFault(path, "no plan: lists and objects in one another, too deep") from None
 
@@ -125,7 +124,7 @@ def _fraction(word: str) -> float:
 
 def _kind(value: Any) -> str:
     """What a value is."""
-    return next((name for kind, name in KINDS if isinstance(value, kind)), "null")
+    return next((said(name) for kind, name in KINDS if isinstance(value, kind)), "null")
 
 
 def _shown(value: Any) -> str:

@@ -97,7 +97,7 @@ def _what_is_wrong(held: io.BytesIO, fault: Optional[BaseException]) -> str:
     except RuntimeError:
         return "it is encrypted"
     except Exception:
-        return f"its part {quoted(part)} can't be unpacked" if part else "it is no zip archive"
+        return f"its part {quoted(part)} can't be unpacked" if part else said("no zip")
     trace = fault.__traceback__ if fault else None
     found = "parts"
     while trace is not None:
@@ -112,7 +112,7 @@ def _taken(book: Any, archive: zipfile.ZipFile, comma: bool, wanted: Optional[st
     if is_needed and wanted not in names:
         raise WorkbookFault(f"no sheet {quoted(wanted or '')}: it has {listed_sheets(names)}")
     if not names:
-        raise WorkbookFault("a workbook without a sheet of cells")
+        raise WorkbookFault(said("no sheet"))
     place = names.index(wanted) if wanted in names else 0
     sheet = book.worksheets[place]
     scan = _scan(archive, names[place], sheet)

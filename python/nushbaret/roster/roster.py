@@ -52,8 +52,7 @@ class Names:
         number = self.number(cell, line, column)
         if number < before:
             hint = "--tasks" if self._kind == "persons" else "--places"
-            self._sheet.refuse(f"the name {quoted(cell)} a second time (list it once; {hint} says how many it takes)",
-                               line, column)
+            self._sheet.refuse(said("name once", quoted(cell), hint), line, column)
         return number
 
     def known(self, cells: Sequence[str]) -> Optional[List[int]]:
@@ -70,7 +69,7 @@ class Names:
 
     def _add(self, name: str, line: int, column: int) -> int:
         if len(self.list) == MOST_PERSONS:
-            self._sheet.refuse(f"more than {MOST_PERSONS} {self._kind}", line, column)
+            self._sheet.refuse(said("more names", MOST_PERSONS, self._kind), line, column)
         self.list.append(name)
         for spelling in spellings(name):
             self.numbers[spelling] = len(self.list) - 1
@@ -409,5 +408,5 @@ def _refuse_twice(path: str, roster: Roster, numbered: List[Tuple[int, int, int]
     for person, object_, line in numbered:
         first = pairs.setdefault((person, object_), line)
         if first != line:
-            named = f"the pair {roster.persons[person]}, {roster.objects[object_]}"
-            raise RosterFault(path, f"{named} a second time, after {item_of(path)} {first}", line)
+            pair = f"{roster.persons[person]}, {roster.objects[object_]}"
+            raise RosterFault(path, said("pair twice", pair, item_of(path), first), line)

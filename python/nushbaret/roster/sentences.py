@@ -5,8 +5,8 @@ from typing import Dict, Iterator, List, Sequence, Tuple
 
 from ..counts.lack import Lack
 from ..counts.counted import Bounds, Counted
-from .answer import counted
-from .names import MOST_NAMES, NamesShown, joined, marked, numbered, with_counts
+from .answer import counted, few
+from .names import MOST_NAMES, NamesShown, joined, marked, numbered, said, with_counts
 from .roster import Roster
 
 # So many objects are listed even where they are all of their groups.
@@ -24,15 +24,14 @@ def _of_objects(roster: Roster, problem: Counted, lack: Lack) -> str:
     n_persons = len(lack.rows) + len(of_once)
     is_whole = _are_whole_groups(problem, lack.columns)
     shown = NamesShown(n_persons, 0 if is_whole else len(lack.columns))
-    places = (f"{lack.wanted} place{'' if lack.wanted == 1 else 's'} that must be filled at "
-              f"{_objects(roster, problem, lack.columns, shown)}")
-    fewer = f"or fill {_few(lack)} fewer" if lack.had else "or fill none there"
+    objects = _objects(roster, problem, lack.columns, shown)
+    places = said("place" if lack.wanted == 1 else "places", lack.wanted, objects)
+    fewer = said("fill fewer", few(lack)) if lack.had else said("fill none")
     if not n_persons:
-        return f"nobody can take the {places}: allow somebody, {fewer}"
+        return said("nobody", places, fewer)
     reasons = [*_most(roster.persons, problem.row_bounds, lack.rows, shown, 0),
                *_once(roster, problem, lack, of_once, shown)]
-    who = counted(n_persons, roster.titles[0])
-    return f"{who} can take at most {lack.had} of the {places}: {'; '.join(reasons)}: allow others there, {fewer}"
+    return said("take too few", counted(n_persons, roster.titles[0]), lack.had, places, "; ".join(reasons), fewer)
 
 
 def _of_persons(roster: Roster, problem: Counted, lack: Lack) -> str:
@@ -43,24 +42,19 @@ def _of_persons(roster: Roster, problem: Counted, lack: Lack) -> str:
     several = len(lack.rows) > 1
     who = (counted(len(lack.rows), roster.titles[0]) + shown.bracketed(0, names) if several
            else marked(roster.persons[lack.rows[0]]))
-    them = "them" if several else f"this {roster.titles[0]}"
-    must = f"{who} must take {counted(lack.wanted, roster.titles[1])}{' between them' if several else ''}"
+    them = said("them") if several else said("this", roster.titles[0])
+    must = said("must between them" if several else "must", who, counted(lack.wanted, roster.titles[1]))
     if not lack.columns and not lack.once:
-        return f"{must}, and may take none: allow some, or leave {them} out"
+        return said("may take none", must, them)
     reasons = [*_most(roster.objects, problem.column_bounds, lack.columns, shown, 1)]
     groups = sorted({group for _, group in lack.once if group < problem.n_groups})
-    rules = [f"one of each {roster.groups.title} "
+    rules = [f"{said('one of each', roster.groups.title)} "
              f"({_first(numbered(roster.groups.names, groups))})"] if groups and roster.groups else []
-    rules += ([f"once at each {roster.titles[1]}{shown.bracketed(1, numbered(roster.objects, single))}"] if single
+    rules += ([said("once at each", roster.titles[1]) + shown.bracketed(1, numbered(roster.objects, single))] if single
               else [])
     if rules:
-        reasons.append((f"{len(lack.once)} elsewhere, " if lack.columns else "") + ", ".join(rules))
-    return (f"{must}, and can take at most {lack.had}: {'; '.join(reasons)}: allow others, or let {them} take "
-            f"{_few(lack)} fewer")
-
-
-def _few(lack: Lack) -> str:
-    return "one" if lack.wanted - lack.had == 1 else str(lack.wanted - lack.had)
+        reasons.append((said("elsewhere", len(lack.once)) if lack.columns else "") + ", ".join(rules))
+    return said("must too many", must, lack.had, "; ".join(reasons), them, few(lack))
 
 
 def _are_whole_groups(problem: Counted, objects: List[int]) -> bool:
@@ -79,8 +73,8 @@ def _objects(roster: Roster, problem: Counted, objects: List[int], shown: NamesS
     groups = sorted({problem.group_of[object_] for object_ in objects})
     if roster.groups is None or groups[-1] >= problem.n_groups:
         return count + names
-    return (f"{'all ' if is_whole else ''}{count}{names} of "
-            f"{_groups(roster.groups.title, numbered(roster.groups.names, groups))}")
+    return said("all of groups" if is_whole else "of groups", count + names,
+                _groups(roster.groups.title, numbered(roster.groups.names, groups)))
 
 
 def _groups(title: str, names: List[str]) -> str:
@@ -91,7 +85,12 @@ def _groups(title: str, names: List[str]) -> str:
 def _first(names: List[str]) -> str:
     """The first of many groups."""
     more = len(names) - MOST_NAMES
-    return joined(names[:MOST_NAMES]) + (f" and {more} more" if more > 0 else "")
+    first = joined(names[:MOST_NAMES])
+    return said("and more", first, more) if more > 0 else first
+
+
+def _at_most(count: int, own: Sequence[int]) -> str:
+    return said("at most", count) + (said("each") if len(own) > 1 else "")
 
 
 def _most(names: List[str], bounds: Sequence[Bounds], numbers: List[int], shown: NamesShown,
@@ -101,8 +100,7 @@ def _most(names: List[str], bounds: Sequence[Bounds], numbers: List[int], shown:
     for number in numbers:
         by_count.setdefault(bounds[number].most, []).append(number)
     for most, own in sorted(by_count.items(), reverse=True):
-        count = f"at most {most}{' each' if len(own) > 1 else ''}" if most else "none"
-        yield _those(numbered(names, own), count, shown, side)
+        yield _those(numbered(names, own), _at_most(most, own) if most else said("none"), shown, side)
 
 
 def _once(roster: Roster, problem: Counted, lack: Lack, of_once: Dict[int, int], shown: NamesShown) -> Iterator[str]:
@@ -114,14 +112,15 @@ def _once(roster: Roster, problem: Counted, lack: Lack, of_once: Dict[int, int],
     for person in sorted(groups_of):
         by_rule.setdefault((of_once[person], _rule(roster, problem, groups_of[person])), []).append(person)
     for (count, rule), own in sorted(by_rule.items(), reverse=True):
-        yield _those(numbered(roster.persons, own), f"{rule}, so at most {count}{' each' if len(own) > 1 else ''}",
-                     shown, 0)
+        yield _those(numbered(roster.persons, own), said("so", rule, _at_most(count, own)), shown, 0)
 
 
 def _those(names: List[str], what: str, shown: NamesShown, side: int) -> str:
     """What is said of several names, or of one."""
     text = shown.listed(side, names)
-    return f"{text or 'one'} {what}" if len(names) == 1 else f"{len(names)} {what}" + (f" ({text})" if text else "")
+    if len(names) == 1:
+        return f"{text or said('one')} {what}"
+    return f"{len(names)} {what}" + (f" ({text})" if text else "")
 
 
 def _rule(roster: Roster, problem: Counted, groups: Sequence[int]) -> str:
@@ -129,7 +128,7 @@ def _rule(roster: Roster, problem: Counted, groups: Sequence[int]) -> str:
     groups."""
     rules = []
     if roster.groups is not None and min(groups) < problem.n_groups:
-        rules.append(f"one of each {roster.groups.title}")
+        rules.append(said("one of each", roster.groups.title))
     if max(groups) >= problem.n_groups:
-        rules.append(f"once at each {roster.titles[1]}")
+        rules.append(said("once at each", roster.titles[1]))
     return ", ".join(rules)

@@ -145,7 +145,7 @@ class Sheet:
 
     def _judged(self, data: bytes) -> bytes:
         if len(data) > MOST_BYTES:
-            self.refuse(f"longer than {MOST_BYTES} bytes")
+            self.refuse(said("long file", MOST_BYTES))
         return data
 
     def _take_text(self, data: bytes, reading: Reading) -> None:

@@ -25,6 +25,10 @@ NEEDS_SCIPY = _needs_scipy()
 Progress = Callable[[str, Optional[int], Optional[int]], None]
 # Seconds.
 _LONGEST_WAIT = 0.2
+# The second process starts when the first has looked for plans so many times as long as its relaxation took: of easy
+# models these plans are the best ones by then, and it shows that itself. On one processor it waits for a plan, too, for
+# at most a part of the time.
+_TIMES_RELAXED, _FINDERS_PART = 15, 0.4
 _STAGES = {"plans": "looks for plans", "prices": "prices of shared rows", "proof": "proofs", "reasons": "reasons"}
 
 
@@ -165,19 +169,57 @@ def find(model: Model, seconds: float, progress: Optional[Progress] = None, star
         return search.finding()
     if start is not None:
         search.take_plan(start)
-    told: "queue.Queue[Dict[str, Any]]" = queue.Queue()
-    work = {"model": search.scaled._asdict(), "seconds": seconds, "sums": sums, "known": known,
-            "plan": search.plan, "cost": search.cost}
-    workers: List[Worker] = []
+    team = _Team(search, begin + seconds, {"sums": sums, "known": known})
     try:
-        for role in ("plans", "bounds"):
-            workers.append(Worker(told))
-            workers[-1].start({**work, "role": role, "is_alone": _processors() > 1})
-        _follow(search, workers, told, begin + seconds, progress)
+        team.start("plans")
+        _follow(search, team, progress)
     finally:
-        for worker in workers:
+        for worker in team.workers:
             worker.end()
     return search.finding()
+
+
+class _Team:
+    """The processes that work on a model until a deadline: one that looks for plans, and after that for bounds; and one
+    that looks for bounds meanwhile, where the first isn't soon over."""
+
+    def __init__(self, search: _PlanSearch, deadline: float, work: Dict[str, Any]):
+        self.search, self.deadline = search, deadline
+        self.work = {"model": search.scaled._asdict(), **work}
+        self.told: "queue.Queue[Dict[str, Any]]" = queue.Queue()
+        self.workers: List[Worker] = []
+        # When the second starts, unless it has or isn't needed; and how long it waits after a plan.
+        self.second_at, self._wait, self._may_start = math.inf, 0.0, True
+
+    def start(self, role: str) -> None:
+        """Starts a process, which begins with the best plan so far."""
+        self.workers.append(Worker(self.told))
+        self.workers[-1].start({**self.work, "role": role, "seconds": max(0.0, self.deadline - time.monotonic()),
+                                "plan": self.search.plan, "cost": self.search.cost})
+
+    def next_message(self) -> Optional[Dict[str, Any]]:
+        """What a process reports next; None where the time is over. Starts the second one meanwhile."""
+        message = _next_message(self.told, min(self.deadline, self.second_at))
+        if message is None and time.monotonic() < self.deadline:
+            self._may_start, self.second_at = False, math.inf
+            self.start("bounds")
+            message = _next_message(self.told, self.deadline)
+        if message is not None:
+            self._plan_second(message)
+        return message
+
+    def _plan_second(self, message: Dict[str, Any]) -> None:
+        """Says when the second process starts, or that the first one goes on in its place."""
+        now = time.monotonic()
+        if "over" in message:
+            self.workers[0].tell({"goes_on": self._may_start})
+            self._may_start, self.second_at = False, math.inf
+        elif "relaxed" in message and self._may_start:
+            self._wait = _TIMES_RELAXED * message["relaxed"]
+            has_to_wait = self.search.plan is None and _processors() == 1
+            self.second_at = now + (_FINDERS_PART * (self.deadline - now) if has_to_wait else self._wait)
+        elif "plan" in message and self._may_start:
+            self.second_at = min(self.second_at, now + self._wait)
 
 
 def _processors() -> int:
@@ -208,16 +250,15 @@ def _next_message(told: "queue.Queue[Dict[str, Any]]", deadline: float) -> Optio
                 return None
 
 
-def _follow(search: _PlanSearch, workers: List[Worker], told: "queue.Queue[Dict[str, Any]]", deadline: float,
-            progress: Optional[Progress]) -> None:
-    """Takes what the workers report until the model is decided, all have ended, or the time is over."""
-    running = len(workers)
-    while running and not search.is_best():
-        message = _next_message(told, deadline)
+def _follow(search: _PlanSearch, team: _Team, progress: Optional[Progress]) -> None:
+    """Takes what the processes report until the model is decided, all have ended, or the time is over."""
+    ended = 0
+    while ended < len(team.workers) and not search.is_best():
+        message = team.next_message()
         if message is None:
             return
-        running -= "ended" in message
-        stage = _taken(search, workers, message)
+        ended += "ended" in message
+        stage = _taken(search, team.workers, message)
         if progress is not None and stage is not None:
             progress(stage, *(None if value is None else value * search.unit for value in (search.cost, search.bound)))
         if search.is_explained and search.impossible is not None:
@@ -242,7 +283,7 @@ def _taken(search: _PlanSearch, workers: List[Worker], message: Dict[str, Any]) 
         search.take_shortage(message)
         return _STAGES["reasons"]
     search.is_explained = search.is_explained or "explained" in message
-    if "hopeless" in message:
+    if "over" in message:
         _tell(workers, message)
     return _STAGES.get(message.get("stage", ""))
 

@@ -89,15 +89,15 @@ class Finder:
 
     def whole(self, part: float) -> None:
         """HiGHS over all variables, below what is known, for a part of the time."""
-        left, is_known = self.left(), self.channel.cost is not None
+        left = self.left()
         if left <= 0:
             return
         below = [] if self.channel.cost is None else [cost_row(self.model, self.channel.cost - 1)]
         found = tried(self.model.costs, self.rows + below, min(part * self.seconds, left))
         self.say(found.plan)
         self.is_over = found.is_over
-        if found.is_over and found.plan is None and not is_known:
-            self.channel.say(hopeless=True)
+        if self.is_over:
+            self.channel.say_over()
 
     def search(self) -> None:
         """Searches around the best plan, or around months that keep their own rows, until nothing better comes

@@ -122,7 +122,14 @@ class Channel:
         self.lines, self.out = lines, out
         self.plan: Optional[Any] = None
         self.cost: Optional[int] = None
-        self.is_hopeless = False
+        # Whether the search for plans says that none is better than the one known.
+        self.is_over = False
+        self._goes_on: Optional[bool] = None
+
+    @property
+    def is_hopeless(self) -> bool:
+        """Whether the search for plans says that there is none."""
+        return self.is_over and self.cost is None
 
     def listen(self) -> None:
         """Reads better plans of others from now on, while the work goes on."""
@@ -133,14 +140,20 @@ class Channel:
             told = json.loads(line)
             if "plan" in told:
                 self.plan, self.cost = told["plan"], told["cost"]
-            self.is_hopeless = self.is_hopeless or "hopeless" in told
+            self.is_over = self.is_over or "over" in told
+            self._goes_on = told.get("goes_on", self._goes_on)
         os._exit(0)
 
-    def wait_for_plan(self, seconds: float) -> None:
-        """Waits until a plan is known, or it is said that there is none, or so many seconds have passed."""
-        until = time.monotonic() + seconds
-        while self.cost is None and not self.is_hopeless and time.monotonic() < until:
+    def goes_on(self) -> bool:
+        """Whether this process looks for bounds when its search for plans is over, since no other does."""
+        while self._goes_on is None:
             time.sleep(_SHORT_WAIT)
+        return self._goes_on
+
+    def say_over(self) -> None:
+        """Reports that no plan is better than the one known, as it seems."""
+        self.is_over = True
+        self.say(over=True)
 
     def say(self, **told: Any) -> None:
         self.out.write(json.dumps(told) + "\n")

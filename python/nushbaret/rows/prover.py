@@ -6,7 +6,7 @@ from typing import Any, Iterator, List, Optional, Sequence
 
 from .certificate_check import meets
 from .chains import Closing, chain
-from .highs import tried
+from .highs import look_for_plans, tried
 from .model import Model, Part, Proof, flat, renamed
 from .persons import PersonBlock, blocks_of, cost_of, cost_row, limits_of
 from .prices import SCALE, Bound, Pricing, TooWide
@@ -54,12 +54,19 @@ class Prover:
     def is_closed(self) -> bool:
         return self.bound is not None and self.channel.cost is not None and self.bound >= self.channel.cost
 
-    def run(self) -> None:
+    def relax(self) -> Optional[Solved]:
+        """The relaxation, with its bound; None where it has no point, which is explained."""
+        begin = time.monotonic()
         solved = self.whole.relaxed(self.model.costs)
         if solved.value == np.inf:
             self.explain(None)
-            return
+            return None
+        self.channel.say(relaxed=time.monotonic() - begin)
         self.by_relaxation(solved)
+        return solved
+
+    def run(self, solved: Solved) -> None:
+        """Looks for better bounds than that of the relaxation."""
         if self.is_small:
             self.by_one_tree()
         if not self.is_closed():
@@ -190,6 +197,12 @@ class Prover:
                 self.tell(chain(pricing, best, most, self.deadline), most)
             except Open:
                 pass
+        if not self.channel.is_over:
+            self.look_for_plan(reaches, least)
+        self.close(pricing, best)
+
+    def look_for_plan(self, reaches: Any, least: int) -> None:
+        """Looks for plans at the bound and near it."""
         if not self.is_known(least):
             self.look_near(reaches, least, _AT_BOUND_PART)
         for percent in _NEAR:
@@ -197,7 +210,6 @@ class Prover:
                 self.look_near(reaches, least + abs(least) * percent // 100 + 2, _NEAR_PART)
         if self.channel.cost is not None and not self.is_closed():
             self.look_near(reaches, self.channel.cost - 1, _NEAR_PART)
-        self.close(pricing, best)
 
     def is_known(self, cost: int) -> bool:
         """Whether a plan that costs so little is known."""
@@ -248,4 +260,19 @@ class Prover:
 def look_for_bounds(model: Model, channel: Channel, seconds: float, sums: Sequence[Sequence[int]] = ()) -> None:
     """Reports better and better bounds with their proofs, or sums that are short, or sentences that can't hold
     together."""
-    Prover(model, channel, seconds, sums).run()
+    prover = Prover(model, channel, seconds, sums)
+    solved = prover.relax()
+    if solved is not None:
+        prover.run(solved)
+
+
+def look_for_all(model: Model, channel: Channel, seconds: float, sums: Sequence[Sequence[int]],
+                 known: Sequence[Sequence[int]]) -> None:
+    """Reports plans, and bounds when these are over, where no other process looks for bounds."""
+    prover = Prover(model, channel, seconds, sums)
+    solved = prover.relax()
+    if solved is None:
+        return
+    look_for_plans(model, channel, prover.deadline, known)
+    if channel.is_over and channel.goes_on():
+        prover.run(solved)

@@ -7,10 +7,6 @@ import importlib.util
 import json
 import pathlib
 import sys
-import time
-
-# On one processor the search for bounds waits so long for a first plan.
-_FINDERS_PART = 0.4
 
 
 def begin() -> None:
@@ -35,13 +31,10 @@ def main() -> None:
     channel.plan, channel.cost = told["plan"], told["cost"]
     channel.listen()
     model = unpacked(told["model"])
+    from .prover import look_for_all, look_for_bounds
     if told["role"] == "plans":
-        from .highs import look_for_plans
-        look_for_plans(model, channel, time.monotonic() + told["seconds"], told["known"])
+        look_for_all(model, channel, told["seconds"], told["sums"], told["known"])
     else:
-        if not told["is_alone"]:
-            channel.wait_for_plan(_FINDERS_PART * told["seconds"])
-        from .prover import look_for_bounds
         look_for_bounds(model, channel, told["seconds"], told["sums"])
     channel.say(done=told["role"])
 

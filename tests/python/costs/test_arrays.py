@@ -294,7 +294,7 @@ class Views(unittest.TestCase):
 @unittest.skipUnless(np, "NumPy isn't there")
 class Bottlenecks(unittest.TestCase):
     def test_worse_pairs_at_a_price(self):
-        """The search over all pairs, where a plan avoids the worse ones and where it doesn't, beside all plans."""
+        """The search over all pairs, where a plan avoids the worse ones and where it doesn't, next to all plans."""
         for seed in range(200):
             dice = np.random.default_rng(seed)
             n, m = sorted(map(int, dice.integers(1, 6, 2)))

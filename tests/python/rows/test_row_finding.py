@@ -5,6 +5,7 @@ import random
 import signal
 import subprocess
 import sys
+import threading
 import time
 import unittest
 from unittest import mock
@@ -21,16 +22,17 @@ needs_scipy = unittest.skipUnless(models.scipy, "SciPy isn't there")
 LONG = """
 import random, sys
 sys.path[:0] = [{package!r}, {tests!r}]
-from nushbaret.rows import finding, process as processes
+from nushbaret.rows import finding
 import row_models
-popen = processes.subprocess.Popen
-def started(*arguments, **options):
-    process = popen(*arguments, **options)
-    print(process.pid, flush=True)
-    return process
-processes.subprocess.Popen = started
+taken = finding._taken
+def noted(search, workers, message):
+    if "started" in message:
+        print(workers[-1].process.pid, flush=True)
+    return taken(search, workers, message)
+finding._taken = noted
+finding._TIMES_RELAXED = 0
 try:
-    finding.find(row_models.drawn_month(random.Random(5), 60, 40), 600)
+    finding.find(row_models.drawn_month(random.Random(5), 60, 90), 600)
 except KeyboardInterrupt:
     print("stopped", flush=True)
 except RuntimeError as fault:
@@ -107,6 +109,14 @@ class Processes(unittest.TestCase):
             self.assertEqual((found.kind == "impossible", found.cost), (least is None, least))
         self.assertTrue(any(bound is not None for _, _, bound in told))
 
+    def test_one_process_for_an_easy_model(self):
+        model = models.drawn_month(random.Random(3), 6, 10)
+        for times, roles in ((10**6, ["plans"]), (0, ["plans", "bounds"])):
+            with mock.patch.object(finding, "_TIMES_RELAXED", times), mock.patch.object(
+                    finding.Worker, "start", autospec=True, side_effect=finding.Worker.start) as start:
+                self.assertEqual(finding.find(model, 600)[2:4], (42, 42))
+                self.assertEqual([call.args[1]["role"] for call in start.mock_calls], roles)
+
     def test_a_plan_known_before(self):
         model = Model(2, (3, 4), (Row(1, ((0, 1), (1, 1)), None, "one"),), (0, 1))
         self.assertEqual(finding.find(model, 600, start=(0, 1))[:4], ("best", (1, 0), 3, 3))
@@ -151,6 +161,46 @@ def _is_there(process):
     except ProcessLookupError:
         return False
     return True
+
+
+class Team(unittest.TestCase):
+    """When the second process starts, and that the first goes on in its place."""
+
+    def second_at(self, processors, *messages):
+        """When the second process starts after messages at time 10, where the time ends at 110."""
+        with mock.patch.object(finding.time, "monotonic", return_value=10.0), mock.patch.object(
+                finding, "_processors", return_value=processors), mock.patch.object(finding, "_TIMES_RELAXED", 15):
+            team = finding._Team(finding._PlanSearch(Model(1, (1,), (), (0,))), 110.0, {})
+            team.workers = [mock.Mock()]
+            for message in messages:
+                team.told.put(message)
+                self.assertEqual(team.next_message(), message)
+            return team.second_at, [call.args[0] for call in team.workers[0].tell.mock_calls]
+
+    def test_where_there_are_two_processors(self):
+        self.assertEqual(self.second_at(2, {"started": True})[0], float("inf"))
+        self.assertEqual(self.second_at(2, {"relaxed": 2.0})[0], 40.0)
+        self.assertEqual(self.second_at(2, {"relaxed": 2.0}, {"plan": [0]})[0], 40.0)
+
+    def test_on_one_it_waits_for_a_plan(self):
+        self.assertEqual(self.second_at(1, {"relaxed": 2.0})[0], 50.0)
+        self.assertEqual(self.second_at(1, {"relaxed": 2.0}, {"plan": [0]})[0], 40.0)
+
+    def test_none_where_the_first_is_over(self):
+        for later in ({"started": True}, {"plan": [0]}, {"relaxed": 1.0}):
+            self.assertEqual(self.second_at(2, {"relaxed": 2.0}, {"over": True}, later),
+                             (float("inf"), [{"goes_on": True}]))
+
+    def test_no_third(self):
+        with mock.patch.object(finding.Worker, "start") as start:
+            team = finding._Team(finding._PlanSearch(Model(1, (1,), (), (0,))), time.monotonic() + 600, {})
+            team.start("plans")
+            team.second_at = 0.0
+            for message in ({"relaxed": 0.0}, {"plan": [0]}, {"over": True}):
+                threading.Timer(0.1, team.told.put, [message]).start()
+                self.assertEqual(team.next_message(), message)
+            self.assertEqual((start.call_count, team.second_at), (2, float("inf")))
+            self.assertEqual(team.workers[0].waiting.get(), '{"goes_on": false}\n')
 
 
 class Untrusted(unittest.TestCase):

@@ -7,7 +7,7 @@ from typing import Dict, Iterator, List, NamedTuple, Optional, Sequence, Set, Tu
 from ..answer import NamedPlan, listed
 from ..dates import Dates, Times, dates_of
 from ..day_tables import Block, blocks_of, group_of, labels_of
-from ..names import shown_path
+from ..names import said, shown_path
 from ..roster import OldPlan, Roster
 from .calendar import Event, Older, calendar, older_of
 from .html import document, name, ours, scrolling, style_of
@@ -33,7 +33,7 @@ class DayLine(NamedTuple):
 
 def dates_of_groups(roster: Roster) -> Dates:
     """The dates of a roster's groups, or why there are none."""
-    return Dates(None, "there are no groups") if roster.groups is None else dates_of(roster.groups.names)
+    return Dates(None, said("no groups")) if roster.groups is None else dates_of(roster.groups.names)
 
 
 def paths_of(roster: Roster, folder: str) -> List[str]:

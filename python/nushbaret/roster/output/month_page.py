@@ -5,6 +5,7 @@ from typing import Dict, Iterator, List, Optional
 from ..answer import NamedPlan
 from ..dates import DAY_NAMES
 from ..day_tables import Cell, Day
+from ..names import said
 from .html import classes, ours, scrolling
 from .month_sheet import MonthSheet, StaffCell, month_sheet
 from .texts import Report
@@ -83,9 +84,9 @@ def _legend(sheet: MonthSheet) -> Iterator[str]:
     cells = [cell for _, own in sheet.persons for cell in own]
     marks = [text for text, is_there in (
         ("shaded: weekend or holiday", any(day.is_weekend for day in sheet.days)),
-        ("hatched: nothing possible", any(cell.is_off for cell in cells)),
-        ("framed: changed", sheet.is_changed),
+        (said("hatched"), any(cell.is_off for cell in cells)),
+        (said("framed"), sheet.is_changed),
         ("underlined: fixed", any(entry.is_fixed for cell in cells for entry in cell.entries)),
-        ("3/4: 3 of 4 wanted", any(cell is not None and cell.wanted is not None
-                                   for _, staff in sheet.staff for cell in staff))) if is_there]
+        (said("3/4"), any(cell is not None and cell.wanted is not None
+                        for _, staff in sheet.staff for cell in staff))) if is_there]
     yield '<p class="legend">' + " \u00b7 ".join([*kinds, *notes, *map(ours, marks)]) + "</p>\n"

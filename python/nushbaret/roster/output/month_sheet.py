@@ -6,6 +6,7 @@ from typing import TYPE_CHECKING, Counter as Counts, Dict, List, NamedTuple, Opt
 
 from ..answer import NamedPlan
 from ..day_tables import Block, Cell, Day, blocks_of
+from ..names import said
 from ..roster import Roster
 from ..rules.rule_file import HOURS, MONTHLY
 from ..rules.rule_rows import hours_of
@@ -119,11 +120,11 @@ def _columns(report: Report, plan: NamedPlan, days: Sequence[Day], kinds: Sequen
     """What each person has in all: shifts, those of each kind, weekends, hours, what is missed, and costs."""
     letters = letters_of(kinds)
     counts = [Counter(entry.label for cell in cells for entry in cell.entries) for _, cells in persons]
-    columns = [SheetColumn("\u03a3", "all shifts", [str(sum(own.values())) for own in counts])]
+    columns = [SheetColumn("\u03a3", said("all shifts"), [str(sum(own.values())) for own in counts])]
     if 1 < len(kinds) <= 4:
         columns += [SheetColumn(letters[kind], kind, [str(own[kind]) for own in counts]) for kind in kinds]
     if any(day.is_weekend for day in days):
-        columns.append(SheetColumn("we", "weekends with a shift", [str(_weekends(days, cells))
+        columns.append(SheetColumn("we", said("weekends"), [str(_weekends(days, cells))
                                                                    for _, cells in persons]))
     if report.ruling is not None:
         columns += _hours(report.roster, report.ruling, plan)

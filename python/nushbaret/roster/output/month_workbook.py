@@ -4,6 +4,7 @@ from typing import Any, Dict, List, Optional
 from ..answer import NamedPlan
 from ..dates import DAY_NAMES
 from ..day_tables import Cell, Day
+from ..names import said
 from .month_sheet import MonthSheet, StaffCell, month_sheet
 from .sheet_looks import FONT, LINE, WEEKEND, letter, put_text, set_to_print
 from .texts import Report
@@ -107,7 +108,7 @@ def _write_legend(sheet: Any, looks: _Looks, found: MonthSheet, colours: Dict[st
         row += 1
     texts: List[str] = [f"{column.title}: {column.meaning}" for column in found.columns
                         if column.meaning and column.meaning not in found.letters]
-    texts += ["3/4: 3 of 4 wanted", "\u00d7: nothing possible", *["framed: changed"] * found.is_changed]
+    texts += [said("3/4"), "\u00d7: nothing possible", *[said("framed")] * found.is_changed]
     put_text(sheet.cell(row, 2), "; ".join(texts))
 
 

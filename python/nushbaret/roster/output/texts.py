@@ -74,7 +74,7 @@ def read_lines(path: str, roster: Roster, on_terminal: bool) -> List[str]:
     lines += [f"{shown_path(path)}: {said('alike', ', '.join(map(quoted, group)))}"
               for group in groups[:MOST_NAMES_SHOWN]]
     if len(groups) > MOST_NAMES_SHOWN:
-        lines.append(f"{shown_path(path)}: and {len(groups) - MOST_NAMES_SHOWN} more of these names")
+        lines.append(f"{shown_path(path)}: {said('more alike', len(groups) - MOST_NAMES_SHOWN)}")
     return lines
 
 
@@ -131,8 +131,9 @@ def forgotten_line(roster: Roster, counts: Counts, side: int) -> Optional[str]:
     if not numbers:
         return None
     bound = "" if not roster.has_bounds else "exactly " if side else "at most "
-    takes = "takes" if len(numbers) == 1 else "each takes"
-    return f"{shown_path(counts.path)}: no line for {named(numbers, roster.titles[side], names)}: {takes} {bound}one"
+    takes = said("takes" if len(numbers) == 1 else "each takes")
+    text = said("no count line", named(numbers, roster.titles[side], names), takes, bound)
+    return f"{shown_path(counts.path)}: {text}"
 
 
 def gone_line(plan: OldPlan, roster: Roster) -> str:
@@ -162,7 +163,7 @@ def _cost_line(report: Report, plan: NamedPlan) -> str:
     roster, options = report.roster, report.options
     which, title, own = "greatest" if options.max else "least", roster.titles[2], roster.shown(plan.cost)
     if report.answer.groups:
-        title += f" of {len(plan.pairs)} pairs" + (" that miss least" if roster.has_bounds else "")
+        title = said("of pairs that miss least" if roster.has_bounds else "of pairs", title, len(plan.pairs))
     title += _bound(report, report.fair) if report.fair else ""
     if options.change_cost is not None:
         return f"{title}: {own}, the {which} with changes at {options.change_cost} each"
@@ -306,11 +307,11 @@ def others(report: Report, plan: NamedPlan) -> List[Note]:
         is_shown = not plan.is_only_one and not options.keep and options.plans < 2 and not options.fair
         return [Note("other plans are as good: --others shows who could change places")] if is_shown else []
     if plan.swaps:
-        return [Note(f"could change places at no cost: {named(swap.persons, roster.titles[0], roster.persons)} "
-                     f"on {named(swap.objects, roster.titles[1], roster.objects)}") for swap in plan.swaps]
+        return [Note(said("swap", named(swap.persons, roster.titles[0], roster.persons),
+                          named(swap.objects, roster.titles[1], roster.objects))) for swap in plan.swaps]
     if not plan.following:
-        return [Note("no other plan is as good")]
-    return [_difference(report, plan, plan.following[0], "no other plan is as good: the next best is", " ")]
+        return [Note(said("only plan"))]
+    return [_difference(report, plan, plan.following[0], said("only plan") + ": the next best is", " ")]
 
 
 def _difference(report: Report, plan: NamedPlan, other: NamedPlan, name: str, mark: str = ": ") -> Note:
@@ -342,25 +343,20 @@ def there(roster: Roster, plan: NamedPlan, pairs: Sequence[Pair]) -> List[str]:
 def changes(roster: Roster, plan: NamedPlan, kept: OldPlan) -> Note:
     """How many pairs come and go from an earlier plan, and whose; and what can't be any more."""
     found = changes_of(roster, plan, kept)
-    counts = [counted(len(found.comes), "pair") + _comes(found.comes)] if found.comes else []
-    counts += [(str(len(found.goes)) if counts else counted(len(found.goes), "pair"))
-               + _goes(found.goes)] if found.goes else []
+    goes = str(len(found.goes)) if found.comes else counted(len(found.goes), "pair")
+    counts = _moved("come", found.comes, counted(len(found.comes), "pair")) + _moved("go", found.goes, goes)
     details = [f"{own.person}: {'; '.join(_words_of(own))}" for own in by_person(roster, found)]
-    return Note(f"{shown_path(kept.path)}: {', '.join(counts) or 'no pair changes'}", details + _lost_lines(found.lost))
+    return Note(f"{shown_path(kept.path)}: {', '.join(counts) or said('no change')}", details + _lost_lines(found.lost))
 
 
-def _comes(those: Sequence[object]) -> str:
-    return " comes" if len(those) == 1 else " come"
-
-
-def _goes(those: Sequence[object]) -> str:
-    return " goes" if len(those) == 1 else " go"
+def _moved(way: str, those: Sequence[object], what: str) -> List[str]:
+    """What comes, or goes."""
+    return [said(f"{way} alone" if len(those) == 1 else way, what)] if those else []
 
 
 def _words_of(own: OfPerson) -> List[str]:
     """What goes and what comes."""
-    goes, comes = joined(own.goes) + _goes(own.goes), joined(own.comes) + _comes(own.comes)
-    return [goes] * bool(own.goes) + [comes] * bool(own.comes)
+    return _moved("go", own.goes, joined(own.goes)) + _moved("come", own.comes, joined(own.comes))
 
 
 def _lost_lines(lost: Sequence[Lost]) -> List[str]:
