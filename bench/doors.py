@@ -50,7 +50,7 @@ def forms(costs):
              "float32": costs.astype(np.float32), "int64": whole, "object": costs.astype(object)}
     if pandas:
         found["frame"] = pandas.DataFrame(costs)
-        mixed = pandas.DataFrame(costs)
+        mixed = pandas.DataFrame(costs * 1000)
         mixed[0] = whole[:, 0]
         found["mixed frame"] = mixed
     return found

@@ -1,5 +1,5 @@
 // Calls on lists as a program in C lends them.
-use c_calls::doubles::{DoublesInfo, Given, check_given, solve_from, solve_given};
+use c_calls::doubles::{DoublesInfo, Input, check_input, solve_from, solve_input};
 use std::alloc::Global;
 
 /// A record in which nothing is written.
@@ -28,7 +28,7 @@ pub fn solve(
 ) -> i32 {
     let by_person = [objects.len(), persons.len()];
     let by_object = [prices.len()];
-    let given = Given {
+    let input = Input {
         sense,
         n,
         m,
@@ -36,7 +36,7 @@ pub fn solve(
         by_object: &by_object,
         costs,
     };
-    solve_given(alloc, &given, objects, persons, prices, info)
+    solve_input(alloc, &input, objects, persons, prices, info)
 }
 
 /// A search from the plan and the prices in the lists.
@@ -53,7 +53,7 @@ pub fn solve_again(
 ) -> i32 {
     let by_person = [objects.len(), persons.len()];
     let by_object = [prices.len()];
-    let given = Given {
+    let input = Input {
         sense,
         n,
         m,
@@ -61,7 +61,7 @@ pub fn solve_again(
         by_object: &by_object,
         costs,
     };
-    solve_from(alloc, &given, objects, persons, prices, info)
+    solve_from(alloc, &input, objects, persons, prices, info)
 }
 
 /// The code of a plan and prices.
@@ -77,7 +77,7 @@ pub fn judge(
 ) -> i32 {
     let by_person = [objects.len()];
     let by_object = [prices.len()];
-    let given = Given {
+    let input = Input {
         sense,
         n,
         m,
@@ -85,5 +85,5 @@ pub fn judge(
         by_object: &by_object,
         costs,
     };
-    check_given(alloc, &given, objects, prices, info)
+    check_input(alloc, &input, objects, prices, info)
 }
