@@ -1,5 +1,6 @@
 // Pairs as rows: those up to a threshold, and matchings of them.
-use search_base::{ArcScans, NOBODY};
+use super::thresholds::{DRAWN, next_drawn};
+use search_base::{ArcScans, NOBODY, place_at, put};
 use sparse_search::{Known, Matching, Pair, SparseProblem};
 use std::alloc::{AllocError, Global};
 
@@ -79,17 +80,84 @@ pub fn worst_of(problem: SparseProblem<'_>, objects: &[u32]) -> i64 {
     worst
 }
 
-/// How many persons list their own objects.
-pub fn count_listed(problem: SparseProblem<'_>, objects: &[u32]) -> usize {
+// How many persons list their own objects.
+fn count_listed(problem: SparseProblem<'_>, objects: &[u32]) -> usize {
     let mut count = 0usize;
     let mut person: u32 = 0;
     for object in objects {
-        if *object != NOBODY && cost_in(problem.row(person), *object) < i64::MAX {
+        if *object != NOBODY
+            && problem
+                .row(person)
+                .iter()
+                .any(|pair| pair.object == *object)
+        {
             count = count.wrapping_add(1);
         }
         person = person.wrapping_add(1);
     }
     count
+}
+
+/// That of two lists of objects of which more persons list their own.
+pub fn fuller<'a>(problem: SparseProblem<'_>, one: &'a [u32], other: &'a [u32]) -> &'a [u32] {
+    if count_listed(problem, other) > count_listed(problem, one) {
+        other
+    } else {
+        one
+    }
+}
+
+// The persons, those with the shortest rows first.
+fn by_lengths(alloc: Global, problem: SparseProblem<'_>) -> Result<Vec<u32>, AllocError> {
+    let mut lengths: Vec<u64> = Vec::new(alloc);
+    for person in 0..place_at(problem.persons()) {
+        lengths.push((problem.row(person).len() as u64) << 32 | person as u64)?;
+    }
+    lengths.sort_unstable();
+    let mut persons = Vec::new(alloc);
+    for length in lengths.iter() {
+        persons.push((*length & 0xffff_ffff) as u32)?;
+    }
+    Ok(persons)
+}
+
+fn first_unowned(row: &[Pair], is_owned: &[bool]) -> u32 {
+    for pair in row {
+        if let Some(false) = is_owned.get(pair.object as usize) {
+            return pair.object;
+        }
+    }
+    NOBODY
+}
+
+// An object of a row that nobody has, from a place of the row on and then from its beginning.
+fn unowned_from(row: &[Pair], from: usize, is_owned: &[bool]) -> u32 {
+    let (before, after) = row.split_at(from.min(row.len()));
+    let object = first_unowned(after, is_owned);
+    if object == NOBODY {
+        first_unowned(before, is_owned)
+    } else {
+        object
+    }
+}
+
+/// A matching in which one person after the other takes an object, those with the shortest rows first:
+/// where each row holds all shorter ones no matching is greater.
+pub fn by_rising_rows(alloc: Global, problem: SparseProblem<'_>) -> Result<Vec<u32>, AllocError> {
+    let mut is_owned = vec![in alloc; false; problem.objects]?;
+    let mut objects = vec![in alloc; NOBODY; problem.persons()]?;
+    let mut drawn = DRAWN;
+    for person in by_lengths(alloc, problem)?.iter() {
+        let row = problem.row(*person);
+        drawn = next_drawn(drawn);
+        let from = (drawn >> 32).wrapping_mul(row.len() as u64) >> 32;
+        let object = unowned_from(row, from as usize, is_owned.as_slice());
+        if let Some(owned) = is_owned.get_mut(object as usize) {
+            *owned = true;
+            put(objects.as_mut_slice(), *person, object);
+        }
+    }
+    Ok(objects)
 }
 
 /// A greatest matching from these objects, as far as the arc scans allow, and what is known about it.

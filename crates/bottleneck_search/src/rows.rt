@@ -11,7 +11,7 @@ pub struct Rows<'a> {
     pub costs: &'a [Cost],
     pub objects: usize,
     /// 0, or -1 where great costs are wanted.
-    flip: Cost,
+    pub flip: Cost,
 }
 
 // So many costs of a row are looked at together.
@@ -19,7 +19,7 @@ const TOGETHER: usize = 16;
 
 // A cost so that less is better, if the flip is -1 where great ones are wanted.
 #[inline(always)]
-fn turned(cost: Cost, flip: Cost) -> Cost {
+pub fn turned(cost: Cost, flip: Cost) -> Cost {
     (cost ^ flip).wrapping_sub(flip)
 }
 
@@ -39,6 +39,16 @@ fn is_any_up_to(costs: &[Cost], flip: Cost, most: Cost) -> bool {
     let mut is_any = false;
     for cost in costs {
         is_any = (turned(*cost, flip) <= most) | is_any;
+    }
+    is_any
+}
+
+/// Whether any cost is below the number at its place.
+#[inline(always)]
+pub fn is_any_below(costs: &[Cost], flip: Cost, numbers: &[Cost]) -> bool {
+    let mut is_any = false;
+    for (cost, number) in costs.iter().zip(numbers.iter()) {
+        is_any = (turned(*cost, flip) < *number) | is_any;
     }
     is_any
 }
@@ -115,6 +125,13 @@ impl<'a> Rows<'a> {
             objects,
             flip,
         }
+    }
+
+    /// A person's costs; none for a place without a person.
+    pub fn row(self, person: u32) -> &'a [Cost] {
+        let from = (person as usize).wrapping_mul(self.objects);
+        let to = from.wrapping_add(self.objects);
+        self.costs.get(from..to).unwrap_or(&[])
     }
 
     /// The turned cost at a place among all.

@@ -1,18 +1,24 @@
-// The search: a matching at the bound, one up to some threshold, and thresholds by halves.
+// The search: a matching at the bound, matchings up to some thresholds, thresholds by halves, and one
+// matching that grows where few persons are left.
 ghost use Rattle.std.specs.Prelude.{◌≡◌, length};
 
 use super::bounds::Bound;
 use super::found::{Found, made_of, places_of, set_of, write_objects};
-use super::lists::{Listed, count_listed, matched, up_to, worst_of};
+use super::growth::{Grown, Growth};
+use super::lists::{Listed, by_rising_rows, fuller, matched, up_to, worst_of};
 use super::rows::Rows;
 use super::steps::{ALL, SearchState, Stage, Table};
 use super::thresholds::{costs_between, count_below, sample_above};
 use assign_core::Cost;
 use cost_lists::{CostLists, Object, Source};
 use list_solver::{Grouped, HallSet, Record};
-use search_base::ArcScans;
+use search_base::{ArcScans, NOBODY};
 use sparse_search::{Known, Matching, SparseProblem, hall_set};
 use std::alloc::{AllocError, Global};
+
+// A path of a matching that grows takes about as long as a threshold of the halves over this part of
+// all pairs.
+const PATHS: usize = 64;
 
 // A search: what it reads, where it stands, and a matching from which it goes on.
 #[derive(Drop)]
@@ -24,6 +30,9 @@ struct Search<'a> {
     state: SearchState,
     kept: Vec<u32>,
     is_fresh: bool,
+    // Whether a matching may still grow, and how many pairs were tried last.
+    may_grow: bool,
+    tried: usize,
     arc_scans: ArcScans,
 }
 
@@ -63,23 +72,21 @@ impl<'a> Search<'a> {
         }
     }
 
-    // A greatest matching of these pairs from the one that is kept, within the budget. The first one of
+    // A greatest matching of these pairs from the fullest one at hand, within the budget. The first one of
     // a call serves at least one person more, if it isn't the greatest.
     fn match_on(
         &mut self,
         problem: SparseProblem<'_>,
         plan: &[u32],
     ) -> Result<(Matching, Known), AllocError> {
-        let from_plan = count_listed(problem, plan);
-        let first = if count_listed(problem, self.kept.as_slice()) > from_plan {
-            self.kept.as_slice()
-        } else {
-            plan
-        };
+        let rising = by_rising_rows(self.alloc, problem)?;
+        let first = fuller(problem, self.kept.as_slice(), plan);
+        let first = fuller(problem, first, rising.as_slice());
         let mut arc_scans = self.arc_scans;
         let ended = matched(self.alloc, problem, first, self.is_fresh, &mut arc_scans)?;
         self.arc_scans = arc_scans;
         self.is_fresh = false;
+        self.tried = problem.pairs.len();
         Ok(ended)
     }
 
@@ -87,6 +94,44 @@ impl<'a> Search<'a> {
         self.state.stage = stage;
         self.kept = matching.objects;
         Found::Stopped
+    }
+
+    // Whether few persons are without an object, next to the pairs of a threshold.
+    fn is_nearly_full(&self) -> bool {
+        let free = self.kept.iter().filter(|object| **object == NOBODY).count();
+        let pairs = self.table.pairs(self.n);
+        self.kept.len() == self.n && free.saturating_mul(pairs) <= self.tried.saturating_mul(PATHS)
+    }
+
+    // Lets the matching that is kept grow from the low threshold on. If the record was wrong, the
+    // thresholds are tried from the bound on.
+    fn grow(&mut self) -> Result<Option<Found>, AllocError> {
+        let kept = self.kept.as_slice();
+        let mut growth = Growth::begin(self.alloc, self.table, kept, self.state.low)?;
+        match growth.grow(self.table, &mut self.arc_scans)? {
+            Grown::Full if growth.is_shown(self.table) => Ok(Some(growth.found())),
+            Grown::Stopped => {
+                self.state.stage = Stage::Growth;
+                self.state.low = growth.threshold.saturating_sub(1);
+                self.kept = growth.objects;
+                Ok(Some(Found::Stopped))
+            }
+            _ => {
+                self.may_grow = false;
+                self.state.stage = Stage::Low;
+                self.state.low = self.bound.cost.saturating_sub(1);
+                Ok(None)
+            }
+        }
+    }
+
+    // The same, if the matching is nearly full.
+    fn grow_if_nearly_full(&mut self) -> Result<Option<Found>, AllocError> {
+        if self.may_grow && self.is_nearly_full() {
+            self.grow()
+        } else {
+            Ok(None)
+        }
     }
 
     // A plan at the bound, if there is one among the pairs that are tried.
@@ -137,8 +182,7 @@ impl<'a> Search<'a> {
         }
     }
 
-    // Tries thresholds of a sample, each with some times as many pairs as the one before, and then all
-    // pairs.
+    // Tries thresholds of a sample, each twice as far above the low one, and then all pairs.
     fn begin(&mut self) -> Result<Step, AllocError> {
         let sample = self.table.sample(self.alloc)?;
         let whole = self.table.objects();
@@ -148,13 +192,16 @@ impl<'a> Search<'a> {
             .checked_div(whole)
             .unwrap_or(0);
         for _ in 0..sample.len() {
+            if let Some(found) = self.grow_if_nearly_full()? {
+                return Ok(Step::End(found));
+            }
             let Some(most) = sample_above(sample.as_slice(), share, self.state.low) else {
                 break;
             };
             if let Some(step) = self.try_up_to(most)? {
                 return Ok(step);
             }
-            share = share.saturating_mul(5).saturating_add(2) / 2;
+            share = share.saturating_mul(2).saturating_add(1);
         }
         match self.try_up_to(ALL)? {
             Some(step) => Ok(step),
@@ -191,6 +238,9 @@ impl<'a> Search<'a> {
         for _ in 0..costs.len() {
             if first >= last {
                 break;
+            }
+            if let Some(found) = self.grow_if_nearly_full()? {
+                return Ok(Step::End(found));
             }
             let middle = first.wrapping_add(last.wrapping_sub(first) / 2);
             let most = costs.get(middle).copied().unwrap_or(high);
@@ -261,6 +311,11 @@ impl<'a> Search<'a> {
     }
 
     fn run(&mut self) -> Result<Found, AllocError> {
+        if self.state.stage == Stage::Growth {
+            if let Some(found) = self.grow()? {
+                return Ok(found);
+            }
+        }
         if self.state.stage == Stage::High {
             if let Some(held) = self.return_to_high()? {
                 return self.finish(held);
@@ -308,6 +363,8 @@ fn search_in(
         state,
         kept,
         is_fresh: true,
+        may_grow: true,
+        tried: 0,
         arc_scans: ArcScans {
             done: record.arc_scans,
             limit,

@@ -1,7 +1,7 @@
 // The costs that a search reads, and where it stands.
 use super::bounds::{Bound, bound_of_pairs, bound_of_rows};
-use super::lists::{Listed, up_to};
-use super::rows::Rows;
+use super::lists::{Listed, cost_in, up_to};
+use super::rows::{Rows, turned};
 use super::thresholds::sampled;
 use assign_core::Cost;
 use list_solver::Record;
@@ -50,6 +50,25 @@ impl<'a> Table<'a> {
         }
     }
 
+    /// The least cost of a person's object; `Cost::MAX` if the person doesn't list it.
+    pub fn cost(self, person: u32, object: u32) -> Cost {
+        match self {
+            Table::Rows(rows) => match rows.row(person).get(object as usize) {
+                Some(cost) => turned(*cost, rows.flip),
+                None => Cost::MAX,
+            },
+            Table::Pairs(problem) => cost_in(problem.row(person), object),
+        }
+    }
+
+    /// All pairs of so many persons.
+    pub fn pairs(self, persons: usize) -> usize {
+        match self {
+            Table::Rows(rows) => persons.saturating_mul(rows.objects),
+            Table::Pairs(problem) => problem.pairs.len(),
+        }
+    }
+
     /// Costs to take thresholds from, sorted; none for listed pairs.
     pub fn sample(self, alloc: Global) -> Result<Vec<Cost>, AllocError> {
         match self {
@@ -77,6 +96,8 @@ pub enum Stage {
     Low,
     /// There is a plan up to a threshold.
     High,
+    /// A matching grows.
+    Growth,
 }
 
 /// Up to the low threshold there is no plan; up to the high one there is, if one is known.
@@ -97,6 +118,7 @@ impl SearchState {
             1 => Stage::Bound,
             2 => Stage::Low,
             3 => Stage::High,
+            4 => Stage::Growth,
             _ => Stage::Begin,
         };
         SearchState {
@@ -113,6 +135,7 @@ impl SearchState {
             Stage::Bound => 1,
             Stage::Low => 2,
             Stage::High => 3,
+            Stage::Growth => 4,
         };
         Record {
             stage,

@@ -7,14 +7,22 @@ use std::alloc::{AllocError, Global};
 // How many costs a sample has.
 const SAMPLE: usize = 4096;
 
+/// The first number that is drawn, always the same.
+pub const DRAWN: u64 = 12345;
+
+/// The number that is drawn after another (Knuth's MMIX).
+pub fn next_drawn(drawn: u64) -> u64 {
+    drawn
+        .wrapping_mul(6_364_136_223_846_793_005)
+        .wrapping_add(1_442_695_040_888_963_407)
+}
+
 /// The costs of places that are drawn, sorted.
 pub fn sampled(alloc: Global, rows: Rows<'_>) -> Result<Vec<Cost>, AllocError> {
     let mut costs = Vec::new(alloc);
-    let mut drawn: u64 = 12345;
+    let mut drawn = DRAWN;
     for _ in 0..SAMPLE {
-        drawn = drawn
-            .wrapping_mul(6_364_136_223_846_793_005)
-            .wrapping_add(1_442_695_040_888_963_407);
+        drawn = next_drawn(drawn);
         let place = (drawn >> 20)
             .checked_rem(rows.costs.len() as u64)
             .unwrap_or(0);
@@ -24,14 +32,10 @@ pub fn sampled(alloc: Global, rows: Rows<'_>) -> Result<Vec<Cost>, AllocError> {
     Ok(costs)
 }
 
-/// The first cost of a sample, from a share of it on, that is above a cost.
-pub fn sample_above(sample: &[Cost], from: usize, low: Cost) -> Option<Cost> {
-    for cost in sample.iter().skip(from) {
-        if *cost > low {
-            return Some(*cost);
-        }
-    }
-    None
+/// The cost of a sample that comes so many places after those up to a cost.
+pub fn sample_above(sample: &[Cost], places: usize, low: Cost) -> Option<Cost> {
+    let below = sample.iter().filter(|cost| **cost <= low).count();
+    sample.get(below.saturating_add(places)).copied()
 }
 
 /// The different costs of pairs above one cost and up to another, rising.

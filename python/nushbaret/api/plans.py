@@ -1,28 +1,41 @@
 """Plans in the order of their costs."""
-from typing import Iterator, Optional
+from typing import Any, Iterator, Optional
 
 from ..costs import source as sources
+from ..costs.problem import AssignmentProblem
 from ..costs.reading import manner, whole_number
 from ..costs.source import Source
 from ..lap import library
-from ..lap.ranking import Ranking
 from .results import Plan, Result
 from .shown import Matrix, Missing
 from .solve import solve_problem
 
 
-def _in_order(ranking: Ranking, result: Result, count: int, timeout: Optional[float]) -> Iterator[Plan]:
-    ranking.wait(ranking.whole)
-    for left in range(count, 0, -1):
-        with library.limited(timeout):
-            part = ranking.take()
-            if part is None:
-                return
-            plan = result._plan(*result._solved.plan_of(ranking, part))
-        yield plan
-        with library.limited(timeout):
-            if left > 1:
-                ranking.split(part, left - 1)
+class _KBest(Iterator[Plan]):
+    """The plans of `k_best`. Half-way it can be pickled: then it goes on where it was, with plans that are found again."""
+
+    def __init__(self, problem: AssignmentProblem, result: Result, count: int, timeout: Optional[float]):
+        self._problem, self._result, self._count, self._timeout = problem, result, count, timeout
+        self._done = 0
+        self._begin()
+
+    def _begin(self) -> None:
+        self._ranking = self._result._solved.ranking(self._problem)
+        self._parts = self._ranking.in_order(self._count, self._done)
+
+    def __next__(self) -> Plan:
+        with library.limited(self._timeout):
+            part = next(self._parts)
+            self._done += 1
+            return self._result._plan(*self._result._solved.plan_of(self._ranking, part))
+
+    def __getstate__(self) -> Any:
+        problem = self._problem._replace(costs=self._problem.costs.owned(), arrays=None)
+        return problem, self._result, self._count, self._timeout, self._done
+
+    def __setstate__(self, state: Any) -> None:
+        self._problem, self._result, self._count, self._timeout, self._done = state
+        self._begin()
 
 
 def k_best(costs: Matrix, k: int, maximize: bool = False, decimals: Optional[int] = None, partial: bool = False,
@@ -53,10 +66,11 @@ def k_best(costs: Matrix, k: int, maximize: bool = False, decimals: Optional[int
 
     Notes
     -----
-    Murty (1968), each plan from the duals of the one before. Python finds the plans. Before it is yielded, each is
-    checked as `check` does, by the library where costs are in its range: it is a best one of its part, which has the
-    plans that agree with an earlier plan in the first rows and differ from it in the next. That the parts hold all
-    plans and are taken in order is tested, not proved. Plans differ in their rows or columns; equal rows make plans of
+    Murty (1968), each plan from the duals of the one before. Python finds the plans, at first among pairs of small
+    reduced cost. Before it is yielded, each is checked as `check` does, by the library where costs are in its range: it
+    is a best one of its part, which has the plans that agree with an earlier plan in the first rows and differ from it
+    in the next. That the parts hold all plans and are taken in order is tested, not proved. The iterator may be pickled
+    half-way. Plans differ in their rows or columns; equal rows make plans of
     one cost, and there may be very many.
 
     Examples
@@ -72,5 +86,4 @@ def k_best(costs: Matrix, k: int, maximize: bool = False, decimals: Optional[int
     with library.limited(timeout):
         problem = source.read()
         result = solve_problem(problem, source, None, partial)
-        ranking = result._solved.ranking(problem)
-    return _in_order(ranking, result, k, timeout)
+        return _KBest(problem, result, k, timeout)

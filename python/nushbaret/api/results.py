@@ -13,7 +13,7 @@ from ..costs.reading import Manner, manner
 from ..costs.source import Source, problem_of
 from ..lap import library, proved
 from ..lap.plan_check import check_wholly
-from ..lap.ranking import has_other, next_part
+from ..lap.ranking import has_other
 from .infeasible import infeasible
 from .shown import ByNames, FixedList, Missing, fixed, frame_of, numbers
 from .solved import SolvedProblem, WholeDuals, ratios_of, result_parts, sum_of
@@ -171,8 +171,9 @@ class Result(ByNames, Lasting):
         return SolvedProblem(self._source, self._found, self._duals)
 
     def __getstate__(self) -> Any:
-        known = {name: getattr(self, name) for name in ("verdict", "is_unique") if name == "verdict"
-                 or name in self.__dict__}
+        known: Dict[str, Any] = {"verdict": self.verdict}
+        if "_is_unique" in self.__dict__:
+            known["is_unique"] = self._is_unique
         return self._source.without_costs(), self._found.without_pairs(), self._solved.own_duals(), known
 
     def __setstate__(self, state: Any) -> None:
@@ -182,7 +183,7 @@ class Result(ByNames, Lasting):
         source, found, duals, known = state
         pairs = (numbers(values, found.as_arrays) for values in proved.pairs_of(found.shape, found.answer))
         type(self).__init__(self, source, found.with_pairs(*pairs), duals)
-        self.__dict__.update(known)
+        self.__dict__.update({"_is_unique" if name == "is_unique" else name: value for name, value in known.items()})
 
     def __deepcopy__(self, memo: Dict[int, Any]) -> "Result":
         return type(self)(copy.deepcopy(self._source, memo), self._found, self._duals)
@@ -246,11 +247,30 @@ class Result(ByNames, Lasting):
         plan, and `start` begins at them."""
         return self._solved.shown(proved.rents(self._solved.duals[0]))
 
-    @cached_property
     def is_unique(self) -> bool:
-        """Whether no other plan of as many pairs is as good. `nushbaret_unique` proves it of whole costs in its range.
-        Of others the library finds, among the plans along pairs without reduced cost, one with as few of this plan's
-        pairs as possible; which pairs these are follows from the duals."""
+        """Whether no other plan of as many pairs is as good.
+
+        Returns
+        -------
+        bool
+            True if this is the only best plan.
+
+        Notes
+        -----
+        `nushbaret_unique` proves it of whole costs in its range. Of others the library finds, among the plans along
+        pairs without reduced cost, one with as few of this plan's pairs as possible; which pairs these are follows
+        from the duals.
+
+        Examples
+        --------
+        >>> import nushbaret
+        >>> nushbaret.solve([[4, 1], [2, 3]]).is_unique()
+        True
+        """
+        return self._is_unique
+
+    @cached_property
+    def _is_unique(self) -> bool:
         found = self._solved.is_only()
         if found is None:
             ranking = self._solved.ranking()
@@ -264,13 +284,13 @@ class Result(ByNames, Lasting):
         Returns
         -------
         Plan or None
-            None if there is no other plan. Of several, the one that comes first in the order of `k_best`.
+            None if there is no other plan. Of several it is any: `k_best` has them in order.
 
         Notes
         -----
-        `nushbaret_next` proves what the next best plan costs, or that there is none, where costs and prices are whole
+        `nushbaret_next` proves that the plan is a next best one, or that there is none, where costs and prices are whole
         numbers in its range, as many pairs are made as the shorter side has rows or columns, and it decides: mostly.
-        Python then finds the first plan of this cost. Elsewhere it is found and checked as in `k_best`.
+        Elsewhere Python finds it, and it is checked as in `k_best`.
 
         Examples
         --------
@@ -278,11 +298,13 @@ class Result(ByNames, Lasting):
         >>> nushbaret.solve([[4, 1], [2, 3]]).next_best().cost
         7
         """
-        code, margin = self._solved.next_margin()
+        code, found = self._solved.next_plan()
         if code == "ALONE":
             return None
+        if found is not None:
+            return self._plan(*found)
         ranking = self._solved.ranking()
-        part = next_part(ranking, margin if code == "BEST" else None)
+        part = ranking.next_one()
         return None if part is None else self._plan(*self._solved.plan_of(ranking, part))
 
     def _plan(self, rows: Any, columns: Any, cost: Number) -> Plan:

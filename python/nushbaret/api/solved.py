@@ -9,7 +9,7 @@ from ..costs.limits import GREATEST_PRICE
 from ..costs.numbers import Number, Ratio, Unit
 from ..costs.problem import AssignmentProblem, costs_of_pairs
 from ..costs.source import Source
-from ..lap import duals as exact_duals, proved
+from ..lap import doubles, duals as exact_duals, proved
 from ..lap.paths import Subproblem
 from ..lap.plan_check import check_wholly
 from ..lap.ranking import Ranking
@@ -138,13 +138,23 @@ class SolvedProblem:
 
     def is_only(self) -> Optional[bool]:
         """What the library says of whether the plan is the only best one; None where it can't say."""
+        if self.answer.prices is None and doubles.is_only(self.read_again(), self.answer.objects):
+            return True
         asked = self._priced()
         return None if asked is None else proved.is_only(*asked)
 
-    def next_margin(self) -> Tuple[str, int]:
-        """What the library says of the next best plan, and by how much it is worse; nothing where it can't say."""
+    def next_plan(self) -> Tuple[str, Optional[Tuple[Any, Any, Number]]]:
+        """What the library says of the next best plan, and its rows, columns and cost; nothing where it can't say."""
         asked = self._priced()
-        return ("", 0) if asked is None else proved.next_margin(*asked)
+        if asked is None:
+            return "", None
+        problem, answer = asked
+        code, objects = proved.next_objects(problem, answer)
+        if code != "BEST":
+            return code, None
+        rows, columns = proved.pairs_of(problem, answer._replace(objects=objects))
+        cost = sum_of(problem, ratios_of(problem, costs_of_pairs(problem, rows, columns)))
+        return code, (numbers(rows, self.as_arrays), numbers(columns, self.as_arrays), cost)
 
     def ranking(self, problem: Optional[AssignmentProblem] = None) -> Ranking:
         """The plans of the problem, from this one on. Without a problem it is that of the call, checked."""

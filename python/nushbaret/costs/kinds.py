@@ -1,5 +1,6 @@
 """The costs of a problem, of one of four kinds: whole numbers of 64 bits, whole numbers of any size, exact numbers of
 any kind, and doubles. All of them answer the same questions, so that nobody asks which kind they are."""
+import importlib
 import math
 from array import array
 from fractions import Fraction
@@ -34,6 +35,12 @@ class Costs:
 
     def __len__(self) -> int:
         return len(self.numbers)
+
+    def __getstate__(self) -> Any:
+        return {**self.__dict__, "numpy": self.numpy is not None}
+
+    def __setstate__(self, state: Any) -> None:
+        self.__dict__.update(state, numpy=importlib.import_module("numpy") if state["numpy"] else None)
 
     def of_64_bits(self) -> Any:
         """The numbers as the library takes them; None where these aren't whole numbers of 64 bits."""

@@ -71,6 +71,16 @@ def start(sense: bool, n: int, m: int, costs: Any) -> Tuple[Any, Any]:
     return objects, array("d", [math.ldexp(price, -shift) for price in whole]) if code == "BEST" else prices
 
 
+def is_only(problem: AssignmentProblem, objects: Any) -> bool:
+    """Whether the library proves for a matrix of doubles that a plan is best and no other one as good, nor for the
+    decimals that the doubles print as. If not, nothing is known."""
+    n, m, costs = problem.n_rows, problem.n_columns, problem.matrix_of_doubles()
+    if costs is None or n > m or len(objects) != n:
+        return False
+    plan = search(problem.maximize, n, m, costs.numbers, *start(problem.maximize, n, m, costs.numbers))
+    return plan is not None and plan.by_margin and list(plan.objects) == list(objects)
+
+
 def best_from(problem: AssignmentProblem, level: Level) -> Any:
     """The objects of a plan that the library proves best for all doubles of a matrix, from the plan of a first level;
     None where it doesn't, or where the problem is another one."""

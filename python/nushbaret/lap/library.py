@@ -181,14 +181,14 @@ def worst_pair(sense: bool, n: int, m: int, lists: Sequence[Any], written: Seque
     return code, info
 
 
-def next_margin(sense: bool, n: int, m: int, lists: Sequence[Any], objects: Numbers,
-                prices: Numbers) -> Tuple[str, int]:
-    """What `nushbaret_next` says of a plan and its prices, and by how much the next best plan is worse."""
+def next_objects(sense: bool, n: int, m: int, lists: Sequence[Any], objects: Numbers,
+                 prices: Numbers) -> Tuple[str, Numbers]:
+    """What `nushbaret_next` says of a plan and its prices, and the objects of a next best plan."""
     look_at_time()
     margin, other = ctypes.c_int64(), array("I", bytes(4 * n))
     code, _ = call("next", sense, n, m, *lists, objects, prices,
                    piece=(_ARC_SCANS_FOR_NEXT, *other.buffer_info(), ctypes.addressof(margin)))
-    return code, margin.value
+    return code, other
 
 
 def progress_asked() -> Optional[Callable[[int, int], Any]]:

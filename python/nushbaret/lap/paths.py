@@ -6,6 +6,8 @@ from itertools import repeat
 from typing import Any, Dict, FrozenSet, Iterable, List, NamedTuple, Optional, Sequence, Set, Tuple
 
 INFINITE = float("inf")
+# So many rows tell what reduced costs are usual.
+_SAMPLED_ROWS = 32
 NOBODY: FrozenSet[int] = frozenset()
 
 Choice = Tuple[int, int]
@@ -26,12 +28,12 @@ class Subproblem(NamedTuple):
 
 class PathSearch(NamedTuple):
     """A search for a shortest alternating path: its length, None where none was found; the row that takes each column,
-    by which column each row was reached, and how far columns are (below 0: closed)."""
+    by which column each row was reached, and how far the columns are that were reached."""
 
     length: Optional[int]
     taker: Dict[int, int]
     reached: Dict[int, int]
-    far: List[Any]
+    far: Dict[int, Any]
 
 
 class Paths:
@@ -41,6 +43,13 @@ class Paths:
     def __init__(self, n_columns: int, lists: List[Any], rows_out: bool, columns_out: bool):
         self.n_rows, self.n_columns, self.rows_out, self.columns_out = len(lists), n_columns, rows_out, columns_out
         self.lists = lists + [(range(n_columns if columns_out else 0), repeat(0))]
+
+    def usual_bound(self, rows: List[int], columns: List[int], count: int) -> int:
+        """A reduced cost up to which a row has about so many pairs: by some of the rows."""
+        some = range(0, self.n_rows, max(1, self.n_rows // _SAMPLED_ROWS))
+        found: List[int] = heapq.nsmallest(count * len(some), (cost - columns[column] - rows[row] for row in some
+                                                    for column, cost in zip(*self.lists[row])))
+        return found[-1] if found else 0
 
     def within(self, rows: List[int], columns: List[int], most: int, numpy: Any = None) -> "Paths":
         """The paths along pairs of a reduced cost of at most so much: all that are no longer."""
@@ -62,9 +71,9 @@ class Paths:
         choices = zip(*self.lists[row])
         return [*choices, (self.n_columns, 0)] if self.rows_out and row < self.n_rows else choices
 
-    def closed(self, part: Subproblem) -> List[int]:
+    def closed(self, part: Subproblem) -> Set[int]:
         """The columns of the rows that a part keeps."""
-        return [column for column in part.columns[:part.first] if column < self.n_columns]
+        return {column for column in part.columns[:part.first] if column < self.n_columns}
 
     def holders(self, part: Subproblem) -> List[int]:
         """The row of each column, which is the dummy row for columns that are out."""
@@ -88,14 +97,12 @@ class Paths:
                      if cost - base == part.column_duals[column] and column not in part.banned
                      and (column not in taken or column == self.n_columns)), 0)
 
-    def search(self, part: Subproblem, holder: List[int], closed: List[int], row: int, choices: Iterable[Choice],
+    def search(self, part: Subproblem, holder: List[int], closed: Set[int], row: int, choices: Iterable[Choice],
                 most: float) -> PathSearch:
         """The shortest path of at most a length by which a row leaves its column for one of some choices (Dijkstra
         1959)."""
         target, rows, columns = part.columns[row], part.row_duals, part.column_duals
-        far: List[Any] = [INFINITE] * (self.n_columns + 1)
-        for column in closed:
-            far[column] = -INFINITE
+        far: Dict[int, Any] = {}
         taker: Dict[int, int] = {}
         reached: Dict[int, int] = {}
         heap: List[Tuple[int, int]] = []
@@ -103,7 +110,7 @@ class Paths:
         def go(taking: int, base: int, choices: Iterable[Choice]) -> None:
             for column, cost in choices:
                 length = base + cost - columns[column]
-                if length < far[column] and length <= most:
+                if length <= most and length < far.get(column, INFINITE) and column not in closed:
                     far[column], taker[column] = length, taking
                     heapq.heappush(heap, (length, column))
 
@@ -119,7 +126,7 @@ class Paths:
                     reached[other] = column
                     go(other, length - rows[other], self.choices(other))
             # No way is shorter than what was left last.
-            if far[target] == length:
+            if far.get(target) == length:
                 return PathSearch(length, taker, reached, far)
         return PathSearch(None, taker, reached, far)
 
@@ -147,8 +154,8 @@ class Paths:
         if whole:
             rows, columns = rows.copy(), columns.copy()
             rows[row] += whole
-            for column, length in enumerate(found.far):
-                if 0 <= length < whole:
+            for column, length in found.far.items():
+                if length < whole:
                     columns[column] -= whole - length
             for other, column in found.reached.items():
                 rows[other] += max(whole - found.far[column], 0)
@@ -156,7 +163,7 @@ class Paths:
 
     def first_of_its_cost(self, part: Subproblem) -> Subproblem:
         """The part with that one of its best plans whose columns come first, row by row."""
-        plan, closed = _TightPlan(self, part), set(self.closed(part))
+        plan, closed = _TightPlan(self, part), self.closed(part)
         for row in range(part.first, self.n_rows):
             banned = part.banned if row == part.first else NOBODY
             base = part.row_duals[row]

@@ -153,11 +153,10 @@ def is_only(problem: AssignmentProblem, best: Assignment) -> Optional[bool]:
     return {"BEST": True, "TIED": False}.get(code)
 
 
-def next_margin(problem: AssignmentProblem, best: Assignment) -> Tuple[str, int]:
-    """What `nushbaret_next` says of an answer, and by how much the next best plan is worse; nothing where it can't be
-    asked."""
+def next_objects(problem: AssignmentProblem, best: Assignment) -> Tuple[str, Any]:
+    """What `nushbaret_next` says of an answer, and the objects of a next best plan; nothing where it can't be asked."""
     about = _asked_about(problem, best)
-    return ("", 0) if about is None else library.next_margin(*about)
+    return ("", None) if about is None else library.next_objects(*about)
 
 
 def best_of(asked: Instance) -> Assignment:

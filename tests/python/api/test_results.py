@@ -65,7 +65,7 @@ class Changed(unittest.TestCase):
                 for form in forms_of(costs):
                     result = nushbaret.solve(form)
                     fill(form, value)
-                    for call in (lambda: result.without(0, 0), result.next_best, lambda: result.is_unique):
+                    for call in (lambda: result.without(0, 0), result.next_best, result.is_unique):
                         with self.assertRaisesRegex(ValueError, CHANGED):
                             call()
                     self.assertFalse(result.verify())
@@ -145,7 +145,7 @@ class Kept(unittest.TestCase):
     def described(self, result):
         rows, columns = list(map(int, result.rows)), list(map(int, result.columns))
         return (rows, columns, result.cost, result.row_duals, result.column_duals, result.prices, result.pairs,
-                result.is_unique, bool(result.verify()), str(result.next_best()), list(result.unmatched_rows),
+                result.is_unique(), bool(result.verify()), str(result.next_best()), list(result.unmatched_rows),
                 list(result.unmatched_columns), repr(result))
 
     def shown(self, result):
@@ -172,9 +172,9 @@ class Kept(unittest.TestCase):
                     with self.assertRaisesRegex(ValueError, r"a pickled result has no costs: .* with_costs\(costs\)"):
                         call()
             with self.assertRaisesRegex(ValueError, "a pickled result has no costs"):
-                fresh.is_unique
-            unique = result.is_unique
-            self.assertIs(pickle.loads(pickle.dumps(result)).is_unique, unique)
+                fresh.is_unique()
+            unique = result.is_unique()
+            self.assertIs(pickle.loads(pickle.dumps(result)).is_unique(), unique)
 
     def test_given_its_costs_again(self):
         forms = [*forms_of([[0.1, 0.7, 1e15], [0.25, 3, 1 / 3]]), *forms_of([[4.0, 1, 3], [2, 0, 5], [3, 2, 2]])]
@@ -515,7 +515,7 @@ class Forms(unittest.TestCase):
                 for place, row in enumerate(after):
                     costs[place][:] = row
                 try:
-                    self.assertEqual((result.is_unique, result.next_best().cost), (unique, next_cost), (before, after))
+                    self.assertEqual((result.is_unique(), result.next_best().cost), (unique, next_cost), (before, after))
                 except ValueError as fault:
                     self.assertIn("the costs were changed after the call", str(fault))
                     self.assertEqual(before, [[-1.0, 2.5]])

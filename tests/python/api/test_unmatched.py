@@ -90,7 +90,7 @@ class Unmatched(unittest.TestCase):
                 self.assertTrue(result.verify() and result.verify(case.form) and result.verdict)
                 other = result.next_best()
                 if other is not None:
-                    self.assertEqual(Fraction(other.cost) == case.least(), not result.is_unique)
+                    self.assertEqual(Fraction(other.cost) == case.least(), not result.is_unique())
                 if number % 5 == 0:
                     self.judge_again(case, result)
 

@@ -29,7 +29,7 @@ def outcome(call, *given, **named):
 
 def plan(result):
     """The cost of a result, and whether its own checks agree with it."""
-    return Fraction(result.cost), len(result.rows), bool(result.verify()), result.is_unique
+    return Fraction(result.cost), len(result.rows), bool(result.verify()), result.is_unique()
 
 
 def cost_of(rows, found):
@@ -283,7 +283,7 @@ class Views(unittest.TestCase):
         for form in forms:
             for maximize, wanted, other in (True, 3, LEAST + 5), (False, LEAST + 5, 3):
                 result = nushbaret.solve(form, maximize)
-                self.assertEqual((result.cost, bool(result.verify()), result.is_unique, result.next_best().cost),
+                self.assertEqual((result.cost, bool(result.verify()), result.is_unique(), result.next_best().cost),
                                  (wanted, True, True, other))
                 self.assertEqual([plan.cost for plan in nushbaret.k_best(form, 9, maximize)], [wanted, other])
                 self.assertEqual(result.without(*result.pairs[0]).cost, other)

@@ -105,7 +105,7 @@ class Small(unittest.TestCase):
                               ([[Decimal("1E-500"), 2], [1, Decimal("1E+500")]], 3),
                               ([[Fraction(1, 3), Fraction(1, 3) + Fraction(1, 10**30)], [0, 0]], Fraction(1, 3))):
             result = nushbaret.solve(costs)
-            self.assertEqual((result.cost, bool(result.verify()), result.is_unique), (wanted, True, True))
+            self.assertEqual((result.cost, bool(result.verify()), result.is_unique()), (wanted, True, True))
 
     def test_all_digits(self):
         """A context of few digits changes nothing."""
@@ -154,8 +154,8 @@ class OtherCalls(unittest.TestCase):
             other = result.next_best()
             self.assertEqual(None if other is None else self.pairs_of(other, sign, n_rows, n_columns),
                              others[0] if others else None)
-            self.assertEqual(result.is_unique, not others or others[0][0] != own[0])
-            ties += not result.is_unique
+            self.assertEqual(result.is_unique(), not others or others[0][0] != own[0])
+            ties += not result.is_unique()
             self.hold_bottleneck(form, exact, maximize, sign, wanted, n_columns)
             self.hold_without(result, exact, sign, wanted)
             columns = [None if column == n_columns else column for column in wanted[-1][1]]

@@ -117,8 +117,8 @@ class Small(unittest.TestCase):
                 for own in result, pickle.loads(pickle.dumps(result)):
                     self.assertEqual(self.form_of(own), self.form_of(longer))
                 if turn % 7 == 0 and form is costs:
-                    self.assertEqual((result.is_unique, result.unmatched_rows == longer.unmatched_rows),
-                                     (longer.is_unique, True))
+                    self.assertEqual((result.is_unique(), result.unmatched_rows == longer.unmatched_rows),
+                                     (longer.is_unique(), True))
 
     def form_of(self, result):
         kinds = [type(values) for values in (result.cost, result.rows,
