@@ -72,8 +72,8 @@ def start(sense: bool, n: int, m: int, costs: Any) -> Tuple[Any, Any]:
 
 
 def is_only(problem: AssignmentProblem, objects: Any) -> bool:
-    """Whether the library proves for a matrix of doubles that a plan is best and no other one as good, nor for the
-    decimals that the doubles print as. If not, nothing is known."""
+    """Whether the library proves for a matrix of doubles that a plan is best and no other one as good, also for the
+    decimals that they print as. If not, nothing is known."""
     n, m, costs = problem.n_rows, problem.n_columns, problem.matrix_of_doubles()
     if costs is None or n > m or len(objects) != n:
         return False

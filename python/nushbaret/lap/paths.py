@@ -6,7 +6,7 @@ from itertools import repeat
 from typing import Any, Dict, FrozenSet, Iterable, List, NamedTuple, Optional, Sequence, Set, Tuple
 
 INFINITE = float("inf")
-# So many rows tell what reduced costs are usual.
+# So many rows show what reduced costs are usual.
 _SAMPLED_ROWS = 32
 NOBODY: FrozenSet[int] = frozenset()
 
