@@ -220,7 +220,7 @@ impl Growth {
     // Labels the objects that a new threshold reaches, up to one without an owner.
     fn label_reached(&mut self) -> Result<u32, AllocError> {
         for k in 0..self.least.len() {
-            let least = self.least[k];
+            let least = self.least.get(k).copied().unwrap_or(LABELLED);
             if least != LABELLED && least <= self.threshold && self.label(place_at(k))? {
                 return Ok(place_at(k));
             }

@@ -40,6 +40,10 @@ def sum_of(shape: AssignmentProblem, ratios: Sequence[Ratio]) -> Number:
     return shape.costs.total(ratios)
 
 
+def _are_equal(one: Ratio, other: Ratio) -> bool:
+    return one[0] * other[1] == other[0] * one[1]
+
+
 class SolvedProblem:
     """A problem that a call solved: where its costs are, the problem without its lists, the library's answer, the
     costs of the plan's pairs, as they were at the call, and whether the caller gets arrays."""
@@ -71,8 +75,7 @@ class SolvedProblem:
         if (problem.n_rows, problem.n_columns) != (self.shape.n_rows, self.shape.n_columns):
             raise ValueError(CHANGED)
         now = costs_of_pairs(problem, *self.pairs)
-        if None in now or [Fraction(*problem.costs.ratio(cost)) for cost in now] != [Fraction(*ratio)
-                                                                                     for ratio in self.ratios]:
+        if None in now or not all(map(_are_equal, ratios_of(problem, now), self.ratios)):
             raise ValueError(CHANGED)
         return problem
 
