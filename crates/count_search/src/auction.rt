@@ -51,6 +51,8 @@ pub struct Auction {
     pub tournament: Tournament,
     pub offers: Vec<Offer>,
     pub groups: Groups,
+    /// The columns of which the dummy row takes slots.
+    pub touched: Vec<u32>,
     /// Where the offer of a group stands.
     pub places: Vec<u32>,
 }
@@ -103,6 +105,7 @@ impl Auction {
             tournament: Tournament::new(alloc, count, is_needed)?,
             offers: Vec::new(alloc),
             groups,
+            touched: Vec::new(alloc),
             places: vec![in alloc; 0u32; sizes.columns]?,
         })
     }
@@ -112,9 +115,9 @@ impl Auction {
         place_at(self.hands.len())
     }
 
-    // The lowest slot of a column that a row holds.
+    /// The lowest slot of a column that a row holds.
     #[inline(always)]
-    fn lowest_held(&self, column: usize) -> i64 {
+    pub fn lowest_held(&self, column: usize) -> i64 {
         match self.slots.get(column) {
             Some(slots) => match slots.first() {
                 Some(slot) => slot.level,

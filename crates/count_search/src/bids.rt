@@ -207,61 +207,57 @@ impl Auction {
         Ok(())
     }
 
-    /// The dummy row bids until it holds as many slots as it needs.
-    pub fn bid_dummy(&mut self, state: &mut State) {
-        for _turn in self.bids..=self.terms.budget {
-            if self.dummy_hands == 0 || self.is_failed {
-                return;
-            }
-            self.bids = self.bids.wrapping_add(1);
+    /// All free hands of the dummy row bid at once, each up to the best that none of them takes.
+    pub fn bid_dummy(&mut self, state: &mut State) -> Result<(), AllocError> {
+        self.touched.clear();
+        let mut last = 0i64;
+        let turns = self.dummy_hands.saturating_add(self.slots.len() as u64);
+        for _turn in 0..turns {
             let (column, best) = self.tournament.best();
-            if best >= OUT_OF_REACH {
-                self.is_failed = true;
-                return;
+            if self.dummy_hands == 0 || best >= OUT_OF_REACH {
+                break;
             }
-            let second = self.tournament.runner_up(column);
-            let level = self.capped(best, second).wrapping_add(self.terms.slackness);
-            self.take_cheaper(state, column, level);
+            last = best;
+            self.touched.push(place_at(column))?;
+            self.take_cheapest(state, column);
         }
+        self.bids = self.bids.wrapping_add(self.touched.len() as u64);
+        self.is_failed = self.is_failed || self.dummy_hands > 0;
+        let left = self.tournament.best().1;
+        let level = self.capped(last, left).wrapping_add(self.terms.slackness);
+        for turn in 0..self.touched.len() {
+            let column = count_at(self.touched.as_slice(), turn) as usize;
+            self.set_dummy_level(state, column, level);
+        }
+        Ok(())
     }
 
-    // The dummy row takes as many slots of a column as are cheaper than the level.
-    fn take_cheaper(&mut self, state: &mut State, column: usize, level: i64) {
-        for _slot in 0..u64::from(count_at(self.dummy_most.as_slice(), column)).saturating_add(2) {
-            let held = count_at(self.dummy_held.as_slice(), column);
-            let is_open = held < count_at(self.dummy_most.as_slice(), column);
-            let is_cheaper = state.price(column) < level;
-            if self.dummy_hands == 0 || !is_open || !is_cheaper || self.is_failed {
-                return;
-            }
-            if held > 0 && price_at(self.dummy_levels.as_slice(), column) < level {
-                set_price(self.dummy_levels.as_mut_slice(), column, level);
-            }
-            self.take_for_dummy(state, column, level);
-            self.reprice(state, column);
-        }
+    fn set_dummy_level(&mut self, state: &mut State, column: usize, level: i64) {
+        set_price(self.dummy_levels.as_mut_slice(), column, level);
+        self.reprice(state, column);
     }
 
-    // Free slots, or the lowest one that a row holds, if they are cheaper than the level.
-    fn take_for_dummy(&mut self, state: &mut State, column: usize, level: i64) {
-        let lowest = match self.slots.get(column) {
-            Some(slots) => slots.first(),
-            None => None,
-        };
-        let held = match lowest {
-            Some(slot) => slot.level,
-            None => FAR,
-        };
+    // The dummy row takes the cheapest slots of a column, unless they are its own, and its slots there are out
+    // of reach until all hands have bid.
+    fn take_cheapest(&mut self, state: &mut State, column: usize) {
+        let price = state.price(column);
+        let is_own = count_at(self.dummy_held.as_slice(), column) > 0
+            && price_at(self.dummy_levels.as_slice(), column) <= price;
+        if !is_own {
+            self.take_for_dummy(state, column);
+        }
+        self.set_dummy_level(state, column, FAR);
+    }
+
+    // Free slots, or the lowest one that a row holds.
+    fn take_for_dummy(&mut self, state: &mut State, column: usize) {
         let free = count_at(self.free.as_slice(), column);
         let first = price_at(self.first_prices.as_slice(), column);
-        if free > 0 && first < level && first <= held {
+        if free > 0 && first <= self.lowest_held(column) {
             self.take_free(column, free);
-        } else if held < level {
-            self.put_out_lowest(state, column);
         } else {
-            return;
+            self.put_out_lowest(state, column);
         }
-        set_price(self.dummy_levels.as_mut_slice(), column, level);
     }
 
     fn take_free(&mut self, column: usize, free: u32) {

@@ -143,7 +143,7 @@ impl Auction {
                 return Ok(Ended::Settled);
             };
             if place == self.dummy() {
-                self.bid_dummy(state);
+                self.bid_dummy(state)?;
             } else {
                 self.bid_row(problem, state, place)?;
             }

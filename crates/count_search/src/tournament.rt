@@ -95,19 +95,4 @@ impl Tournament {
         let column = count_at(self.winners.as_slice(), 1);
         (column as usize, self.key(column))
     }
-
-    /// The least price of the other columns.
-    pub fn runner_up(&self, column: usize) -> i64 {
-        let mut second = FAR;
-        let mut node = self.leaves.wrapping_add(column);
-        for _level in 0..DEPTH {
-            if node <= 1 {
-                break;
-            }
-            let other = count_at(self.winners.as_slice(), node ^ 1);
-            second = second.min(self.key(other));
-            node /= 2;
-        }
-        second
-    }
 }
