@@ -11,7 +11,7 @@ ghost use Rattle.block_checker.specs.Sums.{AreLeastSums};
 ghost use Rattle.c_blocks.specs.Blocks.{IsBlockShown, IsNamed, JudgesBlock, buffers, one_length};
 
 use assign_core::Cost;
-use block_checker::{Looked, first_better, look, own_marks, write_better};
+use block_checker::{first_better, look, own_marks, write_better};
 use c_calls::Fault;
 use c_calls::lists::{Info, Input, judge, lists_of, refuse};
 use cost_lists::{CostLists, Object, Person, Price};
@@ -79,22 +79,20 @@ fn show(
         × (better_persons.new ≡ better_persons.old) × (better_objects.new ≡ better_objects.old)
         × (better_costs.new ≡ better_costs.old) × (info.new ≡ info.old)) }
 {
-    let Looked {
-        least: sums,
-        selected,
-    } = look(alloc, lists, numbers, prices, most)?;
+    let looked = look(alloc, lists, numbers, prices, most)?;
     let marks = own_marks(alloc, lists, objects, numbers, prices)?;
-    let first = first_better(lists, numbers, prices, sums.as_slice());
+    let sums = looked.least.as_slice();
+    let first = first_better(lists, numbers, prices, sums);
     let count = write_better(
         lists,
         numbers,
         prices,
-        selected.as_slice(),
+        looked.selected.as_slice(),
         better_persons,
         better_objects,
         better_costs,
     );
-    least.copy_from_slice(sums.as_slice());
+    least.copy_from_slice(sums);
     own.copy_from_slice(marks.as_slice());
     Ok(report(first, count, info))
 }
