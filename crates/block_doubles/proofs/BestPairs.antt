@@ -1,5 +1,5 @@
 -- The best pair of a row, a pair at a time.
-use Rattle.std.proofs.Common.{◌≡◌, ℕ, ℤ, ◌≤ℤ◌, ◌<◌, ◌+◌, ◌-◌, List, length, false, IsTrue, inl, inr, refl, arith, ap, sym, subst, ◌∙◌}
+use Rattle.std.proofs.Common.{◌≡◌, ℕ, ℤ, ◌≤ℤ◌, ◌<◌, ◌≤◌, ◌+◌, ◌-◌, List, length, false, IsTrue, inl, inr, refl, arith, ap, sym, subst, ◌∙◌}
 use Rattle.std.proofs.lemmas.Bool.{cases_lt}
 use Rattle.std.proofs.lemmas.Int.{ints}
 use mathlib.Core.Bool.{true≢false}
@@ -78,9 +78,9 @@ module _ (sense : Sense) (guess : Best) (row prices : List Float) where
   pub best_more : (k : ℕ) (best result : Best) → k < length row → IsBestFrom sense guess row prices k best →
       IsTrue (is_number (at prices k)) → IsStep sense guess best (k + 1) (at row k) (at prices k) result →
       IsBestFrom sense guess row prices (k + 1) result
-  best_more k best result room (inl a) p (inl s) = let z = a.1 in let some = s.1 in absurd (omega arith)
+  best_more k best result room (inl a) p (inl s) = let z = a.1 in let some = s.1.0 in absurd (omega arith)
   best_more k best result room (inr f) p (inl s) = subst (IsBestFrom sense guess row prices (k + 1)) (sym s.0)
-      (inr (found_more k best f (λ m. let up = f.up_to s.1 in let lt = s.2 m in omega (arith, ints))))
+      (inr (found_more k best f (λ m. let up = f.up_to s.1.0 in let lt = s.1.1 m in omega (arith, ints))))
   best_more k best result room is p (inr l) = lesser_more k best result room is p l
 
   -- pairs above the guess are passed
