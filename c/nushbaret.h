@@ -108,7 +108,7 @@
 extern "C" {
 #endif
 
-#define NUSHBARET_VERSION "5.2.0"
+#define NUSHBARET_VERSION "5.3.0"
 
 /* The sense: the least sum of costs, or the greatest. */
 #define NUSHBARET_MIN 0u
@@ -331,10 +331,11 @@ int32_t nushbaret_bottleneck(uint32_t sense, size_t n, size_t m,
    persons list only objects of a set which is smaller than they are: nushbaret_check_hall over a block returns
    NUSHBARET_HALL, NUSHBARET_HALL_EXTRA or NUSHBARET_HALL_COUNT only where the block's named persons list no object that
    isn't named (`closed_verdicts`, `blocks_forbid`).
-   Which other objects they list, nushbaret_block says of costs under NUSHBARET_MIN or NUSHBARET_MAX: with 10^12 + 1 as the
-   numbers of these persons and -10^12 as those of others, and with 2 * 10^12 + 1 as the prices of the set's objects and 0
-   as those of others, each better pair is one of these persons with an object outside of the set, and there is none only
-   where they list none there (`bounds_show_closed`).
+   Which objects outside of the set they list, nushbaret_block answers; there is no other call for it. Give it 10^12 + 1 as
+   the number of each of these persons and -10^12 as that of each other one, 2 * 10^12 + 1 as the price of each object of the
+   set and 0 as that of each other one, under NUSHBARET_MIN or NUSHBARET_MAX. Then each better pair is one of these persons
+   with an object outside of the set, and there is none only where they list none there (`bounds_show_closed`). With most =
+   m all of them are written, as far as the lists reach.
 
    nushbaret_block looks at n persons of the problem, numbered from 1 in the block, and all m objects. The block's pairs are
    given as for nushbaret_check. objects and numbers have a value for each person: its own object and its number, any

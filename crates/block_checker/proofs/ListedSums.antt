@@ -1,5 +1,5 @@
 -- Least sums of rows and of pairs are those of what persons list.
-use Rattle.std.proofs.Common.{◌≡◌, ℕ, ℤ, pos, ◌+ℤ◌, ◌-◌, ◌+◌, ◌≤ℤ◌, ◌<◌, List, Option, None, Some, IsSome, length, get_or}
+use Rattle.std.proofs.Common.{Result, Ok, Err, OnOk, ◌≡◌, ℕ, ℤ, pos, ◌+ℤ◌, ◌-◌, ◌+◌, ◌≤ℤ◌, ◌<◌, List, Option, None, Some, IsSome, length, get_or}
 use Rattle.std.proofs.Common.{inl, inr, refl, arith, ap, sym, subst, ◌∙◌}
 use Rattle.std.specs.List.{All, Contains}
 use Rattle.std.proofs.lemmas.Int.{ints}
@@ -140,3 +140,12 @@ numbers_least sense rows prices least long h = record {
   long = long;
   each = λ i number. subst (IsLeastSum sense rows prices i) (sym (numbered-index least i (pos 0) (pos 0) number.first (let last = number.last in omega arith))) (h i number);
 }
+
+-- what follows from what a value shows
+pub on_ok : {A E P Q : Type 0} (r : Result A E) → OnOk r P → (P → Q) → OnOk r Q
+on_ok (Ok x) h f = f h
+on_ok (Err e) h f = tt
+
+pub if_any : {A E Q : Type 0} (r : Result A E) → Q → OnOk r Q
+if_any (Ok x) q = q
+if_any (Err e) q = tt

@@ -1,5 +1,5 @@
 // Pairs that are better than their persons' own.
-ghost use Rattle.std.specs.Prelude.{◌≡◌, ◌<◌, ◌≤◌, ◌<ℤ◌, ◌↔◌, ℕ, IsTrue, pos, length, All, IfErr, IfOk, IfSome};
+ghost use Rattle.std.specs.Prelude.{◌≡◌, ◌<◌, ◌≤◌, ◌<ℤ◌, ◌↔◌, ℕ, IsTrue, pos, length, All, IfSome};
 ghost use Rattle.assign_core.specs.declared.sense.Sense.{Sense};
 ghost use Rattle.assign_core.specs.Dense.{rows_cut};
 ghost use Rattle.cost_lists.specs.Exact.{IsPriceInLimits};
@@ -9,12 +9,10 @@ ghost use Rattle.cost_lists.specs.Source.{AreCosts, ArePairs, triples_in};
 ghost use Rattle.block_checker.specs.Pairs.{AreWritten, IsBetterPair};
 ghost use Rattle.block_checker.specs.inside.Reading.{IsRead};
 
-use super::selecting::select;
 use super::selection::Selected;
 use assign_core::Cost;
 use cost_lists::{CostLists, Object, Pairs, Person, Price, Source, part};
 use exact_checker::sum_of;
-use std::alloc::{AllocError, Global};
 
 // A pair with its cost.
 #[derive(Clone, Copy)]
@@ -95,8 +93,12 @@ fn better_pair(
     }
 }
 
-// Writes those of the selected pairs that are better, as far as the lists reach. How many it wrote.
-fn write_selected(
+/// Writes those of the pairs selected by `look` whose sums of cost and price are below their persons' row
+/// numbers, as far as the three lists reach, and says how many. What follows the written part stays.
+///
+/// That each written pair is given and better is proved; which of them are written is only tested. The time is
+/// linear in the selected pairs. It takes no memory.
+pub fn write_better(
     lists: &CostLists<'_>,
     numbers: &[Cost],
     prices: &[Price],
@@ -126,40 +128,4 @@ fn write_selected(
         }
     }
     count
-}
-
-/// Writes pairs whose sums of cost and price are below their persons' row numbers, and says how many:
-/// at most `most` of a person, those of the least sums, in the order of persons, as far as the three
-/// lists reach. `least` has the least sums of `least_sums`. What follows the written part stays.
-///
-/// That each written pair is given and better is proved; which of them are written is only tested.
-/// The time is linear in the costs, and for each better pair in `most`.
-///
-/// # Errors
-/// `AllocError` if memory is refused: then nothing is written.
-pub fn write_better(
-    alloc: Global,
-    lists: &CostLists<'_>,
-    numbers: &[Cost],
-    prices: &[Price],
-    least: &[Cost],
-    most: usize,
-    persons: &mut [Person],
-    objects: &mut [Object],
-    costs: &mut [Cost],
-) -> Result<usize, AllocError>
-    requires persons { length numbers.now ≡ length lists.now.rows }
-    requires objects { length prices.now ≡ lists.now.m }
-    requires in_range { All IsPriceInLimits prices.now }
-    requires objects_long { length objects.old ≡ length persons.old }
-    requires costs_long { length costs.old ≡ length persons.old }
-    ensures written { IfOk result (λ count. AreWritten lists.now prices.now numbers.now count
-        (record { persons = persons.old; objects = objects.old; costs = costs.old })
-        (record { persons = persons.new; objects = objects.new; costs = costs.new })) }
-    ensures stays { IfErr result (λ e. (persons.new ≡ persons.old) × (objects.new ≡ objects.old)
-        × (costs.new ≡ costs.old)) }
-{
-    let selected = select(alloc, lists, numbers, prices, least, most)?;
-    let selected = selected.as_slice();
-    Ok(write_selected(lists, numbers, prices, selected, persons, objects, costs))
 }

@@ -25,7 +25,7 @@ fn all_reach(least: &[Cost], numbers: &[Cost]) -> bool
 
 /// The lowest person that lists an object whose sum of cost and price is below the person's row number,
 /// and its lowest object of this kind. `None` exactly where the row numbers bound all pairs. `least`
-/// has the least sums of `least_sums`; where these don't reach the numbers the costs are read once more.
+/// has the least sums of `look`; where these don't reach the numbers the costs are read once more.
 pub fn first_better(
     lists: &CostLists<'_>,
     numbers: &[Cost],

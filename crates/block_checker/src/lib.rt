@@ -14,6 +14,6 @@ mod selection;
 pub use better::write_better;
 pub use bounded::first_better;
 pub use closed::bounds_show_closed;
-pub use least::least_sums;
+pub use least::{Looked, look};
 pub use marks::own_marks;
-pub use selection::{Selected, Selection, Sums, select_of_row};
+pub use selection::{Selected, Selection, select_of_row};

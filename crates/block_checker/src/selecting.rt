@@ -1,7 +1,7 @@
 // Which pairs of a block are its persons' best ones. Nothing of it has to be right.
-use super::selection::{Selected, Selection, Sums, select_of_row};
+use super::selection::{Selected, Selection, select_of_row};
 use assign_core::{Cost, Sense};
-use cost_lists::{CostLists, Pairs, Price, Source};
+use cost_lists::{Pairs, Price};
 use std::alloc::{AllocError, Global};
 
 // The sum of a cost, turned so that less is better, and a price.
@@ -20,84 +20,90 @@ fn number_at(numbers: &[Cost], place: usize) -> Cost {
     }
 }
 
-// The sums of a row.
-#[derive(Clone, Copy)]
-struct RowSums<'a> {
-    sense: Sense,
-    costs: &'a [Cost],
-    prices: &'a [Price],
+// Sets the sums of a row.
+fn set_sums(sums: &mut [Cost], sense: Sense, costs: &[Cost], prices: &[Price]) {
+    for (sum, (cost, price)) in sums.iter_mut().zip(costs.iter().zip(prices.iter())) {
+        *sum = sum_of(sense, *cost, *price);
+    }
 }
 
-impl Sums for RowSums<'_> {
-    fn count(&self) -> usize {
-        self.costs.len()
+/// The best pairs of one person after another.
+#[derive(Drop)]
+pub struct BestPairs {
+    selection: Selection,
+    // The sums of a row.
+    sums: Vec<Cost>,
+    /// Those of the persons so far.
+    pub selected: Vec<Selected>,
+}
+
+impl BestPairs {
+    /// Nothing is selected yet.
+    pub fn new(alloc: Global) -> BestPairs {
+        BestPairs {
+            selection: Selection::new(alloc),
+            sums: Vec::new(alloc),
+            selected: Vec::new(alloc),
+        }
     }
 
-    fn sum_at(&self, place: usize) -> Cost {
-        sum_of(
-            self.sense,
-            number_at(self.costs, place),
-            number_at(self.prices, place),
+    /// Adds at most `most` pairs of a person whose sums are below its number, those of the least sums. The
+    /// costs are those of its row.
+    pub fn add_row(
+        &mut self,
+        row: usize,
+        sense: Sense,
+        costs: &[Cost],
+        prices: &[Price],
+        number: Cost,
+        most: usize,
+    ) -> Result<(), AllocError> {
+        self.sums.resize(costs.len(), 0)?;
+        set_sums(self.sums.as_mut_slice(), sense, costs, prices);
+        let sums = self.sums.as_slice();
+        select_of_row(
+            &mut self.selected,
+            &mut self.selection,
+            row,
+            sums,
+            number,
+            most,
         )
     }
 
-    fn lower(&self, numbers: &mut [Cost], from: usize) {
-        let (_, costs) = self.costs.split_at(from.min(self.costs.len()));
-        let (_, prices) = self.prices.split_at(from.min(self.prices.len()));
-        for (number, (cost, price)) in numbers.iter_mut().zip(costs.iter().zip(prices.iter())) {
-            *number = (*number).min(sum_of(self.sense, *cost, *price));
+    // Adds the best ones of each person's better pairs.
+    fn add_better(&mut self, better: &Better, most: usize) -> Result<(), AllocError> {
+        let (mut sums, mut places) = (better.sums.as_slice(), better.places.as_slice());
+        let mut start = 0usize;
+        for end in better.ends.iter() {
+            let count = end.wrapping_sub(start);
+            start = *end;
+            let (some, other_sums) = sums.split_at(count.min(sums.len()));
+            let (some_places, other_places) = places.split_at(count.min(places.len()));
+            (sums, places) = (other_sums, other_places);
+            self.selection.best_of(some, Cost::MAX, most)?;
+            for at in self.selection.best.iter() {
+                if let Some(place) = some_places.get(*at) {
+                    self.selected.push(Selected { row: 0, at: *place })?;
+                }
+            }
         }
-    }
-}
-
-// Sums that stand in a list.
-#[derive(Clone, Copy)]
-struct ListedSums<'a> {
-    sums: &'a [Cost],
-}
-
-impl Sums for ListedSums<'_> {
-    fn count(&self) -> usize {
-        self.sums.len()
+        Ok(())
     }
 
-    fn sum_at(&self, place: usize) -> Cost {
-        number_at(self.sums, place)
+    /// Adds at most `most` listed pairs of each person whose sums are below its number, those of the least sums.
+    pub fn add_pairs(
+        &mut self,
+        alloc: Global,
+        sense: Sense,
+        pairs: Pairs<'_>,
+        prices: &[Price],
+        numbers: &[Cost],
+        most: usize,
+    ) -> Result<(), AllocError> {
+        let better = better_of_pairs(alloc, sense, pairs, numbers, prices)?;
+        self.add_better(&better, most)
     }
-
-    fn lower(&self, numbers: &mut [Cost], from: usize) {
-        let (_, sums) = self.sums.split_at(from.min(self.sums.len()));
-        for (number, sum) in numbers.iter_mut().zip(sums.iter()) {
-            *number = (*number).min(*sum);
-        }
-    }
-}
-
-// The best pairs of rows, of those persons whose least sum is below their number.
-fn select_of_rows(
-    alloc: Global,
-    sense: Sense,
-    costs: &[Cost],
-    numbers: &[Cost],
-    prices: &[Price],
-    least: &[Cost],
-    most: usize,
-) -> Result<Vec<Selected>, AllocError> {
-    let (mut selected, mut selection) = (Vec::new(alloc), Selection::new(alloc));
-    let mut rest = costs;
-    for (row, number) in numbers.iter().enumerate() {
-        let (costs, others) = rest.split_at(prices.len().min(rest.len()));
-        rest = others;
-        if number_at(least, row) < *number {
-            let sums = RowSums {
-                sense,
-                costs,
-                prices,
-            };
-            select_of_row(&mut selected, &mut selection, row, &sums, *number, most)?;
-        }
-    }
-    Ok(selected)
 }
 
 // The place of a person or an object.
@@ -201,50 +207,4 @@ fn better_of_pairs(
         }
     }
     Ok(better)
-}
-
-// The best ones of each person's better pairs.
-fn select_of_pairs(
-    alloc: Global,
-    better: &Better,
-    most: usize,
-) -> Result<Vec<Selected>, AllocError> {
-    let (mut selected, mut selection) = (Vec::new(alloc), Selection::new(alloc));
-    let (mut sums, mut places) = (better.sums.as_slice(), better.places.as_slice());
-    let mut start = 0usize;
-    for end in better.ends.iter() {
-        let count = end.wrapping_sub(start);
-        start = *end;
-        let (some, other_sums) = sums.split_at(count.min(sums.len()));
-        let (some_places, other_places) = places.split_at(count.min(places.len()));
-        (sums, places) = (other_sums, other_places);
-        selection.best_of(&ListedSums { sums: some }, Cost::MAX, most)?;
-        for at in selection.best.iter() {
-            if let Some(place) = some_places.get(*at) {
-                selected.push(Selected { row: 0, at: *place })?;
-            }
-        }
-    }
-    Ok(selected)
-}
-
-/// At most `most` pairs of each person whose sums are below its number, those of the least sums.
-pub fn select(
-    alloc: Global,
-    lists: &CostLists<'_>,
-    numbers: &[Cost],
-    prices: &[Price],
-    least: &[Cost],
-    most: usize,
-) -> Result<Vec<Selected>, AllocError> {
-    let sense = lists.sense();
-    match lists.source() {
-        Source::Dense(costs) => {
-            select_of_rows(alloc, sense, costs, numbers, prices, least, most)
-        }
-        Source::Listed(pairs) => {
-            let better = better_of_pairs(alloc, sense, pairs, numbers, prices)?;
-            select_of_pairs(alloc, &better, most)
-        }
-    }
 }

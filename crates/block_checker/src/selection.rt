@@ -1,11 +1,10 @@
-// Which sums of a row are its least ones. Nothing of it has to be right: each pair is looked at once more
+// Which numbers of a list are its least ones. Nothing of it has to be right: each pair is looked at once more
 // before it is written.
 use std::alloc::{AllocError, Global};
+use std::simd::prelude::*;
 
-// At least so many lanes has a row, if it has as many sums; and so many sums has a lane.
-const LANES: usize = 128;
-
-const LANE: usize = 16;
+// At least so many lanes has a list, if it has as many numbers.
+const LANES: usize = 64;
 
 /// A pair by its places: the place of its person and that of its cost in the person's row, or the place
 /// of a listed pair.
@@ -15,33 +14,19 @@ pub struct Selected {
     pub at: usize,
 }
 
-/// The sums of a row, as whole numbers in their order.
-pub trait Sums {
-    /// How many there are.
-    fn count(&self) -> usize;
-
-    /// The sum at a place; any number if there is none.
-    fn sum_at(&self, place: usize) -> i64;
-
-    /// Lowers numbers to the sums from a place on, one after another, as far as both reach.
-    fn lower(&self, numbers: &mut [i64], from: usize);
-}
-
-/// What the search of one row after another needs. A row is cut into lanes: the sums whose places differ
-/// by multiples of one number.
+/// What the search of one list after another needs. A list is cut into lanes: the numbers whose places differ
+/// by multiples of the count of lanes.
 #[derive(Drop)]
 pub struct Selection {
-    // The least sum of each lane.
-    lanes: Vec<i64>,
-    // Sums to be cut.
+    // The least number of each lane; then the numbers that were found.
     few: Vec<i64>,
-    // Places and sums below a bound.
+    // Places and numbers up to a bound.
     found: Vec<(usize, i64)>,
-    /// The places of the least sums.
+    /// The places of the least numbers, rising.
     pub best: Vec<usize>,
 }
 
-// The sums below a bound, and so many that equal it.
+// The numbers below a bound, and so many that equal it.
 #[derive(Clone, Copy)]
 struct Cut {
     bound: i64,
@@ -56,146 +41,114 @@ fn number_at(numbers: &[i64], place: usize) -> i64 {
     }
 }
 
-// Sets what stands at a place, if there is one.
-fn set_at(numbers: &mut [i64], place: usize, number: i64) {
-    if let Some(old) = numbers.get_mut(place) {
-        *old = number;
-    }
-}
-
-// Moves the numbers below a bound to the front of a part, and says where they end. It has no branches.
-fn split(numbers: &mut [i64], from: usize, to: usize, bound: i64) -> usize {
-    let mut end = from;
-    for k in from..to {
-        let (number, other) = (number_at(numbers, k), number_at(numbers, end));
-        set_at(numbers, k, other);
-        set_at(numbers, end, number);
-        end = end.wrapping_add(usize::from(number < bound));
-    }
-    end
-}
-
-// The middle one of three numbers of a part.
-fn middle(numbers: &[i64], from: usize, to: usize) -> i64 {
-    let half = to.wrapping_sub(from) / 2;
-    let a = number_at(numbers, from);
-    let b = number_at(numbers, from.wrapping_add(half));
-    let c = number_at(numbers, to.wrapping_sub(1));
-    a.min(b).max(a.max(b).min(c))
-}
-
-// Cuts off the `most` least ones of the first numbers, or up to so many more (Hoare's quickselect).
-fn cut_off(numbers: &mut [i64], count: usize, most: usize, more: usize) -> Cut {
-    let (mut from, mut to) = (0, count);
-    for _ in 0..count {
-        let bound = middle(numbers, from, to);
-        let mut below = split(numbers, from, to, bound);
-        if below == from {
-            let end = split(numbers, from, to, bound.saturating_add(1));
-            if end >= most {
-                return Cut {
-                    bound,
-                    equal: most.wrapping_sub(from),
-                };
-            }
-            below = end;
+// Lowers each lane to its numbers.
+fn lower(lanes: &mut [i64], numbers: &[i64]) {
+    let mut rest = numbers;
+    for _ in 0..numbers.len() {
+        if rest.is_empty() {
+            break;
         }
-        if below < most {
-            from = below;
-        } else if below.wrapping_sub(most) <= more {
-            return Cut { bound, equal: 0 };
-        } else {
-            to = below;
+        let (some, others) = rest.split_at(lanes.len().min(rest.len()));
+        rest = others;
+        for (lane, number) in lanes.iter_mut().zip(some.iter()) {
+            *lane = (*lane).min(*number);
         }
     }
-    Cut {
-        bound: i64::MAX,
-        equal: 0,
+}
+
+// The number that a sort would put at a place, or the greatest one if there is none.
+fn nth(numbers: &mut [i64], place: usize) -> i64 {
+    if place >= numbers.len() {
+        return i64::MAX;
     }
+    let (_, number, _) = numbers.select_nth_unstable(place);
+    *number
+}
+
+// Cuts off the `most` least numbers.
+fn cut_off(numbers: &mut [i64], most: usize) -> Cut {
+    let bound = nth(numbers, most.wrapping_sub(1));
+    let mut equal = most;
+    for number in numbers.iter() {
+        equal = equal.wrapping_sub(usize::from(*number < bound));
+    }
+    Cut { bound, equal }
+}
+
+// Which of eight numbers are at most a bound, as bits.
+fn bits_up_to(eight: &[i64; 8], bound: i64) -> u64 {
+    i64x8::from_array(*eight)
+        .simd_le(i64x8::splat(bound))
+        .to_bitmask()
 }
 
 impl Selection {
     /// Nothing is found yet.
     pub fn new(alloc: Global) -> Selection {
         Selection {
-            lanes: Vec::new(alloc),
             few: Vec::new(alloc),
             found: Vec::new(alloc),
             best: Vec::new(alloc),
         }
     }
 
-    // Finds the least sum of each lane.
-    fn look_at_lanes<S: Sums>(&mut self, sums: &S, lanes: usize) -> Result<(), AllocError> {
-        self.lanes.clear();
-        self.lanes.resize(lanes, i64::MAX)?;
-        let mut from = 0usize;
-        for _ in 0..sums.count() {
-            if from >= sums.count() {
-                break;
-            }
-            sums.lower(self.lanes.as_mut_slice(), from);
-            from = from.saturating_add(lanes);
+    // A bound below a number, up to which there are at least `most` numbers, if so many are below it.
+    fn bound_of(&mut self, numbers: &[i64], number: i64, most: usize) -> Result<i64, AllocError> {
+        let below = number.saturating_sub(1);
+        if numbers.len() <= most {
+            return Ok(below);
         }
-        Ok(())
-    }
-
-    // A bound up to which at least `most` lanes are, if so many are below the number; else the number.
-    fn bound_of(&mut self, number: i64, most: usize) -> Result<i64, AllocError> {
+        let lanes = LANES.max(most.saturating_mul(2)).min(numbers.len());
         self.few.clear();
-        for least in self.lanes.iter() {
-            if *least < number {
-                self.few.push(*least)?;
-            }
-        }
-        let count = self.few.len();
-        if count <= most {
-            return Ok(number);
-        }
-        Ok(cut_off(self.few.as_mut_slice(), count, most, most / 2).bound)
+        self.few.resize(lanes, i64::MAX)?;
+        lower(self.few.as_mut_slice(), numbers);
+        Ok(nth(self.few.as_mut_slice(), most.wrapping_sub(1)).min(below))
     }
 
-    // Finds the sums of a lane below a bound.
-    fn find_in_lane<S: Sums>(
+    // Finds a number at a place, if it is below the bound of a cut, or one of those that equal it.
+    fn find(&mut self, place: usize, number: i64, cut: &mut Cut) -> Result<(), AllocError> {
+        let is_equal = number == cut.bound && cut.equal > 0;
+        if number < cut.bound || is_equal {
+            cut.equal = cut.equal.wrapping_sub(usize::from(is_equal));
+            self.found.push((place, number))?;
+        }
+        Ok(())
+    }
+
+    // Finds those of eight numbers from a place on whose bits are set.
+    fn find_bits(
         &mut self,
-        sums: &S,
-        lane: usize,
-        bound: i64,
+        eight: &[i64],
+        from: usize,
+        bits: u64,
+        cut: &mut Cut,
     ) -> Result<(), AllocError> {
-        let mut place = lane;
-        for _ in 0..sums.count() {
-            if place >= sums.count() {
+        let mut rest = bits;
+        for _ in 0..eight.len() {
+            if rest == 0 {
                 break;
             }
-            let sum = sums.sum_at(place);
-            if sum < bound {
-                self.found.push((place, sum))?;
-            }
-            place = place.saturating_add(self.lanes.len());
+            let lane = rest.trailing_zeros() as usize;
+            rest &= rest.wrapping_sub(1);
+            self.find(from.wrapping_add(lane), number_at(eight, lane), cut)?;
         }
         Ok(())
     }
 
-    // Finds the sums below a bound.
-    fn find_below<S: Sums>(&mut self, sums: &S, bound: i64) -> Result<(), AllocError> {
+    // Finds the numbers of a cut.
+    fn find_all(&mut self, numbers: &[i64], mut cut: Cut) -> Result<(), AllocError> {
         self.found.clear();
-        for lane in 0..self.lanes.len() {
-            if number_at(self.lanes.as_slice(), lane) < bound {
-                self.find_in_lane(sums, lane, bound)?;
+        let (eights, rest) = numbers.as_chunks::<8>();
+        let mut from = 0usize;
+        for eight in eights.iter() {
+            let bits = bits_up_to(eight, cut.bound);
+            if bits != 0 {
+                self.find_bits(eight.as_slice(), from, bits, &mut cut)?;
             }
+            from = from.wrapping_add(8);
         }
-        Ok(())
-    }
-
-    // Adds sums that equal a bound, until there are `most`.
-    fn find_equal<S: Sums>(&mut self, sums: &S, bound: i64, most: usize) -> Result<(), AllocError> {
-        for place in 0..sums.count() {
-            if self.found.len() >= most {
-                break;
-            }
-            if sums.sum_at(place) == bound {
-                self.found.push((place, bound))?;
-            }
+        for (place, number) in rest.iter().enumerate() {
+            self.find(from.wrapping_add(place), *number, &mut cut)?;
         }
         Ok(())
     }
@@ -205,65 +158,52 @@ impl Selection {
         if self.found.len() <= most {
             return Ok(Cut {
                 bound: i64::MAX,
-                equal: 0,
+                equal: most,
             });
         }
         self.few.clear();
-        for (_, sum) in self.found.iter() {
-            self.few.push(*sum)?;
+        for (_, number) in self.found.iter() {
+            self.few.push(*number)?;
         }
-        let count = self.few.len();
-        Ok(cut_off(self.few.as_mut_slice(), count, most, 0))
+        Ok(cut_off(self.few.as_mut_slice(), most))
     }
 
-    // Keeps what is cut off, by places.
+    // Keeps what is cut off.
     fn keep(&mut self, cut: Cut) -> Result<(), AllocError> {
         let mut equal = cut.equal;
-        for (place, sum) in self.found.iter() {
-            let is_equal = *sum == cut.bound && equal > 0;
-            if *sum < cut.bound || is_equal {
+        for (place, number) in self.found.iter() {
+            let is_equal = *number == cut.bound && equal > 0;
+            if *number < cut.bound || is_equal {
                 equal = equal.wrapping_sub(usize::from(is_equal));
                 self.best.push(*place)?;
             }
         }
-        self.best.sort_unstable();
         Ok(())
     }
 
-    /// Finds the places, rising, of the `most` least sums below a number.
-    pub fn best_of<S: Sums>(
-        &mut self,
-        sums: &S,
-        number: i64,
-        most: usize,
-    ) -> Result<(), AllocError> {
+    /// Finds the places, rising, of the `most` least numbers below one; of equal ones the first.
+    pub fn best_of(&mut self, numbers: &[i64], number: i64, most: usize) -> Result<(), AllocError> {
         self.best.clear();
         if most == 0 {
             return Ok(());
         }
-        let count = sums.count();
-        let lanes = LANES.max(count / LANE).max(most.saturating_mul(4));
-        self.look_at_lanes(sums, lanes.min(count))?;
-        let bound = self.bound_of(number, most)?;
-        self.find_below(sums, bound)?;
-        if bound < number && self.found.len() < most {
-            self.find_equal(sums, bound, most)?;
-        }
+        let bound = self.bound_of(numbers, number, most)?;
+        self.find_all(numbers, Cut { bound, equal: most })?;
         let cut = self.cut_found(most)?;
         self.keep(cut)
     }
 }
 
-/// Adds the places of the `most` least sums of a row below a number.
-pub fn select_of_row<S: Sums>(
+/// Adds the places of the `most` least numbers of a row below one.
+pub fn select_of_row(
     selected: &mut Vec<Selected>,
     selection: &mut Selection,
     row: usize,
-    sums: &S,
+    numbers: &[i64],
     number: i64,
     most: usize,
 ) -> Result<(), AllocError> {
-    selection.best_of(sums, number, most)?;
+    selection.best_of(numbers, number, most)?;
     for at in selection.best.iter() {
         selected.push(Selected { row, at: *at })?;
     }

@@ -5,6 +5,7 @@
 
 mod better;
 mod finite;
+mod guessing;
 mod least;
 mod looking;
 mod marks;

@@ -1,7 +1,7 @@
 // Which pairs are their persons' best ones, by rounded sums. Nothing of it has to be right: each pair is
 // looked at once more, exactly, before it is written.
 use assign_core::Sense;
-use block_checker::{Selected, Selection, Sums, select_of_row};
+use block_checker::{Selected, Selection, select_of_row};
 use cost_lists::Object;
 use double_checker::{is_number, is_sum_less, turned};
 use std::alloc::{AllocError, Global};
@@ -39,40 +39,26 @@ fn is_below(sense: Sense, cost: f64, price: f64, number_cost: f64, number_price:
     is_sum_less(cost, price, number_cost, number_price)
 }
 
-// The ranks of a row's rounded sums.
-#[derive(Clone, Copy)]
-struct RowSums<'a> {
-    sense: Sense,
-    costs: &'a [f64],
-    prices: &'a [f64],
-    number_cost: f64,
-    number_price: f64,
-    // That of the person's number.
-    number: i64,
+// Sets the ranks of a row's rounded sums.
+fn set_ranks(ranks: &mut [i64], sense: Sense, costs: &[f64], prices: &[f64]) {
+    for (of_sum, (cost, price)) in ranks.iter_mut().zip(costs.iter().zip(prices.iter())) {
+        *of_sum = rank(turned(sense, *cost) + *price);
+    }
 }
 
-impl Sums for RowSums<'_> {
-    fn count(&self) -> usize {
-        self.costs.len()
-    }
+// A person's row number.
+#[derive(Clone, Copy)]
+struct Number {
+    cost: f64,
+    price: f64,
+    rank: i64,
+}
 
-    // The greatest number for a sum that rounds to the person's number and isn't below it.
-    fn sum_at(&self, place: usize) -> i64 {
-        let (cost, price) = (double_at(self.costs, place), double_at(self.prices, place));
-        let sum = rank(turned(self.sense, cost) + price);
-        if sum == self.number
-            && !is_below(self.sense, cost, price, self.number_cost, self.number_price)
-        {
-            return i64::MAX;
-        }
-        sum
-    }
-
-    fn lower(&self, numbers: &mut [i64], from: usize) {
-        let (_, costs) = self.costs.split_at(from.min(self.costs.len()));
-        let (_, prices) = self.prices.split_at(from.min(self.prices.len()));
-        for (number, (cost, price)) in numbers.iter_mut().zip(costs.iter().zip(prices.iter())) {
-            *number = (*number).min(rank(turned(self.sense, *cost) + *price));
+// Sets the greatest rank for each sum that rounds to a number and isn't below it.
+fn lift_equal(ranks: &mut [i64], sense: Sense, costs: &[f64], prices: &[f64], number: Number) {
+    for (of_sum, (cost, price)) in ranks.iter_mut().zip(costs.iter().zip(prices.iter())) {
+        if *of_sum == number.rank && !is_below(sense, *cost, *price, number.cost, number.price) {
+            *of_sum = i64::MAX;
         }
     }
 }
@@ -104,6 +90,7 @@ pub fn select(
     most: usize,
 ) -> Result<Vec<Selected>, AllocError> {
     let (mut selected, mut selection) = (Vec::new(alloc), Selection::new(alloc));
+    let mut ranks = Vec::new(alloc);
     let mut rest = costs;
     for (row, object) in least_objects.iter().enumerate() {
         let (costs, others) = rest.split_at(prices.len().min(rest.len()));
@@ -112,17 +99,16 @@ pub fn select(
         let number_cost = double_at(number_costs, row);
         let number_price = double_at(number_prices, row);
         if is_any_below(sense, prices, *object, least, number_cost, number_price) {
-            let number = rank(turned(sense, number_cost) + number_price);
-            let sums = RowSums {
-                sense,
-                costs,
-                prices,
-                number_cost,
-                number_price,
-                number,
+            let number = Number {
+                cost: number_cost,
+                price: number_price,
+                rank: rank(turned(sense, number_cost) + number_price),
             };
-            let bound = number.saturating_add(1);
-            select_of_row(&mut selected, &mut selection, row, &sums, bound, most)?;
+            ranks.resize(costs.len(), 0)?;
+            set_ranks(ranks.as_mut_slice(), sense, costs, prices);
+            lift_equal(ranks.as_mut_slice(), sense, costs, prices, number);
+            let (ranks, bound) = (ranks.as_slice(), number.rank.saturating_add(1));
+            select_of_row(&mut selected, &mut selection, row, ranks, bound, most)?;
         }
     }
     Ok(selected)

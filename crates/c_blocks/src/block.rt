@@ -11,7 +11,7 @@ ghost use Rattle.block_checker.specs.Sums.{AreLeastSums};
 ghost use Rattle.c_blocks.specs.Blocks.{IsBlockShown, IsNamed, JudgesBlock, buffers, one_length};
 
 use assign_core::Cost;
-use block_checker::{first_better, least_sums, own_marks, write_better};
+use block_checker::{first_better, look, own_marks, write_better};
 use c_calls::Fault;
 use c_calls::lists::{Info, Input, judge, lists_of, refuse};
 use cost_lists::{CostLists, Object, Person, Price};
@@ -47,38 +47,6 @@ fn report(first: Option<(Person, Object)>, count: usize, info: &mut Info) -> i32
     }
 }
 
-// Writes better pairs where there is one.
-fn write_if_any(
-    alloc: Global,
-    lists: &CostLists<'_>,
-    numbers: &[Cost],
-    prices: &[Price],
-    least: &[Cost],
-    most: usize,
-    persons: &mut [Person],
-    objects: &mut [Object],
-    costs: &mut [Cost],
-    is_any: bool,
-) -> Result<usize, AllocError>
-    requires persons { length numbers.now ≡ length lists.now.rows }
-    requires objects { length prices.now ≡ lists.now.m }
-    requires in_range { All IsPriceInLimits prices.now }
-    requires objects_long { length objects.old ≡ length persons.old }
-    requires costs_long { length costs.old ≡ length persons.old }
-    ensures written { IfOk result (λ count. AreWritten lists.now prices.now numbers.now count
-        (record { persons = persons.old; objects = objects.old; costs = costs.old })
-        (record { persons = persons.new; objects = objects.new; costs = costs.new })) }
-    ensures stays { IfErr result (λ e. (persons.new ≡ persons.old) × (objects.new ≡ objects.old)
-        × (costs.new ≡ costs.old)) }
-{
-    if !is_any {
-        return Ok(0);
-    }
-    write_better(
-        alloc, lists, numbers, prices, least, most, persons, objects, costs,
-    )
-}
-
 // Looks at a block, and writes what it shows.
 fn show(
     alloc: Global,
@@ -111,22 +79,20 @@ fn show(
         × (better_persons.new ≡ better_persons.old) × (better_objects.new ≡ better_objects.old)
         × (better_costs.new ≡ better_costs.old) × (info.new ≡ info.old)) }
 {
-    let sums = least_sums(alloc, lists, prices)?;
+    let looked = look(alloc, lists, numbers, prices, most)?;
     let marks = own_marks(alloc, lists, objects, numbers, prices)?;
-    let first = first_better(lists, numbers, prices, sums.as_slice());
-    let count = write_if_any(
-        alloc,
+    let sums = looked.least.as_slice();
+    let first = first_better(lists, numbers, prices, sums);
+    let count = write_better(
         lists,
         numbers,
         prices,
-        sums.as_slice(),
-        most,
+        looked.selected.as_slice(),
         better_persons,
         better_objects,
         better_costs,
-        first.is_some(),
-    )?;
-    least.copy_from_slice(sums.as_slice());
+    );
+    least.copy_from_slice(sums);
     own.copy_from_slice(marks.as_slice());
     Ok(report(first, count, info))
 }

@@ -38,6 +38,40 @@ IsLesser sense best object cost price result =
     ⊎ ((result ≡ record { object = object; cost = cost; price = price }) × IsTrue (is_number cost)
     × (0 < best.object → paid sense cost price ≤ℤ paid sense best.cost best.price))
 
+-- object j stands in a row, at a finite cost
+pub record IsHere (row prices : List Float) (j : ℕ) (c p : Float) : Type 0 where
+  pub first : 0 < j
+  pub within : j ≤ length row
+  pub cost : at row (j - 1) ≡ c
+  pub price : at prices (j - 1) ≡ p
+  pub finite : IsTrue (is_number c)
+  pub price_finite : IsTrue (is_number p)
+
+-- a pair of the row, or none
+abbrev pub IsGuess : List Float → List Float → Best → Type 0
+IsGuess row prices guess = (guess.object ≡ 0) ⊎ IsHere row prices guess.object guess.cost guess.price
+
+-- there is a guess, and a pair that isn't forbidden is above it
+abbrev pub IsAboveGuess : Sense → Best → Float → Float → Type 0
+IsAboveGuess sense guess cost price =
+    (0 < guess.object) × (IsTrue (is_number cost) → paid sense guess.cost guess.price <ℤ paid sense cost price)
+
+-- the best of the guess and two: a pair that is there, and one more
+abbrev pub IsStep : Sense → Best → Best → ℕ → Float → Float → Best → Type 0
+IsStep sense guess best object cost price result =
+    ((result ≡ best) × IsAboveGuess sense guess cost price) ⊎ IsLesser sense best object cost price result
+
+-- a pair of the row, no worse than the guess and the first k
+pub record IsFoundFrom (sense : Sense) (guess : Best) (row prices : List Float) (k : ℕ) (best : Best) : Type 0 where
+  pub here : IsHere row prices best.object best.cost best.price
+  pub least : NoneBelow sense (paid sense best.cost best.price) row prices k
+  pub up_to : 0 < guess.object → paid sense best.cost best.price ≤ℤ paid sense guess.cost guess.price
+
+-- the best of the guess and the first k
+abbrev pub IsBestFrom : Sense → Best → List Float → List Float → ℕ → Best → Type 0
+IsBestFrom sense guess row prices k best =
+    ((best.object ≡ 0) × (guess.object ≡ 0) × NoneFinite row k) ⊎ IsFoundFrom sense guess row prices k best
+
 -- the same of a whole row, without the price
 abbrev pub IsLeastAt : Sense → List Float → List Float → ℕ → Float → Type 0
 IsLeastAt sense row prices j c =

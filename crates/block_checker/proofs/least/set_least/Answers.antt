@@ -6,7 +6,7 @@ use Rattle.cost_lists.specs.Given.{rows_given}
 use Rattle.cost_lists.specs.Source.{AreCosts, ArePairs, IsSource, rows_in, triples_in}
 use Rattle.cost_lists.proofs.GivenRows.{length-rows_given}
 use Rattle.block_checker.specs.Sums.{AreLeastSums}
-use Rattle.block_checker.proofs.ListedSums.{numbers_least, pair_least, row_least}
+use Rattle.block_checker.proofs.ListedSums.{if_any, numbers_least, on_ok, pair_least, row_least}
 use Rattle.block_checker.proofs.least.set_least.Goals as goal
 
 pub returns-in-Dense : goal.returns-in-Dense
@@ -18,12 +18,13 @@ returns-in-Dense c =
     let same : length rows ≡ n = length-rows_cut (length prices) n costs in
     let kept = c.set_of_rows.auto.least in
     let are : AreCosts n (length prices) costs = subst (IsSource n (length prices)) c.in-Dense.is c.requires.given.costs in
+    on_ok c.set_of_rows.result c.set_of_rows.ensures (λ found.
     subst (λ s. AreLeastSums c.args.sense (rows_in c.args.sense n (length prices) s) prices c.set_of_rows.new.least) (sym c.in-Dense.is)
     (numbers_least c.args.sense rows prices c.set_of_rows.new.least (kept ∙ sym same) (λ i number.
     let there = subst (λ k. IsNumber k i) same number in
     let first = there.first in
     let last = there.last in
-    row_least c.args.sense costs prices n are i there (get_or c.set_of_rows.new.least (i - 1) (pos 0)) (c.set_of_rows.ensures (i - 1) (omega arith))))
+    row_least c.args.sense costs prices n are i there (get_or c.set_of_rows.new.least (i - 1) (pos 0)) (found (i - 1) (omega arith)))))
 
 pub returns-in-Listed : goal.returns-in-Listed
 returns-in-Listed c =
@@ -34,9 +35,9 @@ returns-in-Listed c =
     let same : length rows ≡ n = length-rows_given c.args.sense (triples_in pairs) (length prices) 1 n in
     let kept = c.set_of_pairs.auto.least in
     let are : ArePairs n (length prices) pairs = subst (IsSource n (length prices)) c.in-Listed.is c.requires.given.costs in
-    subst (λ s. AreLeastSums c.args.sense (rows_in c.args.sense n (length prices) s) prices c.set_of_pairs.new.least) (sym c.in-Listed.is)
+    if_any c.add_pairs.result (subst (λ s. AreLeastSums c.args.sense (rows_in c.args.sense n (length prices) s) prices c.set_of_pairs.new.least) (sym c.in-Listed.is)
     (numbers_least c.args.sense rows prices c.set_of_pairs.new.least (kept ∙ sym same) (λ i number.
     let there = subst (λ k. IsNumber k i) same number in
     let first = there.first in
     let last = there.last in
-    pair_least c.args.sense pairs prices n are i there (get_or c.set_of_pairs.new.least (i - 1) (pos 0)) (c.set_of_pairs.ensures (i - 1) (omega arith))))
+    pair_least c.args.sense pairs prices n are i there (get_or c.set_of_pairs.new.least (i - 1) (pos 0)) (c.set_of_pairs.ensures (i - 1) (omega arith)))))

@@ -17,7 +17,7 @@ loop-i-preserved c =
     let room : i < length c.loop-i.least = let long = c.loop-i.auto.least in omega arith in
     let whole = part_long m i costs (part_fits (length c.args.least.now) m i costs c.requires.costs.long c.loop-i-test.true) in
     let read : IsLeastOfRow c.args.sense (part_of m i costs) prices (length (part_of m i costs)) result =
-    subst (λ row. IsLeastOfRow c.args.sense row prices (length row) result) c.part.ensures c.least_of_row.ensures in
+    subst (λ row. IsLeastOfRow c.args.sense row prices (length row) result) c.part-row.ensures c.least_of_row.ensures in
     let here = subst (λ k. IsLeastOfRow c.args.sense (part_of m i costs) prices k result) whole read in
     simp to_z-of_z (below_more _ _
     (λ k h. let ne : k ≢ i = omega arith in rw (get_or-set_other c.loop-i.least i k result (pos 0) ne) (c.loop-i.invariant k h))

@@ -1,8 +1,8 @@
 use Rattle.std.proofs.Common.{◌∙◌, sym, rules, SFits, w64}
 use Rattle.std.proofs.lemmas.Int.{to_z-of_z}
 use Rattle.block_checker.proofs.Written.{written_more}
-use Rattle.block_checker.proofs.better.write_selected.Goals as goal
-use Rattle.block_checker.proofs.better.write_selected.Goals.{in-Some+then-count-persons, in_default}
+use Rattle.block_checker.proofs.better.write_better.Goals as goal
+use Rattle.block_checker.proofs.better.write_better.Goals.{in-Some+then-count-persons, in_default}
 
 pub loop-one-preserved : goal.loop-one-preserved
 loop-one-preserved c =

@@ -1,5 +1,5 @@
 use Rattle.block_checker.specs.Pairs.{AreWritten}
-use Rattle.block_checker.proofs.better.write_selected.Given as goal
+use Rattle.block_checker.proofs.better.write_better.Given as goal
 
 abbrev pub invariant-loop-one : goal.invariant-loop-one
 invariant-loop-one l =
