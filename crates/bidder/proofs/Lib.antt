@@ -4,4 +4,5 @@ pub mod Sound
 pub mod Entries
 pub mod Accepted
 pub mod Skips
+pub mod Nears
 pub mod Lanes

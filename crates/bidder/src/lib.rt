@@ -2,6 +2,7 @@
 #![tactic(auto)]
 
 mod law;
+mod near;
 mod offers;
 mod scan;
 mod skipping;

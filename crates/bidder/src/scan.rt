@@ -11,6 +11,7 @@ ghost use Rattle.bidder.specs.declared.skipping.TheConstants.{LANES};
 ghost use Rattle.bidder.specs.BestTwo.{IsBestTwo, best_two, greater_of};
 ghost use Rattle.bidder.specs.inside.Limits.{IsLimit};
 
+use super::near::narrow_best_two;
 use super::skipping::{LANES, none_above};
 use assign_core::{Benefit, Object, Price, Prices};
 
@@ -176,9 +177,9 @@ impl Scan {
     }
 }
 
-/// The best object of a row of pairs, and the second value, in one pass; `None` for an empty row.
-/// It takes no memory.
-pub fn best_two(row: &[(Object, Benefit)], prices: &Prices) -> Option<BestTwo>
+// The best two of a row of pairs, in 128 bits wherever an object changes them; `None` for an empty
+// row.
+fn wide_best_two(row: &[(Object, Benefit)], prices: &Prices) -> Option<BestTwo>
     requires { IsBenefitRow (length prices.now) row.now }
     ensures best { MatchOption result (row.now ≡ []) (IsBestTwo row.now prices.now) }
     ensures only { result ≡ best_two row.now prices.now }
@@ -194,6 +195,19 @@ pub fn best_two(row: &[(Object, Benefit)], prices: &Prices) -> Option<BestTwo>
         scan = scan.read(object, benefit, prices);
     }
     Some(scan.found)
+}
+
+/// The best object of a row of pairs, and the second value; `None` for an empty row. It takes no
+/// memory, and one pass in 64 bits unless the price of one of the best two is `NARROW_END` or more.
+pub fn best_two(row: &[(Object, Benefit)], prices: &Prices) -> Option<BestTwo>
+    requires { IsBenefitRow (length prices.now) row.now }
+    ensures best { MatchOption result (row.now ≡ []) (IsBestTwo row.now prices.now) }
+    ensures only { result ≡ best_two row.now prices.now }
+{
+    match narrow_best_two(row, prices) {
+        Some(found) => Some(found),
+        None => wide_best_two(row, prices),
+    }
 }
 
 /// The best object of a row that lists all objects, given as the benefits of objects 1, 2, .., and
