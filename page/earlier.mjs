@@ -6,7 +6,7 @@ import { hintOf } from "./names.mjs";
 import { Costs, shown } from "./numbers.mjs";
 import { counted } from "./sentences.mjs";
 import { nameOf } from "./sheet.mjs";
-import { hasBounds, ofObject, ofPerson } from "./takes.mjs";
+import { ofObject, ofPerson } from "./takes.mjs";
 import { firstOf, joined, quoted } from "./texts.mjs";
 
 const [CHANGE, GOES, NOT_POSSIBLE] = ["change", "goes", "not possible"];
@@ -221,17 +221,6 @@ export function changesOf(roster, pairs, kept) {
   const impossible = [...gathered(lost, ({ person, why }) => `${person}\n${why}`).values()].map((own) => (
     `${own[0].person}: ${joined(own.map(({ object }) => object))} ${NOT_POSSIBLE} now (${own[0].why})`));
   return { comes, goes, lines: [counts.join(", ") || said("no change"), ...own, ...impossible] };
-}
-
-/** @type {(roster: Roster, pairs: Pair[]) => { isObject: boolean, number: number, had: number, least: number }[]} Who has fewer than it must. */
-export function missingOf(roster, pairs) {
-  if (!hasBounds(roster)) return [];
-  const [had, used] = usesOf(pairs);
-  const of = (/** @type {boolean} */ isObject, /** @type {number} */ number) => ({
-    isObject, number, had: (isObject ? used : had).get(number) || 0, least: (isObject ? ofObject(roster, number) : ofPerson(roster, number)).least,
-  });
-  const all = [...orderOf(roster).map((number) => of(true, number)), ...[...roster.persons.keys()].map((number) => of(false, number))];
-  return all.filter((one) => one.had < one.least);
 }
 
 /** @type {(roster: Roster) => number[]} The objects in the order of groups and of the roster, then those in none. */

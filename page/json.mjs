@@ -6,7 +6,6 @@ import { guarded, quoted, stripped } from "./texts.mjs";
 // Of plans in JSON; those before are read too.
 const FORMAT = 4;
 
-
 /** @type {(value: any) => string} What a value is. */
 function kindOf(value) {
   return value === null ? "null" : said(Array.isArray(value) ? "array" : typeof value);

@@ -1,5 +1,5 @@
 // The plan of a roster, or who is short of what.
-import { changesOf, missingOf, named, orderOf, pairKey } from "./earlier.mjs";
+import { changesOf, named, orderOf, pairKey } from "./earlier.mjs";
 import { freeParts } from "./exchanges.mjs";
 import { said } from "./faults.mjs";
 import { gathered, rising, usesOf } from "./gathered.mjs";
@@ -21,12 +21,13 @@ const MOST_EXCHANGED = 100000;
  * @typedef {import("./earlier.mjs").Pair & { isFixed: boolean }} Pair Numbers from 0, and a cost in the roster's units
  * @typedef {{ pairs: Pair[], cost: bigint, without: number[], unused: number[], swaps: number[][][] | null }} Plan Pairs in the order of persons,
  *   the sum of their costs, who and what has too few, and persons and objects that could change places, where these were looked for
+ * @typedef {{ how: string, count: string, names: string }} Left How who and what has too few is called, how many they are, and their names
  * @typedef {{ max: boolean, fullest: boolean, fixed: import("./earlier.mjs").Pair[], kept: import("./earlier.mjs").OldPlan | null }} Request
  * @typedef {{ plan: Plan | null, sentences: string[], short: { persons: number[], objects: number[] } }} Answer
  */
 
 /** @type {(roster: Roster, request: Request) => Part} What is left to plan around the fixed pairs, with costs that are to be least, and the places of its pairs in the roster. */
-export function countedOf(roster, { max, fixed }) {
+function countedOf(roster, { max, fixed }) {
   const { persons, objects, ofPersons, ofObjects, costs, groups } = roster;
   const nGroups = groups ? groups.names.length : 0;
   const groupOf = objects.map((_, object) => groups?.ofObjects.get(object) ?? nGroups + object);
@@ -131,18 +132,19 @@ export function firstLines(roster, max, { plan, sentences }) {
   return [...sentences, `${max ? "greatest" : "least"} ${title}: ${shown(roster, plan.cost)}`];
 }
 
-/** @type {(roster: Roster, plan: Plan) => { how: string, count: string, names: string }[]} Who and what has too few: how that is called, how many they are, and their names. */
+/** @type {(roster: Roster, plan: Plan) => Left[]} Who and what has too few. */
 export function leftOut(roster, plan) {
-  const [had, used] = usesOf(plan.pairs);
-  const partOf = (/** @type {string} */ name, /** @type {number} */ count, /** @type {number} */ wanted) => hasBounds(roster) || wanted === 1 ? name : `${name} (${count} of ${wanted})`;
-  const missing = missingOf(roster, plan.pairs);
-  const missed = (/** @type {boolean} */ isObject) => missing.filter((one) => one.isObject === isObject)
-    .map((one) => `${(isObject ? roster.objects : roster.persons)[one.number]}: ${one.had} of ${one.least}`);
-  const lists = [
-    { how: "missing", names: missed(true), side: 1 }, { how: "missing", names: missed(false), side: 0 },
-    { how: "without", names: plan.without.map((number) => partOf(roster.persons[number], had.get(number) || 0, ofPerson(roster, number).most)), side: 0 },
-    { how: "unused", names: plan.unused.map((number) => partOf(roster.objects[number], used.get(number) || 0, ofObject(roster, number).most)), side: 1 }];
-  return lists.filter(({ names }) => names.length).map(({ how, names, side }) => (
+  const [persons, objects] = usesOf(plan.pairs).map((counts, side) => {
+    const [names, order] = side ? [roster.objects, orderOf(roster)] : [roster.persons, [...roster.persons.keys()]];
+    const of = (/** @type {number} */ number) => ({ name: names[number], count: counts.get(number) || 0, ...(side ? ofObject : ofPerson)(roster, number) });
+    const missing = hasBounds(roster) ? order.map(of).filter(({ count, least }) => count < least) : [];
+    const left = (side ? plan.unused : plan.without).map(of);
+    return [
+      { how: "missing", side, names: missing.map(({ name, count, least }) => `${name}: ${count} of ${least}`) },
+      { how: side ? "unused" : "without", side, names: left.map(({ name, count, most }) => (
+        hasBounds(roster) || most === 1 ? name : `${name} (${count} of ${most})`)) }];
+  });
+  return [objects[0], ...persons, objects[1]].filter(({ names }) => names.length).map(({ how, names, side }) => (
     { how, count: counted(names.length, roster.titles[side]), names: joined(names) }));
 }
 
