@@ -46,9 +46,8 @@ function notesOn(roster, tables) {
 function tableOf(tables, kind) {
   const own = tables.filter((table) => table.kind === kind);
   if (own.length < 2) return own[0] || null;
-  const fault = new RosterFault(`a second file of this kind (${kind}), after ${own[0].name}: choose what each is`);
-  fault.file = own[1].name;
-  throw fault;
+  const text = `a second file of this kind (${kind}), after ${own[0].name}: choose what each is`;
+  throw Object.assign(new RosterFault(text), { file: own[1].name });
 }
 
 /** @type {(tables: Table[], choices: Choices) => Read} The roster of tables with its counts and groups, and an earlier plan. */

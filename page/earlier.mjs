@@ -46,14 +46,9 @@ export function costsOf(roster) {
   return new Map(roster.costs.map((cost, k) => [pairKey(roster, roster.ofPersons[k], roster.ofObjects[k]), cost]));
 }
 
-/** @type {(numbers: number[], names: string[]) => string} The first twenty names of many. */
-function listed(numbers, names) {
-  return firstOf(numbers.map((number) => names[number]), MOST_SHOWN);
-}
-
 /** @type {(numbers: number[], word: string, names: string[]) => string} How many there are, and the first of their names. */
 export function named(numbers, word, names) {
-  return `${counted(numbers.length, word)} (${listed(numbers, names)})`;
+  return `${counted(numbers.length, word)} (${firstOf(numbers.map((number) => names[number]), MOST_SHOWN)})`;
 }
 
 /** @type {(sheet: import("./sheet.mjs").Sheet, roster: Roster) => Named[]} The pairs of a plan in lines, by names. */
@@ -126,7 +121,6 @@ function costInFile(roster, { cost, line }) {
 /** @type {(roster: Roster, names: string[]) => Roster} The roster with persons that it doesn't have, who take none. */
 function withPersons(roster, names) {
   const fresh = [...new Set(names)].filter((name) => !roster.personNumbers.has(name));
-  if (!fresh.length) return roster;
   /** @type {[string, number][]} */
   const numbers = fresh.map((name, k) => [name, roster.persons.length + k]);
   const gone = new Set(numbers.map(([, number]) => number));
@@ -176,7 +170,7 @@ export function withPast(roster, groups, kept, name) {
  */
 function pastLines(roster, groups, { earlier, name, count, added, passing }) {
   if (!earlier.length) return [said("none before", groups.title, name)];
-  const which = said("before", counted(earlier.length, groups.title), name, listed(earlier, groups.names));
+  const which = said("before", counted(earlier.length, groups.title), name, firstOf(earlier.map((group) => groups.names[group]), MOST_SHOWN));
   const forbidden = [...new Set(added.map(({ person }) => person))].map((person) => {
     const own = added.filter((pair) => pair.person === person).map((pair) => `${roster.objects[pair.object]}, ${shown(roster, pair.cost)}`);
     return said("kept though forbidden", roster.persons[person], own.join("; "));

@@ -18,10 +18,9 @@ const [KEPT, KEPT_CALENDARS] = ["the kept plan", "the kept plan's calendars"];
  * @typedef {import("./answers.mjs").Found} Found
  * @typedef {import("./answers.mjs").Shown} Shown
  * @typedef {import("./files.mjs").Given} Given
- * @typedef {{ begin: number, clock: number }} Run
  */
 
-/** @type {Run | null} */
+/** @type {{ begin: number, clock: number } | null} */
 let run = null;
 /** @type {Worker | null} Answers one question after the other, until one is stopped: what it has run once runs faster. */
 let worker = null;

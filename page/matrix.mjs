@@ -53,11 +53,10 @@ function partsOf({ found: { roster }, least, greatest }) {
 /** @type {(found: Found) => Drawing} */
 function drawingOf(found) {
   const { roster, short } = found;
-  const least = roster.costs.reduce((one, other) => Math.min(one, other), Infinity);
-  const greatest = roster.costs.reduce((one, other) => Math.max(one, other), -Infinity);
-  const span = roster.costs.length ? { least, greatest } : { least: 0, greatest: 0 };
+  const least = roster.costs.reduce((one, other) => Math.min(one, other), roster.costs[0] ?? 0);
+  const greatest = roster.costs.reduce((one, other) => Math.max(one, other), roster.costs[0] ?? 0);
   const chosen = new Set((found.plan?.pairs || []).map(({ person, object }) => pairKey(roster, person, object)));
-  return { found, costs: costsOf(roster), ...span, who: new Set(short.persons), what: new Set(short.objects), chosen };
+  return { found, costs: costsOf(roster), least, greatest, who: new Set(short.persons), what: new Set(short.objects), chosen };
 }
 
 /** @type {(drawing: Drawing, person: number, object: number) => HTMLElement} */

@@ -51,17 +51,9 @@ function countedOf(roster, { max, fixed }) {
   return { counted, places, taken: [] };
 }
 
-/** @type {(roster: Roster, fixed: { object: number }[]) => string} What is planned around, in words. */
-function aroundOf(roster, fixed) {
-  const names = ["the past", "the fixed pairs"].filter((_, k) => fixed.some(({ object }) => roster.past.has(object) === (k === 0)));
-  return names.length ? said("around", names.map((name) => said(name)).join(said("and"))) : "";
-}
-
 /** @type {(library: Library, counted: Counted) => import("./library.mjs").Answer} A best plan with its numbers. */
 function bestOf(library, counted) {
-  if (!counted.ofRows.length && counted.rows.every(({ least }) => !least) && counted.columns.every(({ least }) => !least)) {
-    return { code: "BEST", plan: new Uint8Array(0), rows: counted.rows.map(() => 0n), columns: counted.columns.map(() => 0n) };
-  }
+  if (!counted.rows.length) return { code: "BEST", plan: new Uint8Array(0), rows: [], columns: [] };
   const found = library.solve(counted);
   if (found.code === "MEMORY") throw new NoMemory("memory refused");
   if (!["BEST", "ROWS_LACK", "COLUMNS_LACK"].includes(found.code)) throw new Error(`the library gives no answer: ${found.code}`);
@@ -89,7 +81,9 @@ export function answerOf(roster, request, library) {
   const problem = countedOf(roster, request);
   const whole = bestOf(library, problem.counted);
   const lacks = whole.code === "BEST" ? [] : lacksOf(problem.counted, library);
-  const sentences = lacks.map((lack) => sentence(roster, problem.counted, lack, aroundOf(roster, fixed)));
+  const parts = ["the past", "the fixed pairs"].filter((_, k) => fixed.some(({ object }) => roster.past.has(object) === (k === 0)));
+  const around = parts.length ? said("around", parts.map((name) => said(name)).join(said("and"))) : "";
+  const sentences = lacks.map((lack) => sentence(roster, problem.counted, lack, around));
   const short = { persons: lacks.flatMap((lack) => lack.rows), objects: lacks.flatMap((lack) => lack.columns) };
   if (lacks.length && !fullest) return { plan: null, sentences, short };
   const part = lacks.length ? cutOf(problem, lacks) : problem;

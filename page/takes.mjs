@@ -156,7 +156,7 @@ export function readGroups(sheet, roster) {
   return groups;
 }
 
-/** @type {(title: string, ours: string, others: string[]) => string} A title of the roster; where it has none, the first of other files' that is a name. */
+/** @type {(title: string, ours: string, others: (string | undefined)[]) => string} A title of the roster; where it has none, the first of other files' that is a name. */
 function titled(title, ours, others) {
   const named = others.find((other) => other && isPrintable(other) && !looksLikeNumber(other));
   return title === ours && named ? named : title;
@@ -167,10 +167,7 @@ export function withTakes(roster, tasks, places, groups) {
   const areSums = !tasks?.areRanges && !places?.areRanges;
   const [persons, objects] = [tasks, places].map((counts) => new Map(
     [...counts?.bounds || []].map(([number, own]) => [number, areSums ? { least: 0, most: own.most } : own])));
-  const titles = [
-    titled(roster.titles[0], "person", tasks ? [tasks.title] : []),
-    titled(roster.titles[1], "object", [places, groups].flatMap((own) => own ? ["title" in own && "bounds" in own ? own.title : own.of] : [])),
-    roster.titles[2]];
+  const titles = [titled(roster.titles[0], "person", [tasks?.title]), titled(roster.titles[1], "object", [places?.title, groups?.of]), roster.titles[2]];
   return { ...roster, titles, takes: tasks || places ? { persons, objects, areSums } : null, groups: groups || roster.groups };
 }
 
