@@ -23,24 +23,8 @@ const [MOST_NOTES, MOST_SHOWN_CELLS, MOST_PAIRS, MOST_DRAWN] = [20, 20000, 5000,
  * @typedef {{ person: string, object: string, isFixed: boolean }} Mark A pair that is to be in the plan, or must not be
  * @typedef {{ form: string, comma: boolean, max: boolean, fullest: boolean, past: string }} Choices
  * @typedef {{ files: import("./files.mjs").Given[], choices: Choices, marks: Mark[], module: WebAssembly.Module }} Question
- * @typedef {{ how: string, count: string, names: string }} Left
- * @typedef {{ name: string, kind: string, place: number, isChosen: boolean, count: number, rows: string[][] | null, separator: string }} Shown A
- *   table as the page shows it
- * @typedef {object} Found What the page shows of an answer
- * @property {"found"} kind
- * @property {string} read How much was read
- * @property {string[]} lines The cost, or a sentence for each group that is short
- * @property {string[][]} rows The plan, titles first; nothing where there is none
- * @property {Left[]} left
- * @property {string[]} notes
- * @property {Roster} roster
- * @property {Plan | null} plan
- * @property {OldPlan | null} kept
- * @property {Map<string, string>} calendars Those of an earlier plan, by the names of their files
- * @property {import("./days.mjs").DaySheet | null} sheet
- * @property {{ persons: string[], objects: string[] }} lists
- * @property {{ persons: number[], objects: number[] }} short All who are short
- * @property {Shown[]} tables
+ * @typedef {ReturnType<typeof shownTables>[number]} Shown A table as the page shows it, its rows where they aren't too many
+ * @typedef {ReturnType<typeof foundIn>} Found What the page shows of an answer
  * @typedef {{ kind: "fault", text: string, file: string, line: number, column: number, tables: Shown[] }} Fault
  * @typedef {{ kind: "failure", text: string }} Failure
  * @typedef {{ kind: "progress", text: string }} Progress
@@ -62,9 +46,8 @@ function notesOn(roster, tables) {
 function tableOf(tables, kind) {
   const own = tables.filter((table) => table.kind === kind);
   if (own.length < 2) return own[0] || null;
-  const fault = new RosterFault(`a second file of this kind (${kind}), after ${own[0].name}: choose what each is`);
-  fault.file = own[1].name;
-  throw fault;
+  const text = `a second file of this kind (${kind}), after ${own[0].name}: choose what each is`;
+  throw Object.assign(new RosterFault(text), { file: own[1].name });
 }
 
 /** @type {(tables: Table[], choices: Choices) => Read} The roster of tables with its counts and groups, and an earlier plan. */
@@ -90,7 +73,7 @@ export function readTables(tables, choices) {
 }
 
 /** @type {(read: Read, marks: Mark[]) => Read} The roster without pairs that must not be, and the pairs that are to be in the plan. */
-export function withMarks({ roster, kept, fixed, lines }, marks) {
+function withMarks({ roster, kept, fixed, lines }, marks) {
   const numbered = numbersOf(roster, marks).filter(({ object }) => !roster.past.has(object));
   const barred = new Set(numbered.filter(({ isFixed }) => !isFixed).map(({ key }) => key));
   const left = [...roster.costs.keys()].filter((k) => !barred.has(pairKey(roster, roster.ofPersons[k], roster.ofObjects[k])));
@@ -110,7 +93,7 @@ export function withMarks({ roster, kept, fixed, lines }, marks) {
   return { roster: changed, kept: kept && { ...oldPlanOf(changed, kept.named, false), gone: kept.gone }, fixed: all, lines };
 }
 
-/** @type {(tables: Table[]) => Shown[]} */
+/** @param {Table[]} tables Those of which the page shows the cells, if they aren't too many. */
 function shownTables(tables) {
   return tables.map(({ name, kind, place, isChosen, sheet }) => {
     const width = sheet.rows.reduce((most, { cells }) => Math.max(most, cells.length), 0);
@@ -120,7 +103,12 @@ function shownTables(tables) {
   });
 }
 
-/** @type {(tables: Table[], question: Question, library: import("./library.mjs").Library) => Found} */
+/**
+ * What the page shows of an answer: nothing of a plan where there is none.
+ * @param {Table[]} tables
+ * @param {Question} question
+ * @param {import("./library.mjs").Library} library
+ */
 function foundIn(tables, { choices, marks }, library) {
   const { roster, kept, fixed, lines } = withMarks(readTables(tables, choices), marks);
   const answer = answerOf(roster, { max: choices.max, fullest: choices.fullest, fixed, kept }, library);
@@ -131,7 +119,7 @@ function foundIn(tables, { choices, marks }, library) {
   const shown = sheet || roster.costs.length <= MOST_DRAWN ? roster : { ...roster, ofPersons: [], ofObjects: [], costs: [] };
   const sums = [counted(roster.persons.length, roster.titles[0]), counted(roster.objects.length, roster.titles[1]), counted(roster.costs.length, "pair")];
   return {
-    kind: "found", read: sums.join(", "), lines: firstLines(roster, choices.max, answer), rows: plan ? rowsOf(roster, plan) : [],
+    kind: /** @type {const} */ ("found"), read: sums.join(", "), lines: firstLines(roster, choices.max, answer), rows: plan ? rowsOf(roster, plan) : [],
     left: plan ? leftOut(roster, plan) : [], notes: [...plan ? notesOf(roster, plan, kept) : [], ...lines, ...notesOn(roster, tables)],
     roster: shown, plan, kept, calendars: new Map(calendars?.sheet.rows.map(({ cells: [name, text] }) => [name, text])), sheet,
     lists: plan && plan.pairs.length <= MOST_PAIRS ? listsOf(roster, plan) : { persons: [], objects: [] },

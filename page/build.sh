@@ -6,7 +6,7 @@ set -euo pipefail
 here=$(cd "$(dirname "$0")" && pwd)
 top=$(dirname "$here")
 module=$top/c/out/module.ll
-calls=(check_counts check_shortage counts_from version)
+calls=(check_shortage counts_from version)
 target=wasm32-unknown-unknown
 # Without this the compiler calls functions for divisions of 128 bits.
 divisions=(-mllvm -expand-div-rem-bits=64)

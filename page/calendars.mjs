@@ -6,7 +6,7 @@ import { isPrintable } from "./texts.mjs";
 
 const WIDEST = 75;
 // The UUID of the names of events, which is that of "urn:nushbaret:plan" in the space of addresses.
-const NAMESPACE = [0x6b, 0xa7, 0xb8, 0x11, 0x9d, 0xad, 0x11, 0xd1, 0x80, 0xb4, 0x00, 0xc0, 0x4f, 0xd4, 0x30, 0xc8];
+const NAMESPACE = [0x3e, 0x18, 0x80, 0x85, 0x28, 0xaf, 0x51, 0x76, 0xa9, 0x58, 0x5d, 0x63, 0x30, 0xdd, 0x49, 0xa8];
 const FORBIDDEN = /[<>:"/\\|?*]/;
 const RESERVED = /^(?:con|prn|aux|nul|conin\$|conout\$|(?:com|lpt)[1-9])$/;
 const MOST_OCTETS = 200;
@@ -21,14 +21,12 @@ const encoder = new TextEncoder();
 
 /** @type {(bytes: Uint8Array) => Uint8Array} The sum SHA-1 of bytes. */
 function sha1(bytes) {
-  const padded = new Uint8Array(Math.ceil((bytes.length + 9) / 64) * 64);
-  padded.set(bytes);
-  padded[bytes.length] = 0x80;
-  const view = new DataView(padded.buffer);
-  view.setUint32(padded.length - 4, bytes.length * 8);
+  const view = new DataView(new ArrayBuffer(Math.ceil((bytes.length + 9) / 64) * 64));
+  [...bytes, 0x80].forEach((byte, k) => view.setUint8(k, byte));
+  view.setUint32(view.byteLength - 4, bytes.length * 8);
   const turn = (/** @type {number} */ word, /** @type {number} */ count) => word << count | word >>> 32 - count;
   let sum = [0x67452301, 0xefcdab89, 0x98badcfe, 0x10325476, 0xc3d2e1f0];
-  for (let block = 0; block < padded.length; block += 64) {
+  for (let block = 0; block < view.byteLength; block += 64) {
     const words = Array.from({ length: 16 }, (_, k) => view.getInt32(block + 4 * k));
     for (let k = 16; k < 80; k++) words.push(turn(words[k - 3] ^ words[k - 8] ^ words[k - 14] ^ words[k - 16], 1));
     let [a, b, c, d, e] = sum;
@@ -37,24 +35,19 @@ function sha1(bytes) {
         : k < 60 ? (b & c | b & d | c & d) + 0x8f1bbcdc : (b ^ c ^ d) + 0xca62c1d6;
       [a, b, c, d, e] = [turn(a, 5) + mixed + e + word | 0, a, turn(b, 30), c, d];
     });
-    sum = [sum[0] + a | 0, sum[1] + b | 0, sum[2] + c | 0, sum[3] + d | 0, sum[4] + e | 0];
+    sum = [a, b, c, d, e].map((own, k) => sum[k] + own | 0);
   }
   const found = new DataView(new ArrayBuffer(20));
   sum.forEach((word, k) => found.setInt32(4 * k, word));
   return new Uint8Array(found.buffer);
 }
 
-/** @type {(space: ArrayLike<number>, name: string) => Uint8Array} The UUID of a name, by its sum. */
-function uuid5(space, name) {
-  const found = sha1(Uint8Array.from([...Array.from(space), ...encoder.encode(name)])).slice(0, 16);
+/** @type {(person: string, object: string, day: number) => string} The UUID of an event, by its sum. */
+function uidOf(person, object, day) {
+  const found = sha1(Uint8Array.from([...NAMESPACE, ...encoder.encode(`${person}\n${object}\n${isoOf(day)}`)])).slice(0, 16);
   found[6] = found[6] & 15 | 0x50;
   found[8] = found[8] & 63 | 128;
-  return found;
-}
-
-/** @type {(person: string, object: string, day: number) => string} */
-function uidOf(person, object, day) {
-  const digits = Array.from(uuid5(uuid5(NAMESPACE, "urn:nushbaret:plan"), `${person}\n${object}\n${isoOf(day)}`), (byte) => byte.toString(16).padStart(2, "0")).join("");
+  const digits = Array.from(found, (byte) => byte.toString(16).padStart(2, "0")).join("");
   return digits.replace(/^(.{8})(.{4})(.{4})(.{4})/, "$1-$2-$3-$4-");
 }
 
@@ -93,7 +86,7 @@ function keyOfName(stem) {
 }
 
 /** @type {(names: string[]) => string[]} Names of files for names, without ends: they differ also where a system ignores case. */
-export function fileNames(names) {
+function fileNames(names) {
   /** @type {Set<string>} */
   const taken = new Set();
   return names.map((name) => {
@@ -191,28 +184,26 @@ function crc32(bytes) {
   return ~sum >>> 0;
 }
 
+/** @type {(...numbers: [size: number, number: number][]) => Uint8Array} Numbers, each in so many bytes, the lowest first. */
+function packed(...numbers) {
+  return Uint8Array.from(numbers.flatMap(([size, number]) => Array.from({ length: size }, (_, k) => number >>> 8 * k)));
+}
+
 /** @type {(files: File[]) => Blob} Files in one zip archive, as they are. */
 export function zipOf(files) {
   /** @type {Uint8Array[][]} */
   const [parts, entries] = [[], []];
-  let [place, length] = [0, 0];
+  let place = 0;
   for (const { name, bytes } of files) {
     const own = encoder.encode(name);
     // Version 2.0, names in UTF-8, no method, the first day of 1980; the sum and both sizes; the length of the name.
-    const common = new DataView(new ArrayBuffer(26));
-    [20, 0x800, 0, 0, 0x21].forEach((word, k) => common.setUint16(2 * k, word, true));
-    [crc32(bytes), bytes.length, bytes.length, own.length].forEach((word, k) => common.setUint32(10 + 4 * k, word, true));
-    const shared = new Uint8Array(common.buffer);
-    const rest = new DataView(new ArrayBuffer(14));
-    rest.setUint32(10, place, true);
-    parts.push(Uint8Array.of(0x50, 0x4b, 3, 4), shared, own, bytes);
-    entries.push(Uint8Array.of(0x50, 0x4b, 1, 2, 20, 0), shared, new Uint8Array(rest.buffer), own);
+    const common = packed(
+      [2, 20], [2, 0x800], [2, 0], [2, 0], [2, 0x21], [4, crc32(bytes)], [4, bytes.length], [4, bytes.length], [4, own.length]);
+    parts.push(packed([4, 0x04034b50]), common, own, bytes);
+    entries.push(packed([4, 0x02014b50], [2, 20]), common, packed([4, 0], [4, 0], [2, 0], [4, place]), own);
     place += 30 + own.length + bytes.length;
-    length += 46 + own.length;
   }
-  const end = new DataView(new ArrayBuffer(22));
-  end.setUint32(0, 0x06054b50, true);
-  [files.length, files.length].forEach((count, k) => end.setUint16(8 + 2 * k, count, true));
-  [length, place].forEach((word, k) => end.setUint32(12 + 4 * k, word, true));
-  return new Blob([...parts, ...entries, new Uint8Array(end.buffer)], { type: "application/zip" });
+  const length = entries.reduce((sum, part) => sum + part.length, 0);
+  const end = packed([4, 0x06054b50], [4, 0], [2, files.length], [2, files.length], [4, length], [4, place], [2, 0]);
+  return new Blob([...parts, ...entries, end], { type: "application/zip" });
 }

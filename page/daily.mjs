@@ -1,18 +1,19 @@
 // Rosters by days: lines of a person, a day, a shift and a cost, and matrices with two title rows, the days over their shifts. Objects
 // are then called by shift and day, which are their kind and their group.
-import { datesOf, spellings } from "./dates.mjs";
+import { datesOf } from "./dates.mjs";
 import { refuse } from "./faults.mjs";
-import { Pairs } from "./names.mjs";
+import { Names, Pairs } from "./names.mjs";
 import { looksLikeNumber } from "./numbers.mjs";
 import { nameOf } from "./sheet.mjs";
+import { groupsOf } from "./takes.mjs";
 import { quoted } from "./texts.mjs";
 
 const COLUMNS = 4;
 /**
  * @typedef {import("./sheet.mjs").Sheet} Sheet
  * @typedef {import("./numbers.mjs").Costs} Costs
- * @typedef {import("./takes.mjs").Groups} Groups
- * @typedef {import("./roster.mjs").Read & { groups: Groups }} Daily
+ * @typedef {import("./roster.mjs").Read} Read
+ * @typedef {{ line: number, corner: string, days: string[], shifts: string[] }} Heads
  */
 
 /** @type {(cells: string[]) => boolean} */
@@ -22,17 +23,13 @@ function areDates(cells) {
 
 /** @typedef {(day: string, shift: string, line: number, columns: number[]) => number} NumberOf The number of an object, a new one where it is new */
 
-/** @type {(title: string, names: import("./names.mjs").Names) => { groups: Groups, numberOf: NumberOf }} Objects by day and shift, as they come. */
+/** @type {(title: string, names: Names) => { groups: import("./takes.mjs").Groups, numberOf: NumberOf }} Objects by day and shift, as they come. */
 function objectsBy(title, names) {
-  /** @type {Groups} */
-  const groups = { title, names: [], ofObjects: new Map(), times: new Map(), kinds: new Map(), of: "" };
-  const [days, numbers] = [new Map(), new Map()];
+  const days = new Names("days");
+  const groups = groupsOf(days, title);
   return { groups, numberOf: (day, shift, line, columns) => {
-    const [own, kind] = [nameOf(day, line, columns[0]), nameOf(shift, line, columns[1])];
-    const group = days.get(spellings(own)[0]) ?? groups.names.push(own) - 1;
-    days.set(spellings(own)[0], group);
-    const number = numbers.get(`${group} ${kind}`) ?? names.number(`${kind} ${groups.names[group]}`, line, columns[1]);
-    numbers.set(`${group} ${kind}`, number);
+    const [group, kind] = [days.number(day, line, columns[0]), nameOf(shift, line, columns[1])];
+    const number = names.number(`${kind} ${groups.names[group]}`, line, columns[1]);
     groups.ofObjects.set(number, group);
     groups.kinds.set(number, kind);
     return number;
@@ -51,7 +48,7 @@ export function areDailyLines(sheet) {
   return areFit && rows.some((cells) => looksLikeNumber(cells[3]));
 }
 
-/** @type {(sheet: Sheet, costs: Costs) => Daily} Reads lines; the day stands third where dates stand there alone. */
+/** @type {(sheet: Sheet, costs: Costs) => Read} Reads lines; the day stands third where dates stand there alone. */
 export function readDailyLines(sheet, costs) {
   const { cells: title } = sheet.title();
   const rows = [...sheet.body(COLUMNS)];
@@ -69,7 +66,7 @@ export function readDailyLines(sheet, costs) {
   return { titles: [titles[0], titles[3 - day], titles[3]], pairs, groups };
 }
 
-/** @type {(sheet: Sheet) => { line: number, corner: string, days: string[], shifts: string[] } | null} The two title rows of a matrix; null where it has none. */
+/** @type {(sheet: Sheet) => Heads | null} The two title rows of a matrix; null where it has none. */
 export function headsOf(sheet) {
   if (sheet.rows.length < 2) return null;
   const { line, cells: below } = sheet.rows[1];
@@ -85,18 +82,14 @@ export function headsOf(sheet) {
   return { line, corner: below[0] || above[0], days, shifts };
 }
 
-/** @type {(sheet: Sheet, costs: Costs) => Daily} Reads a matrix with two title rows. */
-export function readDailyMatrix(sheet, costs) {
-  const heads = headsOf(sheet);
-  if (!heads) throw new Error("a matrix without two title rows");
+/** @type {(sheet: Sheet, costs: Costs, heads: Heads) => Read} Reads a matrix with two title rows. */
+export function readDailyMatrix(sheet, costs, heads) {
   const pairs = new Pairs(costs);
   const { groups, numberOf } = objectsBy("day", pairs.objects);
-  /** @type {number[]} */
-  const columns = [];
-  heads.shifts.forEach((shift, k) => {
+  const columns = heads.shifts.map((shift, k) => {
     const number = numberOf(heads.days[k], shift, heads.line, [k + 2, k + 2]);
-    if (columns.includes(number)) refuse(heads.line, k + 2, "shift twice", quoted(shift), quoted(heads.days[k]));
-    columns.push(number);
+    if (number < k) refuse(heads.line, k + 2, "shift twice", quoted(shift), quoted(heads.days[k]));
+    return number;
   });
   for (const { line, cells } of [...sheet.records()].slice(1)) {
     if (cells.slice(columns.length + 1).some(Boolean)) refuse(line, 0, "cells of two titles", cells.length, columns.length + 1);

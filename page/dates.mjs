@@ -52,11 +52,6 @@ function dayWords(name) {
   return sure.length ? sure : words;
 }
 
-/** @type {(name: string) => boolean} */
-export function hasWeekday(name) {
-  return dayWords(name).length > 0;
-}
-
 /** @type {(names: string[]) => Set<string>} The names whose first word for a day of the week is one for Saturday or Sunday. */
 export function weekendsAmong(names) {
   const words = new Map(names.map((name) => [name, dayWords(name)[0]]));
@@ -81,15 +76,10 @@ function written(name) {
 
 /** @type {(own: Written, anchors: number[]) => number | null} The day in that year in which it is nearest to others, at most half a year away. */
 function nearest(own, anchors) {
-  const years = anchors.map((anchor) => Number(isoOf(anchor).slice(0, 4)));
-  /** @type {{ apart: number, day: number } | null} */
-  let best = null;
-  for (const year of new Set(years.flatMap((one) => [one - 1, one, one + 1]).sort((one, other) => one - other))) {
-    const day = dayOf(year, own.month, own.day);
-    const apart = day === null ? Infinity : anchors.reduce((least, anchor) => Math.min(least, Math.abs(anchor - day)), Infinity);
-    if (day !== null && apart <= HALF_A_YEAR && (!best || apart < best.apart)) best = { apart, day };
-  }
-  return best && best.day;
+  const years = new Set(anchors.flatMap((anchor) => [-1, 0, 1].map((apart) => Number(isoOf(anchor).slice(0, 4)) + apart)));
+  const apart = (/** @type {number} */ day) => anchors.reduce((least, anchor) => Math.min(least, Math.abs(anchor - day)), Infinity);
+  const days = [...years].map((year) => dayOf(year, own.month, own.day) ?? Infinity).sort((one, other) => apart(one) - apart(other) || one - other);
+  return apart(days[0]) <= HALF_A_YEAR ? days[0] : null;
 }
 
 /** @type {(names: string[]) => Dates} The days of names, if each is a date and any has a year. */

@@ -1,5 +1,5 @@
 // A plan as one sheet: who has what on which day, by letters, what each has in all, and each day's staff of how many.
-import { DAY_NAMES, datesOf, hasWeekday, isoOf, weekdayOf, weekendsAmong } from "./dates.mjs";
+import { DAY_NAMES, datesOf, isoOf, weekdayOf, weekendsAmong } from "./dates.mjs";
 import { costsOf, orderOf, pairKey } from "./earlier.mjs";
 import { said } from "./faults.mjs";
 import { countsOf, gathered, usesOf } from "./gathered.mjs";
@@ -13,11 +13,11 @@ const SATURDAY = 5;
 /**
  * @typedef {import("./roster.mjs").Roster} Roster
  * @typedef {import("./plan.mjs").Plan} Plan
- * @typedef {{ name: string, group: number, weekday: string, isWeekend: boolean, when: number | null, isPast: boolean }} Day
+ * @typedef {{ name: string, group: number, isWeekend: boolean, when: number | null, isPast: boolean }} Day
  * @typedef {{ label: string, object: number, isFixed: boolean, isNew: boolean }} Entry
  * @typedef {{ entries: Entry[], gone: string[], isOff: boolean }} Cell What a person has on a day, what it had in an earlier plan and has no more,
  *   and whether nothing is allowed
- * @typedef {{ had: number, wanted: number | null, object: number }} Staff
+ * @typedef {{ had: number, wanted: number | null }} Staff
  * @typedef {object} DaySheet
  * @property {Day[]} days
  * @property {Map<string, string>} letters
@@ -41,14 +41,14 @@ function daysOf(roster, names) {
   const weekends = weekendsAmong(names);
   const past = new Set([...roster.past].map((object) => roster.groups?.ofObjects.get(object)));
   const days = names.map((name, group) => ({
-    name, group, when: all && all[group], isPast: past.has(group), weekday: all && !hasWeekday(name) ? DAY_NAMES[weekdayOf(all[group])] : "",
+    name, group, when: all && all[group], isPast: past.has(group),
     isWeekend: all ? weekdayOf(all[group]) >= SATURDAY : weekends.has(name),
   }));
   return all ? days.sort((one, other) => all[one.group] - all[other.group]) : days;
 }
 
 /** @type {(kinds: string[]) => Map<string, string>} A letter for each kind, or the fewest first letters by which all differ. */
-export function lettersOf(kinds) {
+function lettersOf(kinds) {
   for (const count of [1, 2, 3]) {
     const short = kinds.map((kind) => Array.from(kind).slice(0, count).join("").trim());
     if (new Set(short).size === kinds.length && short.every(Boolean)) return new Map(kinds.map((kind, k) => [kind, short[k]]));
@@ -97,7 +97,7 @@ export function sheetOf(roster, plan, kept) {
   const staff = kinds.map((kind) => ({ kind, staff: days.map(({ group }) => {
     const object = (ofDays.get(group) || []).find((one) => labels[one] === kind);
     if (object === undefined) return null;
-    return { object, had: used.get(object) || 0, wanted: hasBounds(roster) ? ofObject(roster, object).least : null };
+    return { had: used.get(object) || 0, wanted: hasBounds(roster) ? ofObject(roster, object).least : null };
   }) }));
   return { days, letters, persons: rows, columns, kinds: staff };
 }

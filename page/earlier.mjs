@@ -6,7 +6,7 @@ import { hintOf } from "./names.mjs";
 import { Costs, shown } from "./numbers.mjs";
 import { counted } from "./sentences.mjs";
 import { nameOf } from "./sheet.mjs";
-import { hasBounds, ofObject, ofPerson } from "./takes.mjs";
+import { ofObject, ofPerson } from "./takes.mjs";
 import { firstOf, joined, quoted } from "./texts.mjs";
 
 const [CHANGE, GOES, NOT_POSSIBLE] = ["change", "goes", "not possible"];
@@ -46,14 +46,9 @@ export function costsOf(roster) {
   return new Map(roster.costs.map((cost, k) => [pairKey(roster, roster.ofPersons[k], roster.ofObjects[k]), cost]));
 }
 
-/** @type {(numbers: number[], names: string[]) => string} The first twenty names of many. */
-function listed(numbers, names) {
-  return firstOf(numbers.map((number) => names[number]), MOST_SHOWN);
-}
-
 /** @type {(numbers: number[], word: string, names: string[]) => string} How many there are, and the first of their names. */
 export function named(numbers, word, names) {
-  return `${counted(numbers.length, word)} (${listed(numbers, names)})`;
+  return `${counted(numbers.length, word)} (${firstOf(numbers.map((number) => names[number]), MOST_SHOWN)})`;
 }
 
 /** @type {(sheet: import("./sheet.mjs").Sheet, roster: Roster) => Named[]} The pairs of a plan in lines, by names. */
@@ -126,7 +121,6 @@ function costInFile(roster, { cost, line }) {
 /** @type {(roster: Roster, names: string[]) => Roster} The roster with persons that it doesn't have, who take none. */
 function withPersons(roster, names) {
   const fresh = [...new Set(names)].filter((name) => !roster.personNumbers.has(name));
-  if (!fresh.length) return roster;
   /** @type {[string, number][]} */
   const numbers = fresh.map((name, k) => [name, roster.persons.length + k]);
   const gone = new Set(numbers.map(([, number]) => number));
@@ -176,7 +170,7 @@ export function withPast(roster, groups, kept, name) {
  */
 function pastLines(roster, groups, { earlier, name, count, added, passing }) {
   if (!earlier.length) return [said("none before", groups.title, name)];
-  const which = said("before", counted(earlier.length, groups.title), name, listed(earlier, groups.names));
+  const which = said("before", counted(earlier.length, groups.title), name, firstOf(earlier.map((group) => groups.names[group]), MOST_SHOWN));
   const forbidden = [...new Set(added.map(({ person }) => person))].map((person) => {
     const own = added.filter((pair) => pair.person === person).map((pair) => `${roster.objects[pair.object]}, ${shown(roster, pair.cost)}`);
     return said("kept though forbidden", roster.persons[person], own.join("; "));
@@ -221,17 +215,6 @@ export function changesOf(roster, pairs, kept) {
   const impossible = [...gathered(lost, ({ person, why }) => `${person}\n${why}`).values()].map((own) => (
     `${own[0].person}: ${joined(own.map(({ object }) => object))} ${NOT_POSSIBLE} now (${own[0].why})`));
   return { comes, goes, lines: [counts.join(", ") || said("no change"), ...own, ...impossible] };
-}
-
-/** @type {(roster: Roster, pairs: Pair[]) => { isObject: boolean, number: number, had: number, least: number }[]} Who has fewer than it must. */
-export function missingOf(roster, pairs) {
-  if (!hasBounds(roster)) return [];
-  const [had, used] = usesOf(pairs);
-  const of = (/** @type {boolean} */ isObject, /** @type {number} */ number) => ({
-    isObject, number, had: (isObject ? used : had).get(number) || 0, least: (isObject ? ofObject(roster, number) : ofPerson(roster, number)).least,
-  });
-  const all = [...orderOf(roster).map((number) => of(true, number)), ...[...roster.persons.keys()].map((number) => of(false, number))];
-  return all.filter((one) => one.had < one.least);
 }
 
 /** @type {(roster: Roster) => number[]} The objects in the order of groups and of the roster, then those in none. */

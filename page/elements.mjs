@@ -1,12 +1,6 @@
 // Elements of the page. All text is set as text, so that no name is read as HTML.
 
-/**
- * The element of the page with this id, of this kind.
- * @template {HTMLElement} Kind
- * @param {string} id
- * @param {new () => Kind} kind
- * @returns {Kind}
- */
+/** @type {<Kind extends HTMLElement>(id: string, kind: new () => Kind) => Kind} The element of the page with this id, of this kind. */
 export function byId(id, kind) {
   const found = document.getElementById(id);
   if (!(found instanceof kind)) throw new Error(`the page has no ${id}`);

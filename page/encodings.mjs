@@ -12,27 +12,14 @@ const UTF_32 = [[0xff, 0xfe, 0, 0], [0, 0, 0xfe, 0xff]];
 // How workbooks begin: .xlsx, which is a zip archive, and what was before it.
 export const ZIP = [0x50, 0x4b, 3, 4];
 const WORKBOOKS = [ZIP, [0xd0, 0xcf, 0x11, 0xe0]];
-// Letters and marks above 127 that western texts of Windows have. Other encodings use other bytes for common letters.
-const WESTERN_LETTERS = new Set(Object.values(SHARED.western).join(""));
-const PLAUSIBLE = new Set(Array.from({ length: 128 }, (_, k) => 128 + k).filter((code) => (
-  WESTERN_LETTERS.has(new TextDecoder(WESTERN).decode(Uint8Array.of(code))))));
-// In DOS these are letters with accents; in Windows they are quotes, which stand between letters in no text.
-const QUOTES = new Set([0x82, 0x84, 0x93, 0x94]);
+// What no western text of Windows has: other letters and marks above 127. Other encodings use other bytes for common letters.
+const NOT_WESTERN = new RegExp(`[^\\0-\\x7f${Object.values(SHARED.western).join("")}]`);
+// In DOS these quotes are letters with accents; in Windows they stand between letters in no text.
+const QUOTE_IN_WORD = /[A-Za-z][\u201a\u201e\u201c\u201d][a-z]/;
 
 /** @type {(bytes: Uint8Array, begin: number[]) => boolean} */
 export function beginsWith(bytes, begin) {
   return begin.every((byte, place) => bytes[place] === byte);
-}
-
-/** @type {(byte: number) => boolean} */
-function isSmall(byte) {
-  return byte >= 0x61 && byte <= 0x7a;
-}
-
-/** @type {(bytes: Uint8Array, place: number) => boolean} Whether a quote stands between letters. */
-function isQuoteInWord(bytes, place) {
-  const before = bytes[place - 1];
-  return QUOTES.has(bytes[place]) && (isSmall(before) || before >= 0x41 && before <= 0x5a) && isSmall(bytes[place + 1]);
 }
 
 /**
@@ -75,8 +62,9 @@ export function decoded(bytes) {
 
 /** @type {(bytes: Uint8Array) => string} Bytes as western text of Windows; refused at the first byte that none has, or else at the first letter around a quote. */
 function western(bytes) {
-  const odd = bytes.findIndex((byte) => byte > 127 && !PLAUSIBLE.has(byte));
-  const place = odd < 0 ? bytes.findIndex((_, k) => isQuoteInWord(bytes, k + 1)) : odd;
-  if (place < 0) return new TextDecoder(WESTERN).decode(bytes);
+  const text = new TextDecoder(WESTERN).decode(bytes);
+  const odd = text.search(NOT_WESTERN);
+  const place = odd < 0 ? text.search(QUOTE_IN_WORD) : odd;
+  if (place < 0) return text;
   throw new RosterFault(`bytes that are no UTF-8 and no western text in Windows-1252: ${SAVE}`, lineOf(bytes, place));
 }

@@ -1,12 +1,10 @@
 // How plans by counts differ. In a graph of rows, columns and row groups an arrow leads from a row to a column that it could take, and
 // back where it has it; one more vertex is where rows and columns that may take more, or less, begin and end.
-import { gathered } from "./gathered.mjs";
 
 /**
  * @typedef {import("./library.mjs").Counted} Counted
- * @typedef {{ begin: number, end: number, cost: number, pair: number }} Arrow `pair` is the place of the pair that it changes, or -1
- * @typedef {{ arrows: Arrow[], groups: Map<number, number>, count: number, free: number }} Graph The arrows; a vertex for each row group of a
- *   group that was given, by its key; how many vertices there are, and the one of free counts
+ * @typedef {number[][]} Graph The ends of the arrows from each vertex: rows come first, then columns, the one of free counts, and a vertex for
+ *   each row group of a group that was given
  */
 
 /** @type {(counted: Counted, pair: number) => number} A number for the row group of a pair. */
@@ -14,96 +12,79 @@ export function keyOf({ ofRows, ofColumns, groupOf, nGroups }, pair) {
   return ofRows[pair] * (nGroups + groupOf.length) + groupOf[ofColumns[pair]];
 }
 
-/** @type {(counted: Counted, plan: ArrayLike<number>) => Graph} The graph of changes of a plan. */
+/** @type {(counted: Counted, plan: ArrayLike<number>) => { graph: Graph, begins: number[] }} The graph of changes of a plan with no count that is free, and the vertex that has the column of each pair. */
 export function graphOf(counted, plan) {
-  const { rows, columns, ofRows, ofColumns, groupOf, nGroups, costs } = counted;
-  const free = rows.length + columns.length;
-  const counts = new Array(free).fill(0);
-  /** @type {Map<number, { vertex: number, row: number, isTaken: boolean }>} */
-  const own = new Map();
-  /** @type {Arrow[]} */
-  const arrows = [];
-  const add = (/** @type {[number, number]} */ [begin, end], /** @type {boolean} */ isTurned, cost = 0, pair = -1) => (
-    arrows.push(isTurned ? { begin: end, end: begin, cost: -cost, pair } : { begin, end, cost, pair }));
-  ofRows.forEach((row, pair) => {
-    const [key, column, isTaken] = [keyOf(counted, pair), rows.length + ofColumns[pair], plan[pair] > 0];
-    const group = own.get(key) || { vertex: free + 1 + own.size, row, isTaken };
+  const { rows, columns, ofRows, ofColumns, groupOf, nGroups } = counted;
+  /** @type {Graph} */
+  const graph = Array.from({ length: rows.length + columns.length + 1 }, () => []);
+  const keys = ofRows.map((_, pair) => keyOf(counted, pair));
+  const taken = new Set(keys.filter((_, pair) => plan[pair]));
+  const add = (/** @type {number} */ begin, /** @type {number} */ end, /** @type {boolean} */ isTurned) => (
+    isTurned ? graph[end].push(begin) : graph[begin].push(end));
+  /** @type {Map<number, number>} */
+  const groups = new Map();
+  const begins = keys.map((key, pair) => {
     const isGiven = groupOf[ofColumns[pair]] < nGroups;
-    if (isGiven) own.set(key, { ...group, isTaken: isTaken || group.isTaken });
-    add([isGiven ? group.vertex : row, column], isTaken, costs[pair], pair);
-    [row, column].forEach((vertex) => { counts[vertex] += plan[pair]; });
+    if (isGiven && !groups.has(key)) {
+      groups.set(key, graph.push([]) - 1);
+      add(ofRows[pair], graph.length - 1, taken.has(key));
+    }
+    const begin = groups.get(key) ?? ofRows[pair];
+    add(begin, rows.length + ofColumns[pair], plan[pair] > 0);
+    return begin;
   });
-  for (const { vertex, row, isTaken } of own.values()) add([row, vertex], isTaken);
-  [...rows, ...columns].forEach(({ least, most }, vertex) => {
-    if (counts[vertex] < most) add([free, vertex], vertex >= rows.length);
-    if (counts[vertex] > least) add([vertex, free], vertex >= rows.length);
-  });
-  return { arrows, groups: new Map([...own].map(([key, { vertex }]) => [key, vertex])), count: free + 1 + own.size, free };
+  return { graph, begins };
 }
 
-/** @type {(arrows: Arrow[]) => Arrow[]} The arrows, each in the other direction. */
-export function turned(arrows) {
-  return arrows.map((arrow) => ({ ...arrow, begin: arrow.end, end: arrow.begin }));
+/** @type {(graph: Graph) => Graph} The arrows, each in the other direction. */
+export function turned(graph) {
+  /** @type {Graph} */
+  const back = graph.map(() => []);
+  graph.forEach((ends, begin) => ends.forEach((end) => back[end].push(begin)));
+  return back;
 }
 
-/** @type {(arrows: Arrow[], count: number) => number[][]} The ends of the arrows from each vertex. */
-export function endsOf(arrows, count) {
-  /** @type {number[][]} */
-  const ends = Array.from({ length: count }, () => []);
-  for (const { begin, end } of arrows) ends[begin].push(end);
-  return ends;
-}
-
-/** @type {(ends: number[][]) => number[]} The vertices in the order in which a search into the depth is done with them. */
-function finished(ends) {
-  const places = new Int32Array(ends.length).fill(-1);
-  /** @type {number[]} */
-  const order = [];
-  for (const first of ends.keys()) {
-    const way = places[first] < 0 ? [first] : [];
-    if (way.length) places[first] = 0;
-    while (way.length) {
-      const vertex = way[way.length - 1];
-      while (places[vertex] < ends[vertex].length && places[ends[vertex][places[vertex]]] >= 0) places[vertex]++;
-      if (places[vertex] === ends[vertex].length) order.push(/** @type {number} */ (way.pop()));
-      else {
-        way.push(ends[vertex][places[vertex]]);
-        places[way[way.length - 1]] = 0;
-      }
+/** @type {(graph: Graph) => number[]} The vertices in the order in which a search into the depth is done with them. */
+function finished(graph) {
+  const [seen, order, waiting] = [new Set(), /** @type {number[]} */ ([]), [...graph.keys()]];
+  for (let vertex = waiting.pop(); vertex !== undefined; vertex = waiting.pop()) {
+    // Below all that a vertex leads to waits that it is done.
+    if (vertex < 0) order.push(~vertex);
+    else if (!seen.has(vertex)) {
+      seen.add(vertex);
+      waiting.push(~vertex);
+      graph[vertex].forEach((end) => waiting.push(end));
     }
   }
   return order;
 }
 
-/** @type {(arrows: Arrow[], count: number) => number[]} A number for each vertex: the same for two where arrows lead from each to the other (Sharir 1981). */
-export function strongParts(arrows, count) {
-  const back = endsOf(turned(arrows), count);
-  const part = new Array(count).fill(-1);
-  for (const first of finished(endsOf(arrows, count)).reverse()) {
-    const waiting = part[first] < 0 ? [first] : [];
+/** @type {(graph: Graph) => number[]} A number for each vertex: the same for two where arrows lead from each to the other (Sharir 1981). */
+export function strongParts(graph) {
+  const [back, part] = [turned(graph), new Array(graph.length).fill(-1)];
+  for (const first of finished(graph).reverse()) {
+    const waiting = [first];
     for (let vertex = waiting.pop(); vertex !== undefined; vertex = waiting.pop()) {
       if (part[vertex] >= 0) continue;
       part[vertex] = first;
-      waiting.push(...back[vertex]);
+      back[vertex].forEach((begin) => waiting.push(begin));
     }
   }
   return part;
 }
 
-/**
- * @type {(counted: Counted, plan: ArrayLike<number>, rows: number[], columns: number[]) => number[][]}
- *   The places of pairs that are in some best plan and not in all, in groups that depend on each other. Numbers prove the plan best.
- */
-export function freePairs(counted, plan, rows, columns) {
-  const { arrows, groups, count } = graphOf(counted, plan);
-  const potentials = [...rows.map((number) => -number), ...columns, 0, ...new Array(groups.size).fill(0)];
-  groups.forEach((vertex, key) => { potentials[vertex] = -rows[Math.floor(key / (counted.nGroups + columns.length))]; });
-  counted.costs.forEach((cost, pair) => {
-    const vertex = groups.get(keyOf(counted, pair));
-    if (vertex !== undefined) potentials[vertex] = Math.max(potentials[vertex], columns[counted.ofColumns[pair]] - cost);
+/** @type {(counted: Counted, plan: ArrayLike<number>) => number[]} For each pair that is in some plan of a problem and not in all, the part of those that depend on each other; for any other pair -1. */
+export function freeParts(counted, plan) {
+  const { rows, columns, ofRows, ofColumns } = counted;
+  const { graph, begins } = graphOf(counted, plan);
+  const free = rows.length + columns.length;
+  const counts = new Array(free).fill(0);
+  ofRows.forEach((row, pair) => [row, rows.length + ofColumns[pair]].forEach((vertex) => { counts[vertex] += plan[pair]; }));
+  [...rows, ...columns].forEach(({ least, most }, vertex) => {
+    const isColumn = vertex >= rows.length;
+    if (counts[vertex] < most) graph[isColumn ? vertex : free].push(isColumn ? free : vertex);
+    if (counts[vertex] > least) graph[isColumn ? free : vertex].push(isColumn ? vertex : free);
   });
-  const tight = arrows.filter(({ begin, end, cost }) => potentials[begin] + cost === potentials[end]);
-  const part = strongParts(tight, count);
-  const open = tight.filter(({ begin, end, pair }) => pair >= 0 && part[begin] === part[end]).sort((one, other) => one.pair - other.pair);
-  return [...gathered(open, ({ begin }) => part[begin]).values()].map((own) => own.map(({ pair }) => pair));
+  const part = strongParts(graph);
+  return begins.map((begin, pair) => part[begin] === part[rows.length + ofColumns[pair]] ? part[begin] : -1);
 }

@@ -36,13 +36,7 @@ export function itemOf(name) {
   return isJson(name) ? "pair" : "line";
 }
 
-/**
- * Runs some work on a file, whose name its fault has.
- * @template Result
- * @param {string} file
- * @param {() => Result} work
- * @returns {Result}
- */
+/** @type {<Result>(file: string, work: () => Result) => Result} Runs some work on a file, whose name its fault has. */
 export function within(file, work) {
   try {
     return work();

@@ -66,9 +66,8 @@ async function tablesIn({ name, kind, source, rows, separator }, comma, place) {
 /** @type {(sheet: Sheet) => string} What a table may be, by its titles and its second column. */
 function shapeOf(sheet) {
   const titles = (sheet.rows[0]?.cells || []).map((cell) => cell.toLowerCase());
-  const seconds = sheet.rows.slice(1, 200).map(({ cells }) => cells[1] || "");
+  const [seconds, thirds] = [1, 2].map((column) => sheet.rows.slice(1, 200).map(({ cells }) => cells[column] || ""));
   const areWords = seconds.length > 0 && seconds.every((cell) => cell && !looksLikeNumber(cell) || /^[0-9]{4}-|^[0-9]{1,2}\.[0-9]{1,2}\./.test(cell));
-  const thirds = sheet.rows.slice(1, 200).map(({ cells }) => cells[2] || "");
   if (RULE.test(titles[0] || "")) return "rules";
   if (titles[0] && titles.slice(1).some((title) => COUNT_TITLES.test(title))) return "counts";
   if (titles.length === 2 && titles[0] && seconds.every((cell) => /^[0-9]+$/.test(cell))) return "counts";

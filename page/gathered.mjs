@@ -1,11 +1,6 @@
 // Numbers and things by what they have in common.
 
-/**
- * @template Item, Key
- * @param {Iterable<Item>} items
- * @param {(item: Item) => Key} keyOf
- * @returns {Map<Key, Item[]>} The items of each key, in their order.
- */
+/** @type {<Item, Key>(items: Iterable<Item>, keyOf: (item: Item) => Key) => Map<Key, Item[]>} The items of each key, in their order. */
 export function gathered(items, keyOf) {
   const all = new Map();
   for (const item of items) {

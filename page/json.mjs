@@ -6,19 +6,9 @@ import { guarded, quoted, stripped } from "./texts.mjs";
 // Of plans in JSON; those before are read too.
 const FORMAT = 4;
 
-
 /** @type {(value: any) => string} What a value is. */
 function kindOf(value) {
   return value === null ? "null" : said(Array.isArray(value) ? "array" : typeof value);
-}
-
-/** @type {(text: string) => any} */
-function parsed(text) {
-  try {
-    return JSON.parse(text);
-  } catch (fault) {
-    refuse(0, 0, "no JSON", said("JSON is otherwise"));
-  }
 }
 
 /** @type {(pair: any, key: string, line: number) => string} The name of a pair's person or object. */
@@ -33,7 +23,12 @@ function nameIn(pair, key, line) {
 
 /** @type {(text: string, comma: boolean) => Sheet} The pairs of a plan with their costs, below titles. */
 export function sheetOfJson(text, comma) {
-  const plan = parsed(text);
+  let plan;
+  try {
+    plan = JSON.parse(text);
+  } catch (fault) {
+    refuse(0, 0, "no JSON", said("JSON is otherwise"));
+  }
   if (!Array.isArray(plan?.pairs)) {
     const kind = kindOf(plan);
     const found = kind === said("object") && ("pairs" in plan ? said("its pairs", kindOf(plan.pairs)) : said("it has no", "'pairs'"));

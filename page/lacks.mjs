@@ -1,47 +1,34 @@
 // Why counts can't be met: who is short, and by how much. Each side is looked at alone; what changes of as many pairs as can be reach from
 // those that lack some is short, in connected parts. The library checks each shortage.
-import { endsOf, graphOf, keyOf, strongParts, turned } from "./exchanges.mjs";
-import { gathered, rising } from "./gathered.mjs";
+import { graphOf, keyOf, strongParts, turned } from "./exchanges.mjs";
+import { countsOf, gathered, rising } from "./gathered.mjs";
 import { narrowed } from "./narrowed.mjs";
 
 /**
  * Least counts that can't be met: these rows (or columns) must have `wanted`, and can have no more than `had`: as many as the columns (or
  * rows) take at most, and one for each row group in `once`.
- * @typedef {{ row: number, group: number }} RowGroup
- * @typedef {{ ofColumns: boolean, rows: number[], columns: number[], once: RowGroup[], wanted: number, had: number }} Lack
+ * @typedef {{ ofColumns: boolean, rows: number[], columns: number[], once: { row: number, group: number }[], wanted: number, had: number }} Lack
  * @typedef {import("./library.mjs").Counted} Counted
  * @typedef {import("./library.mjs").Bounds} Bounds
  * @typedef {import("./library.mjs").Library} Library
  */
 
-/** @type {(ends: number[][], starts: number[], barred: number) => Set<number>} The vertices that arrows lead to from some, but not through one. */
-function reachedFrom(ends, starts, barred) {
-  const reached = new Set([barred, ...starts]);
-  const waiting = [...starts];
-  for (const vertex of waiting) {
-    for (const end of ends[vertex]) {
-      if (!reached.has(end)) waiting.push(end);
-      reached.add(end);
-    }
-  }
-  reached.delete(barred);
-  return reached;
-}
-
 /** @type {(counted: Counted, ofColumns: boolean, library: Library) => Lack[]} What is short of the least counts of one side. */
 function lacksOfSide(counted, ofColumns, library) {
-  const needs = (ofColumns ? counted.columns : counted.rows).map(({ least }) => ({ least: 0, most: least }));
-  if (needs.every(({ most }) => most === 0)) return [];
-  const others = (ofColumns ? counted.rows : counted.columns).map(({ most }) => ({ least: 0, most }));
-  const own = { ...counted, rows: ofColumns ? others : needs, columns: ofColumns ? needs : others, costs: counted.costs.map(() => -1) };
+  const sides = [counted.rows, counted.columns];
+  const needs = sides[Number(ofColumns)];
+  if (needs.every(({ least }) => least === 0)) return [];
+  const [rows, columns] = sides.map((bounds) => bounds.map(({ least, most }) => ({ least: 0, most: bounds === needs ? least : most })));
+  const own = { ...counted, rows, columns, costs: counted.costs.map(() => -1) };
   const { plan } = library.solve(own);
-  const { arrows, count, free } = graphOf(own, plan);
-  const had = needs.map(() => 0);
-  (ofColumns ? counted.ofColumns : counted.ofRows).forEach((number, pair) => { had[number] += plan[pair]; });
-  const nRows = counted.rows.length;
-  const starts = [...needs.keys()].filter((number) => had[number] < needs[number].most).map((number) => number + (ofColumns ? nRows : 0));
-  const reached = reachedFrom(endsOf(ofColumns ? turned(arrows) : arrows, count), starts, free);
-  return shortParts(counted, ofColumns, (row) => reached.has(row), (column) => reached.has(nRows + column));
+  const { graph } = graphOf(own, plan);
+  const had = countsOf((ofColumns ? counted.ofColumns : counted.ofRows).filter((_, pair) => plan[pair]));
+  const lacking = [...needs.keys()].filter((number) => (had.get(number) || 0) < needs[number].least);
+  const reached = new Set(lacking.map((number) => number + (ofColumns ? rows.length : 0)));
+  const arrows = ofColumns ? turned(graph) : graph;
+  // A set takes more while it is walked.
+  for (const vertex of reached) arrows[vertex].forEach((end) => reached.add(end));
+  return shortParts(counted, ofColumns, (row) => reached.has(row), (column) => reached.has(rows.length + column));
 }
 
 /**
@@ -50,41 +37,43 @@ function lacksOfSide(counted, ofColumns, library) {
  */
 function shortParts(counted, ofColumns, isRow, isColumn) {
   const { ofRows, ofColumns: columns } = counted;
-  /** @type {Map<number, RowGroup>} */
-  const groups = new Map();
-  const keys = ofRows.map((row, pair) => {
-    const key = -1 - keyOf(counted, pair);
-    if (!groups.has(key)) groups.set(key, { row, group: counted.groupOf[columns[pair]] });
-    return key;
-  });
+  const keys = ofRows.map((_, pair) => -1 - keyOf(counted, pair));
   const outside = new Set(keys.filter((_, pair) => isRow(ofRows[pair]) && !isColumn(columns[pair])));
-  const [names, isName] = ofColumns ? [columns, isColumn] : [ofRows, isRow];
+  const [names, others, isName] = ofColumns ? [columns, ofRows, isColumn] : [ofRows, columns, isRow];
   /** @type {Map<number, Set<number>>} */
   const limits = new Map([...(ofColumns ? counted.columns : counted.rows).keys()].filter(isName).map((name) => [name, new Set()]));
   names.forEach((name, pair) => {
     const isOther = ofColumns ? isRow(ofRows[pair]) : !outside.has(keys[pair]);
-    limits.get(name)?.add(isOther ? (ofColumns ? ofRows : columns)[pair] : keys[pair]);
+    limits.get(name)?.add(isOther ? others[pair] : keys[pair]);
   });
-  return connected(limits).map((part) => lackOf(counted, ofColumns, part.sort(rising), new Set(part.flatMap((name) => [...limits.get(name) || []])), groups));
+  return connected(limits).map((part) => lackOf(counted, ofColumns, part, [...new Set(part.flatMap((name) => [...limits.get(name) || []]))]));
 }
 
-/** @type {(counted: Counted, ofColumns: boolean, names: number[], limits: Set<number>, groups: Map<number, RowGroup>) => Lack} */
-function lackOf(counted, ofColumns, names, limits, groups) {
-  const others = [...limits].filter((limit) => limit >= 0).sort(rising);
-  const once = [...limits].filter((limit) => limit < 0).sort(rising).reverse().flatMap((limit) => groups.get(limit) || []);
+/** @type {(counted: Counted, ofColumns: boolean, names: number[], limits: number[]) => Lack} */
+function lackOf(counted, ofColumns, names, limits) {
+  const width = counted.nGroups + counted.groupOf.length;
+  const others = limits.filter((limit) => limit >= 0).sort(rising);
+  const keys = limits.filter((limit) => limit < 0).map((limit) => -1 - limit).sort(rising);
   const [needs, most] = ofColumns ? [counted.columns, counted.rows] : [counted.rows, counted.columns];
-  const wanted = names.reduce((sum, name) => sum + needs[name].least, 0);
-  const had = others.reduce((sum, other) => sum + most[other].most, once.length);
-  return { ofColumns, rows: ofColumns ? others : names, columns: ofColumns ? names : others, once, wanted, had };
+  return {
+    ofColumns, rows: ofColumns ? others : names, columns: ofColumns ? names : others,
+    once: keys.map((key) => ({ row: Math.floor(key / width), group: key % width })),
+    wanted: names.reduce((sum, name) => sum + needs[name].least, 0), had: others.reduce((sum, other) => sum + most[other].most, keys.length),
+  };
 }
 
 /** @type {(links: Map<number, Set<number>>) => number[][]} The connected parts of names, by what they are linked to, in the order of the first ones. */
 function connected(links) {
-  const vertices = new Map([...new Set([...links.values()].flatMap((ends) => [...ends]))].map((end, k) => [end, links.size + k]));
-  const ways = [...links.values()].flatMap((ends, begin) => [...ends].map((end) => ({ begin, end: vertices.get(end) ?? begin, cost: 0, pair: -1 })));
-  const part = strongParts([...ways, ...turned(ways)], links.size + vertices.size);
-  const places = new Map([...links.keys()].map((name, k) => [name, k]));
-  return [...gathered(links.keys(), (name) => part[places.get(name) ?? 0]).values()];
+  const [names, firsts] = [[...links.keys()], new Map()];
+  /** @type {number[][]} */
+  const graph = names.map(() => []);
+  [...links.values()].forEach((ends, place) => ends.forEach((end) => {
+    if (!firsts.has(end)) firsts.set(end, place);
+    graph[place].push(firsts.get(end));
+    graph[firsts.get(end)].push(place);
+  }));
+  const part = strongParts(graph);
+  return [...gathered(names.keys(), (place) => part[place]).values()].map((places) => places.map((place) => names[place]));
 }
 
 /** @type {(counted: Counted, library: Library) => Lack[]} What is short, in the order of the first rows, and then of the first columns; each is proved. */
@@ -96,10 +85,10 @@ export function lacksOf(counted, library) {
 }
 
 /**
- * @type {(counted: Counted, lacks: Lack[]) => import("./narrowed.mjs").Part}
+ * @type {(part: import("./narrowed.mjs").Part, lacks: Lack[]) => import("./narrowed.mjs").Part}
  *   The plans that miss as little of the least counts as can be, summed up over both sides. What is short takes no more than its least count, and all that limits it; by the shortages' numbers, 1 for what is short and -1 for what limits it, these plans pay least.
  */
-export function cutOf(counted, lacks) {
+export function cutOf(part, lacks) {
   /** @type {(bounds: Bounds[], side: boolean) => { numbers: number[], cut: Bounds[] }} */
   const sideOf = (bounds, side) => {
     const names = (/** @type {boolean} */ ofColumns) => new Set(lacks.filter((lack) => lack.ofColumns === ofColumns).flatMap((lack) => side ? lack.columns : lack.rows));
@@ -109,7 +98,8 @@ export function cutOf(counted, lacks) {
       cut: bounds.map(({ least, most }, k) => ({ least: full.has(k) ? most : short.has(k) ? 0 : least, most: short.has(k) ? least : most })),
     };
   };
-  const [rows, columns] = [sideOf(counted.rows, false), sideOf(counted.columns, true)];
-  const spare = counted.ofRows.map((row, pair) => -rows.numbers[row] - columns.numbers[counted.ofColumns[pair]]);
-  return narrowed(counted, spare, rows.cut, columns.cut);
+  const { rows: rowBounds, columns: columnBounds, ofRows, ofColumns } = part.counted;
+  const [rows, columns] = [sideOf(rowBounds, false), sideOf(columnBounds, true)];
+  const spare = ofRows.map((row, pair) => -rows.numbers[row] - columns.numbers[ofColumns[pair]]);
+  return narrowed(part, spare, rows.cut, columns.cut);
 }

@@ -66,12 +66,7 @@ export class Library {
     return new Library((await WebAssembly.instantiate(module)).exports);
   }
 
-  /**
-   * Runs some work with blocks of the module's memory, which are given back after it.
-   * @template Result
-   * @param {(take: Take) => Result} work
-   * @returns {Result}
-   */
+  /** @type {<Result>(work: (take: Take) => Result) => Result} Runs some work with blocks of the module's memory, which are given back after it. */
   within(work) {
     /** @type {number[]} */
     const blocks = [];
@@ -98,7 +93,7 @@ export class Library {
     return new Uint8Array(this.memory.buffer, block.address, Number(block.count)).slice();
   }
 
-  /** @type {(counted: Counted) => Answer} A best plan, which the proved checker takes too, or the code of why there is none. */
+  /** @type {(counted: Counted) => Answer} A best plan, which the proved call has checked, or the code of why there is none. */
   solve(counted) {
     const [n, m, pairs] = [counted.rows.length, counted.columns.length, counted.ofRows.length];
     return this.within((take) => {
@@ -111,10 +106,6 @@ export class Library {
       while (code === "STOPPED") {
         code = CODES[this.calls.nushbaret_counts_from(0, ...words, BUDGET, record.address, info.address)];
         if (code === "STOPPED") this.look(this.bytes(plan).reduce((sum, chosen) => sum + chosen, 0));
-      }
-      if (code === "BEST") {
-        const checked = CODES[this.calls.nushbaret_check_counts(0, ...wordsOf(...lists, plan, rows, columns), info.address)];
-        if (checked !== "BEST") throw checked === "MEMORY" ? new NoMemory("memory refused") : new Error(`the checker says ${checked} of a plan that the library found`);
       }
       return { code, plan: this.bytes(plan), rows: this.words(rows), columns: this.words(columns) };
     });

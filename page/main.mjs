@@ -18,10 +18,9 @@ const [KEPT, KEPT_CALENDARS] = ["the kept plan", "the kept plan's calendars"];
  * @typedef {import("./answers.mjs").Found} Found
  * @typedef {import("./answers.mjs").Shown} Shown
  * @typedef {import("./files.mjs").Given} Given
- * @typedef {{ begin: number, clock: number }} Run
  */
 
-/** @type {Run | null} */
+/** @type {{ begin: number, clock: number } | null} */
 let run = null;
 /** @type {Worker | null} Answers one question after the other, until one is stopped: what it has run once runs faster. */
 let worker = null;
@@ -231,11 +230,10 @@ function rosterName() {
 /** @type {(found: Found) => void} The days before which nothing may be planned, where there is an earlier plan. */
 function showPast({ roster }) {
   const room = byId("past", HTMLSelectElement);
-  const names = roster.groups ? roster.groups.names : [];
-  const [had, isThere] = [room.value, names.length > 0 && tables.some(({ kind }) => kind === "plan")];
-  room.replaceChildren(element("option", { value: "" }, "nothing is past"), ...names.map((name) => element("option", { value: name }, name)));
+  const [had, names] = [room.value, ["", ...roster.groups ? roster.groups.names : []]];
+  room.replaceChildren(...names.map((name) => element("option", { value: name }, name || "nothing is past")));
   room.value = names.includes(had) ? had : "";
-  byId("past-room", HTMLElement).hidden = !isThere;
+  byId("past-room", HTMLElement).hidden = names.length < 2 || !tables.some(({ kind }) => kind === "plan");
 }
 
 /** The pairs that were chosen, each with a button that takes the choice back. */
@@ -304,10 +302,7 @@ function copy() {
 /** @type {(blob: Blob, name: string) => void} */
 function saveAs(blob, name) {
   const place = URL.createObjectURL(blob);
-  const link = document.createElement("a");
-  link.href = place;
-  link.download = name;
-  link.click();
+  element("a", { href: place, download: name }).click();
   setTimeout(() => URL.revokeObjectURL(place), 60000);
 }
 

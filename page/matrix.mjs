@@ -19,26 +19,26 @@ const ROWS_AT_ONCE = 100;
 
 /**
  * @typedef {import("./answers.mjs").Found} Found
- * @typedef {{ begin: number, end: number }} Part Columns
  * @typedef {{ found: Found, costs: Map<number, number>, least: number, greatest: number, who: Set<number>, what: Set<number>, chosen: Set<number> }} Drawing
  */
 
-/** @type {(widths: number[], room: number) => Part[]} Columns one after the other, in parts of at most so much room. */
+/** @type {(widths: number[], room: number) => number[][]} Columns one after the other, in parts of at most so much room. */
 function filled(widths, room) {
+  /** @type {number[][]} */
   const parts = [];
-  let [begin, width] = [0, 0];
+  let width = Infinity;
   widths.forEach((own, column) => {
-    if (column > begin && width + own > room) {
-      parts.push({ begin, end: column });
-      [begin, width] = [column, 0];
+    if (width + own > room) {
+      parts.push([]);
+      width = 0;
     }
+    parts[parts.length - 1].push(column);
     width += own;
   });
-  parts.push({ begin, end: widths.length });
   return parts;
 }
 
-/** @type {(drawing: Drawing) => Part[]} As many columns at a time as fit on a sheet next to the names of persons, in parts of about one width. */
+/** @type {(drawing: Drawing) => number[][]} As many columns at a time as fit on a sheet next to the names of persons, in parts of about one width. */
 function partsOf({ found: { roster }, least, greatest }) {
   const names = roster.persons.reduce((most, name) => Math.max(most, name.length), 0);
   const room = SHEET_WIDTH - MARGIN - Math.min(LETTER * names, MOST_NAME_WIDTH);
@@ -53,11 +53,10 @@ function partsOf({ found: { roster }, least, greatest }) {
 /** @type {(found: Found) => Drawing} */
 function drawingOf(found) {
   const { roster, short } = found;
-  const least = roster.costs.reduce((one, other) => Math.min(one, other), Infinity);
-  const greatest = roster.costs.reduce((one, other) => Math.max(one, other), -Infinity);
-  const span = roster.costs.length ? { least, greatest } : { least: 0, greatest: 0 };
+  const least = roster.costs.reduce((one, other) => Math.min(one, other), roster.costs[0] ?? 0);
+  const greatest = roster.costs.reduce((one, other) => Math.max(one, other), roster.costs[0] ?? 0);
   const chosen = new Set((found.plan?.pairs || []).map(({ person, object }) => pairKey(roster, person, object)));
-  return { found, costs: costsOf(roster), ...span, who: new Set(short.persons), what: new Set(short.objects), chosen };
+  return { found, costs: costsOf(roster), least, greatest, who: new Set(short.persons), what: new Set(short.objects), chosen };
 }
 
 /** @type {(drawing: Drawing, person: number, object: number) => HTMLElement} */
@@ -74,20 +73,13 @@ function heading(scope, content, isShort) {
   return element("th", isShort ? { scope, class: "short" } : { scope }, content);
 }
 
-/** @type {(drawing: Drawing, person: number, part: Part) => HTMLElement} */
-function rowOf(drawing, person, part) {
-  const row = element("tr", {}, heading("row", drawing.found.roster.persons[person], drawing.who.has(person)));
-  for (let object = part.begin; object < part.end; object++) row.append(cell(drawing, person, object));
-  return row;
-}
-
-/** @type {(drawing: Drawing, part: Part, name: string) => HTMLElement} The headings of a part, below a line that names it on paper, if there are several. */
+/** @type {(drawing: Drawing, part: number[], name: string) => HTMLElement} The headings of a part, below a line that names it on paper, if there are several. */
 function headOf(drawing, part, name) {
-  const objects = drawing.found.roster.objects.slice(part.begin, part.end);
-  const titles = objects.map((object, place) => heading("col", element("span", {}, object), drawing.what.has(part.begin + place)));
+  const { objects } = drawing.found.roster;
+  const titles = part.map((object) => heading("col", element("span", {}, objects[object]), drawing.what.has(object)));
   const own = element("tr", {}, element("th", {}), ...titles);
   if (name === "") return element("thead", {}, own);
-  const title = element("tr", { class: "part" }, element("th", { colspan: String(objects.length + 1), lang: "en" }, name));
+  const title = element("tr", { class: "part" }, element("th", { colspan: String(part.length + 1), lang: "en" }, name));
   return element("thead", {}, title, own);
 }
 
@@ -102,11 +94,12 @@ export async function drawMatrix(found, room, isWanted) {
   // All is laid out once, at the end.
   const tables = [];
   for (const [place, part] of parts.entries()) {
-    const name = `${objects[part.begin]} to ${objects[part.end - 1]} (part ${place + 1} of ${parts.length})`;
+    const name = `${objects[part[0]]} to ${objects[part[part.length - 1]]} (part ${place + 1} of ${parts.length})`;
     const body = element("tbody", {});
     for (let person = 0; person < persons.length && isWanted(); person++) {
       if (person % ROWS_AT_ONCE === 0) await new Promise((done) => setTimeout(done));
-      body.append(rowOf(drawing, person, part));
+      const cells = part.map((object) => cell(drawing, person, object));
+      body.append(element("tr", {}, heading("row", persons[person], drawing.who.has(person)), ...cells));
     }
     tables.push(element("table", {}, headOf(drawing, part, parts.length > 1 ? name : ""), body));
   }

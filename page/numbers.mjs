@@ -4,7 +4,6 @@ import { quoted } from "./texts.mjs";
 
 const MOST_PLACES = 6;
 const GREATEST_COST = 1e12;
-const WITH_POWER = /^([+-]?)([0-9]+)(?:[.,]([0-9]*))?[eE]([+-]?[0-9]{1,2})$/;
 
 /** @type {(cell: string) => boolean} Whether a cell might be meant as a number, of any make. */
 export function looksLikeNumber(cell) {
@@ -18,26 +17,14 @@ export function shown({ decimals, comma }, units) {
   return (units < 0 ? "-" : "") + digits.slice(0, digits.length - decimals) + part;
 }
 
-/** @type {(cell: string, comma: boolean) => string} A cell such as 1.2E+03 as a plain number, and any other as it is. */
-function withoutPower(cell, comma) {
-  const found = cell.includes(comma ? "." : ",") ? null : WITH_POWER.exec(cell);
-  if (found === null) return cell;
-  const [, sign, whole, part = "", power] = found;
-  const digits = whole + part;
-  const place = whole.length + Number(power);
-  const before = place > 0 ? digits.slice(0, place).padEnd(place, "0") : "0";
-  const after = place > 0 ? digits.slice(place) : digits.padStart(digits.length - place, "0");
-  return sign + before + (after ? (comma ? "," : ".") + after : "");
-}
-
 /** Costs as they are read, with as many places as they have until it is known how many are used. */
 export class Costs {
   /** @param {boolean} comma Whether costs are written with a decimal comma */
   constructor(comma) {
     this.comma = comma;
     const point = comma ? "," : "\\.";
-    // Sign, whole part without leading zeros, decimal places without trailing zeros; at least one digit.
-    this.plain = new RegExp(`^([+-]?)(?=${point}?[0-9])0*([0-9]*)(?:${point}([0-9]*?)0*)?$`);
+    // Sign, whole part, decimal places and a power of ten; at least one digit.
+    this.number = new RegExp(`^([+-]?)(?=${point}?[0-9])([0-9]*)(?:${point}([0-9]*))?(?:[eE]([+-]?[0-9]{1,2}))?$`);
     // In millionths.
     /** @type {bigint[]} */
     this.costs = [];
@@ -47,12 +34,15 @@ export class Costs {
 
   /** @type {(cell: string, line: number, column: number) => void} Takes a cell, or refuses it. */
   take(cell, line, column) {
-    const found = this.plain.exec(cell) || this.plain.exec(withoutPower(cell, this.comma));
-    if (found === null) refuse(line, column, "no cost", quoted(cell), this.hint(cell));
-    const [, sign, digits, part = ""] = found;
+    const found = this.number.exec(cell);
+    if (found === null || found[4] && !found[2]) refuse(line, column, "no cost", quoted(cell), this.hint(cell));
+    const [, sign, whole, decimals = "", power = "0"] = found;
+    const [digits, place] = [whole + decimals, whole.length + Number(power)];
+    const before = digits.slice(0, Math.max(0, place)).padEnd(place, "0").replace(/^0+/, "");
+    const part = digits.slice(Math.max(0, place)).padStart(digits.length - place, "0").replace(/0+$/, "");
     if (part.length > MOST_PLACES) refuse(line, column, "many places", quoted(cell), MOST_PLACES, "");
     this.places = Math.max(this.places, part.length);
-    const size = BigInt(digits.slice(0, 20) + part.padEnd(MOST_PLACES, "0"));
+    const size = BigInt(before.slice(0, 20) + part.padEnd(MOST_PLACES, "0"));
     if (size > BigInt(GREATEST_COST * 10 ** MOST_PLACES)) refuse(line, column, "beyond", GREATEST_COST, "");
     if (size > this.greatest.size) this.greatest = { size, line, column };
     this.costs.push(sign === "-" ? -size : size);

@@ -1,11 +1,11 @@
 // The plan of a roster, or who is short of what.
-import { changesOf, missingOf, named, orderOf, pairKey } from "./earlier.mjs";
-import { freePairs } from "./exchanges.mjs";
+import { changesOf, named, orderOf, pairKey } from "./earlier.mjs";
+import { freeParts } from "./exchanges.mjs";
 import { said } from "./faults.mjs";
-import { gathered, usesOf } from "./gathered.mjs";
+import { gathered, rising, usesOf } from "./gathered.mjs";
 import { cutOf, lacksOf } from "./lacks.mjs";
-import { exact, NoMemory } from "./library.mjs";
-import { fixedBy, less, narrowed, wholePlan } from "./narrowed.mjs";
+import { NoMemory } from "./library.mjs";
+import { faceOf, less } from "./narrowed.mjs";
 import { shown } from "./numbers.mjs";
 import { counted, sentence } from "./sentences.mjs";
 import { hasBounds, ofObject, ofPerson } from "./takes.mjs";
@@ -17,15 +17,17 @@ const MOST_EXCHANGED = 100000;
  * @typedef {import("./roster.mjs").Roster} Roster
  * @typedef {import("./library.mjs").Library} Library
  * @typedef {import("./library.mjs").Counted} Counted
+ * @typedef {import("./narrowed.mjs").Part} Part
  * @typedef {import("./earlier.mjs").Pair & { isFixed: boolean }} Pair Numbers from 0, and a cost in the roster's units
  * @typedef {{ pairs: Pair[], cost: bigint, without: number[], unused: number[], swaps: number[][][] | null }} Plan Pairs in the order of persons,
  *   the sum of their costs, who and what has too few, and persons and objects that could change places, where these were looked for
+ * @typedef {{ how: string, count: string, names: string }} Left How who and what has too few is called, how many they are, and their names
  * @typedef {{ max: boolean, fullest: boolean, fixed: import("./earlier.mjs").Pair[], kept: import("./earlier.mjs").OldPlan | null }} Request
  * @typedef {{ plan: Plan | null, sentences: string[], short: { persons: number[], objects: number[] } }} Answer
  */
 
-/** @type {(roster: Roster, request: Request) => { counted: Counted, places: number[] }} What is left to plan around the fixed pairs, with costs that are to be least, and the places of its pairs in the roster. */
-export function countedOf(roster, { max, fixed }) {
+/** @type {(roster: Roster, request: Request) => Part} What is left to plan around the fixed pairs, with costs that are to be least, and the places of its pairs in the roster. */
+function countedOf(roster, { max, fixed }) {
   const { persons, objects, ofPersons, ofObjects, costs, groups } = roster;
   const nGroups = groups ? groups.names.length : 0;
   const groupOf = objects.map((_, object) => groups?.ofObjects.get(object) ?? nGroups + object);
@@ -46,61 +48,57 @@ export function countedOf(roster, { max, fixed }) {
     rows, columns, groupOf, nGroups, ofRows: places.map((k) => ofPersons[k]), ofColumns: places.map((k) => ofObjects[k]),
     costs: places.map((k) => max ? -costs[k] : costs[k]),
   };
-  return { counted, places };
-}
-
-/** @type {(roster: Roster, fixed: { object: number }[]) => string} What is planned around, in words. */
-function aroundOf(roster, fixed) {
-  const names = ["the past", "the fixed pairs"].filter((_, k) => fixed.some(({ object }) => roster.past.has(object) === (k === 0)));
-  return names.length ? said("around", names.map((name) => said(name)).join(said("and"))) : "";
+  return { counted, places, taken: [] };
 }
 
 /** @type {(library: Library, counted: Counted) => import("./library.mjs").Answer} A best plan with its numbers. */
 function bestOf(library, counted) {
-  if (!counted.ofRows.length && counted.rows.every(({ least }) => !least) && counted.columns.every(({ least }) => !least)) {
-    return { code: "BEST", plan: new Uint8Array(0), rows: counted.rows.map(() => 0n), columns: counted.columns.map(() => 0n) };
-  }
+  if (!counted.rows.length) return { code: "BEST", plan: new Uint8Array(0), rows: [], columns: [] };
   const found = library.solve(counted);
   if (found.code === "MEMORY") throw new NoMemory("memory refused");
   if (!["BEST", "ROWS_LACK", "COLUMNS_LACK"].includes(found.code)) throw new Error(`the library gives no answer: ${found.code}`);
   return found;
 }
 
-/** @type {(library: Library, counted: Counted, best: import("./library.mjs").Answer, isKept: (place: number) => boolean) => Uint8Array} Of all best plans one with the fewest changes: pairs that aren't kept, and kept ones that it doesn't have. */
-function withFewestChanges(library, counted, best, isKept) {
-  const [rows, columns] = [exact(best.rows), exact(best.columns)];
-  const spare = counted.costs.map((cost, k) => cost - rows[counted.ofRows[k]] - columns[counted.ofColumns[k]]);
-  const face = narrowed(counted, spare, fixedBy(counted.rows, rows), fixedBy(counted.columns, columns));
-  const found = bestOf(library, { ...face.counted, costs: face.places.map((place) => isKept(place) ? -1 : 1) });
-  const plan = found.code === "BEST" ? wholePlan(face, found.plan, counted.costs.length) : new Uint8Array(counted.costs.length);
-  if (sumOf(counted, plan) !== sumOf(counted, best.plan)) throw new Error("a plan was found to be as good as the best, and isn't");
-  return plan;
+/** @type {(roster: Roster, face: Part, chosen: Set<number>) => number[][][]} The persons and objects that could change places in a plan, of which each plan of a part is as good. */
+function swapsOf(roster, { counted, places }, chosen) {
+  const part = freeParts(counted, places.map((place) => Number(chosen.has(place))));
+  const { ofPersons, ofObjects } = roster;
+  const free = [...places.keys()].filter((k) => part[k] >= 0).sort((one, other) => (
+    pairKey(roster, ofPersons[places[one]], ofObjects[places[one]]) - pairKey(roster, ofPersons[places[other]], ofObjects[places[other]])));
+  return [...gathered(free, (k) => part[k]).values()].map((own) => (
+    [ofPersons, ofObjects].map((list) => [...new Set(own.map((k) => list[places[k]]))].sort(rising))));
 }
 
-/** @type {(counted: Counted, plan: ArrayLike<number>) => bigint} */
-function sumOf({ costs }, plan) {
-  return costs.reduce((sum, cost, k) => plan[k] ? sum + BigInt(cost) : sum, 0n);
+/** @type {(roster: Roster, chosen: Iterable<number>) => bigint} */
+function sumOf({ costs }, chosen) {
+  return [...chosen].reduce((sum, place) => sum + BigInt(costs[place]), 0n);
 }
 
 /** @type {(roster: Roster, request: Request, library: Library) => Answer} The plan of a roster, or who is short where there is none. */
 export function answerOf(roster, request, library) {
-  const { counted: problem, places } = countedOf(roster, request);
-  const whole = bestOf(library, problem);
-  const lacks = whole.code === "BEST" ? [] : lacksOf(problem, library);
-  const sentences = lacks.map((lack) => sentence(roster, problem, lack, aroundOf(roster, request.fixed)));
+  const { fixed, kept, fullest } = request;
+  const problem = countedOf(roster, request);
+  const whole = bestOf(library, problem.counted);
+  const lacks = whole.code === "BEST" ? [] : lacksOf(problem.counted, library);
+  const parts = ["the past", "the fixed pairs"].filter((_, k) => fixed.some(({ object }) => roster.past.has(object) === (k === 0)));
+  const around = parts.length ? said("around", parts.map((name) => said(name)).join(said("and"))) : "";
+  const sentences = lacks.map((lack) => sentence(roster, problem.counted, lack, around));
   const short = { persons: lacks.flatMap((lack) => lack.rows), objects: lacks.flatMap((lack) => lack.columns) };
-  if (lacks.length && !request.fullest) return { plan: null, sentences, short };
-  const part = lacks.length ? cutOf(problem, lacks) : { counted: problem, places: [...problem.costs.keys()], taken: [] };
+  if (lacks.length && !fullest) return { plan: null, sentences, short };
+  const part = lacks.length ? cutOf(problem, lacks) : problem;
   const best = lacks.length ? bestOf(library, part.counted) : whole;
-  const isKept = (/** @type {number} */ place) => {
-    const k = part.places[place];
-    return Boolean(request.kept?.known.has(pairKey(roster, problem.ofRows[k], problem.ofColumns[k])));
-  };
-  const plan = request.kept ? withFewestChanges(library, part.counted, best, isKept) : best.plan;
-  const chosen = wholePlan(part, plan, problem.costs.length);
-  const swaps = part.counted.costs.length > MOST_EXCHANGED ? null : freePairs(part.counted, plan, exact(best.rows), exact(best.columns))
-    .map((those) => [problem.ofRows, problem.ofColumns].map((list) => [...new Set(those.map((k) => list[part.places[k]]))].sort((one, other) => one - other)));
-  return { plan: planOf(roster, request.fixed, places.filter((_, k) => chosen[k]), swaps), sentences, short };
+  let chosen = new Set([...part.taken, ...part.places.filter((_, k) => best.plan[k])]);
+  const hasSwaps = part.places.length <= MOST_EXCHANGED;
+  const face = kept || hasSwaps ? faceOf(part, best) : part;
+  if (kept) {
+    const sum = sumOf(roster, chosen);
+    const costs = face.places.map((place) => kept.known.has(pairKey(roster, roster.ofPersons[place], roster.ofObjects[place])) ? -1 : 1);
+    const { plan } = bestOf(library, { ...face.counted, costs });
+    chosen = new Set([...face.taken, ...face.places.filter((_, k) => plan[k])]);
+    if (sumOf(roster, chosen) !== sum) throw new Error("a plan was found to be as good as the best, and isn't");
+  }
+  return { plan: planOf(roster, fixed, [...chosen], hasSwaps ? swapsOf(roster, face, chosen) : null), sentences, short };
 }
 
 /** @type {(roster: Roster, fixed: import("./earlier.mjs").Pair[], chosen: number[], swaps: number[][][] | null) => Plan} A plan of the fixed pairs and of those at some places of the roster. */
@@ -128,18 +126,19 @@ export function firstLines(roster, max, { plan, sentences }) {
   return [...sentences, `${max ? "greatest" : "least"} ${title}: ${shown(roster, plan.cost)}`];
 }
 
-/** @type {(roster: Roster, plan: Plan) => { how: string, count: string, names: string }[]} Who and what has too few: how that is called, how many they are, and their names. */
+/** @type {(roster: Roster, plan: Plan) => Left[]} Who and what has too few. */
 export function leftOut(roster, plan) {
-  const [had, used] = usesOf(plan.pairs);
-  const partOf = (/** @type {string} */ name, /** @type {number} */ count, /** @type {number} */ wanted) => hasBounds(roster) || wanted === 1 ? name : `${name} (${count} of ${wanted})`;
-  const missing = missingOf(roster, plan.pairs);
-  const missed = (/** @type {boolean} */ isObject) => missing.filter((one) => one.isObject === isObject)
-    .map((one) => `${(isObject ? roster.objects : roster.persons)[one.number]}: ${one.had} of ${one.least}`);
-  const lists = [
-    { how: "missing", names: missed(true), side: 1 }, { how: "missing", names: missed(false), side: 0 },
-    { how: "without", names: plan.without.map((number) => partOf(roster.persons[number], had.get(number) || 0, ofPerson(roster, number).most)), side: 0 },
-    { how: "unused", names: plan.unused.map((number) => partOf(roster.objects[number], used.get(number) || 0, ofObject(roster, number).most)), side: 1 }];
-  return lists.filter(({ names }) => names.length).map(({ how, names, side }) => (
+  const [persons, objects] = usesOf(plan.pairs).map((counts, side) => {
+    const [names, order] = side ? [roster.objects, orderOf(roster)] : [roster.persons, [...roster.persons.keys()]];
+    const of = (/** @type {number} */ number) => ({ name: names[number], count: counts.get(number) || 0, ...(side ? ofObject : ofPerson)(roster, number) });
+    const missing = hasBounds(roster) ? order.map(of).filter(({ count, least }) => count < least) : [];
+    const left = (side ? plan.unused : plan.without).map(of);
+    return [
+      { how: "missing", side, names: missing.map(({ name, count, least }) => `${name}: ${count} of ${least}`) },
+      { how: side ? "unused" : "without", side, names: left.map(({ name, count, most }) => (
+        hasBounds(roster) || most === 1 ? name : `${name} (${count} of ${most})`)) }];
+  });
+  return [objects[0], ...persons, objects[1]].filter(({ names }) => names.length).map(({ how, names, side }) => (
     { how, count: counted(names.length, roster.titles[side]), names: joined(names) }));
 }
 

@@ -34,7 +34,7 @@ function unfolding(title, content, isOpen) {
   return element("details", isOpen ? { open: "" } : {}, element("summary", {}, title), content);
 }
 
-/** @type {(left: import("./answers.mjs").Left) => HTMLElement[]} Who and what is left over: a line that unfolds; on paper, where nothing can, the names. */
+/** @type {(left: import("./plan.mjs").Left) => HTMLElement[]} Who and what is left over: a line that unfolds; on paper, where nothing can, the names. */
 function leftOver({ how, count, names }) {
   const title = `${how}: ${count}`;
   return [unfolding(title, element("p", { lang: "" }, names), true), element("p", { class: "paper" }, `${title}: ${names}`)];

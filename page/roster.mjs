@@ -42,8 +42,9 @@ export function rosterOf(sheet, { form, comma }) {
   const costs = new Costs(comma);
   const isDaily = form !== "matrix" && areDailyLines(sheet);
   const isMatrix = !isDaily && (form === "matrix" || form === "" && !mayBeLines(sheet));
-  const read = isDaily ? readDailyLines : isMatrix ? headsOf(sheet) ? readDailyMatrix : readMatrix : form ? readLines : readSureLines;
-  const { titles, pairs, groups = null } = read(sheet, costs);
+  const heads = isMatrix ? headsOf(sheet) : null;
+  const read = isDaily ? readDailyLines : isMatrix ? readMatrix : form ? readLines : readSureLines;
+  const { titles, pairs, groups = null } = heads ? readDailyMatrix(sheet, costs, heads) : read(sheet, costs);
   const { persons, objects, ofPersons, ofObjects } = pairs;
   const { decimals, units } = costs.scaled();
   return {

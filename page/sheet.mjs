@@ -1,6 +1,6 @@
 // The cells of CSV and of pasted cells, and what is wrong in them; and a plan as CSV, a roster of lines that is read again. Lines and columns are counted from 1.
 import { refuse, RosterFault, said } from "./faults.mjs";
-import { guarded, hasControl, isPrintable, onOneLine, quoted, stripped, unguarded } from "./texts.mjs";
+import { CONTROL, guarded, isPrintable, LINE_BREAKS, quoted, stripped, unguarded } from "./texts.mjs";
 
 const SEPARATORS = ";\t,";
 const MOST_LETTERS = 131072;
@@ -13,17 +13,12 @@ const MOST_IN_RECORD = 4194305;
  */
 
 /** @type {(first: string) => string} What stands most between the cells of a first line; a comma where nothing does. */
-export function separatorOf(first) {
+function separatorOf(first) {
   const outside = first.replace(/"[^"]*"/g, "");
   /** @param {string} mark */
   const count = (mark) => outside.split(mark).length;
   const most = [...SEPARATORS].reduce((best, mark) => count(mark) > count(best) ? mark : best);
   return outside.includes(most) ? most : ",";
-}
-
-/** @type {(text: string) => number} How many line breaks a text has, of any make. */
-function breaksIn(text) {
-  return (text.match(/\r\n?|\n/g) || []).length;
 }
 
 /** @type {(text: string, begin: number, separator: string, cellAt: RegExp) => Record} The record that begins at a place of a text. The end of its line isn't read. */
@@ -84,7 +79,7 @@ export class Sheet {
       if (record.fault) this.fault = new RosterFault(record.fault, line);
       else this.add(line, record.cells.map((cell) => unguarded(stripped(cell))));
       const end = text.startsWith("\r\n", record.end) ? record.end + 2 : record.end + 1;
-      line += text.slice(at, record.end).includes('"') ? breaksIn(text.slice(at, end)) : 1;
+      line += text.slice(at, record.end).includes('"') ? (text.slice(at, end).match(/\r\n?|\n/g) || []).length : 1;
       at = end;
     }
   }
@@ -128,17 +123,11 @@ export class Sheet {
  * @type {(cell: string, line: number, column: number) => string}
  */
 export function nameOf(cell, line, column) {
-  const name = isPrintable(cell) ? cell : onOneLine(cell);
+  const name = isPrintable(cell) ? cell : cell.replace(LINE_BREAKS, " ");
   if (name === "") refuse(line, column, "no name");
   if (isLong(name)) refuse(line, column, "long name", MOST_LETTERS);
-  if (hasControl(name)) refuse(line, column, "control", quoted(name));
+  if (CONTROL.test(name)) refuse(line, column, "control", quoted(name));
   return name.normalize("NFC");
-}
-
-/** @type {(cell: string, separator: string, always: boolean) => string} */
-function cellOf(cell, separator, always) {
-  const needsQuotes = always || cell.includes(separator) || /["\r\n]/.test(cell);
-  return needsQuotes ? `"${cell.replace(/"/g, '""')}"` : cell;
 }
 
 /**
@@ -147,5 +136,7 @@ function cellOf(cell, separator, always) {
  */
 export function csvOf(rows, separator) {
   const isUnsure = rows[0].some((title) => [...SEPARATORS].some((mark) => title.includes(mark)));
-  return rows.map((row, line) => `${row.map((cell) => cellOf(guarded(cell), separator, isUnsure && line === 0)).join(separator)}\n`).join("");
+  const cellOf = (/** @type {string} */ cell, /** @type {number} */ line) => (
+    isUnsure && line === 0 || cell.includes(separator) || /["\r\n]/.test(cell) ? `"${cell.replace(/"/g, '""')}"` : cell);
+  return rows.map((row, line) => `${row.map((cell) => cellOf(guarded(cell), line)).join(separator)}\n`).join("");
 }

@@ -1,8 +1,7 @@
 // Counts and groups of a roster: files that say how many each name takes, and of which objects nobody takes two.
-import { spellings } from "./dates.mjs";
 import { refuse, RosterFault, said } from "./faults.mjs";
 import { MOST_PERSONS } from "./library.mjs";
-import { hintOf } from "./names.mjs";
+import { hintOf, Names } from "./names.mjs";
 import { looksLikeNumber } from "./numbers.mjs";
 import { nameOf } from "./sheet.mjs";
 import { isPrintable, quoted } from "./texts.mjs";
@@ -123,6 +122,11 @@ function minutesIn(cell, line, column, most) {
   refuse(line, column, "no time", quoted(cell));
 }
 
+/** @type {(days: Names, title: string, of: string) => Groups} Groups without an object. */
+export function groupsOf({ list }, title, of = "") {
+  return { title, names: list, ofObjects: new Map(), times: new Map(), kinds: new Map(), of };
+}
+
 /** @type {(sheet: Sheet, roster: Roster) => Groups} Reads groups of objects of which nobody takes two. */
 export function readGroups(sheet, roster) {
   const { line: first, cells: title } = sheet.title();
@@ -131,10 +135,8 @@ export function readGroups(sheet, roster) {
   const times = columnsOfTimes(title, first);
   const kinds = columnsOf(title, KIND);
   if (kinds.length > 1) refuse(first, kinds[1] + 1, "kinds", kinds.length, quoted(KIND));
-  /** @type {Groups} */
-  const groups = { title: title[1] && nameOf(title[1], first, 2), names: [], ofObjects: new Map(), times: new Map(), kinds: new Map(), of: title[0] };
-  /** @type {Map<string, number>} */
-  const numbers = new Map();
+  const days = new Names("groups");
+  const groups = groupsOf(days, title[1] && nameOf(title[1], first, 2), title[0]);
   /** @type {Map<number, number>} */
   const lines = new Map();
   for (const { line, cells } of sheet.body(title.length)) {
@@ -142,12 +144,10 @@ export function readGroups(sheet, roster) {
     const kind = kinds.length && cells[kinds[0]] ? nameOf(cells[kinds[0]], line, kinds[0] + 1) : "";
     const [begin, end] = times.some((place) => cells[place])
       ? times.map((place, k) => minutesIn(cells[place], line, place + 1, k ? DAY : DAY - 1)) : [];
-    const name = nameOf(cells[1], line, 2);
+    const group = days.number(cells[1], line, 2);
     const before = lines.get(object);
     if (before) refuse(line, 1, "object twice", quoted(cells[0]), groups.names[groups.ofObjects.get(object) ?? 0], before);
     lines.set(object, line);
-    const group = numbers.get(spellings(name)[0]) ?? groups.names.push(name) - 1;
-    numbers.set(spellings(name)[0], group);
     groups.ofObjects.set(object, group);
     if (begin !== undefined) groups.times.set(object, { begin, end: end > begin ? end : end + DAY });
     if (kind) groups.kinds.set(object, kind);
@@ -156,7 +156,7 @@ export function readGroups(sheet, roster) {
   return groups;
 }
 
-/** @type {(title: string, ours: string, others: string[]) => string} A title of the roster; where it has none, the first of other files' that is a name. */
+/** @type {(title: string, ours: string, others: (string | undefined)[]) => string} A title of the roster; where it has none, the first of other files' that is a name. */
 function titled(title, ours, others) {
   const named = others.find((other) => other && isPrintable(other) && !looksLikeNumber(other));
   return title === ours && named ? named : title;
@@ -167,10 +167,7 @@ export function withTakes(roster, tasks, places, groups) {
   const areSums = !tasks?.areRanges && !places?.areRanges;
   const [persons, objects] = [tasks, places].map((counts) => new Map(
     [...counts?.bounds || []].map(([number, own]) => [number, areSums ? { least: 0, most: own.most } : own])));
-  const titles = [
-    titled(roster.titles[0], "person", tasks ? [tasks.title] : []),
-    titled(roster.titles[1], "object", [places, groups].flatMap((own) => own ? ["title" in own && "bounds" in own ? own.title : own.of] : [])),
-    roster.titles[2]];
+  const titles = [titled(roster.titles[0], "person", [tasks?.title]), titled(roster.titles[1], "object", [places?.title, groups?.of]), roster.titles[2]];
   return { ...roster, titles, takes: tasks || places ? { persons, objects, areSums } : null, groups: groups || roster.groups };
 }
 

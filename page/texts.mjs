@@ -4,10 +4,10 @@ import { said } from "./faults.mjs";
 const SPACES = "\\t-\\r\\x1c-\\x20\\x85\\xa0\\u1680\\u2000-\\u200a\\u2028\\u2029\\u202f\\u205f\\u3000";
 const IS_SPACE = new RegExp(`[${SPACES}]`);
 const ALL_SPACE = new RegExp(`[${SPACES}]+`, "g");
-const LINE_BREAKS = new RegExp(`[${SPACES}]*[\\r\\n][${SPACES}]*`, "g");
+export const LINE_BREAKS = new RegExp(`[${SPACES}]*[\\r\\n][${SPACES}]*`, "g");
 const NOT_PRINTABLE = /(?! )[\p{C}\p{Z}]/u;
 // Also what turns the direction of a text or ends a line in it, and halves of characters.
-const CONTROL = /[\p{Cc}\p{Cs}\u200e\u200f\u2028-\u202e\u2066-\u2069]/u;
+export const CONTROL = /[\p{Cc}\p{Cs}\u200e\u200f\u2028-\u202e\u2066-\u2069]/u;
 const NUMBER = "[0-9]+(?:[.,][0-9]*)?(?:[eE][+-]?[0-9]{1,2})?$";
 const RUN = `(?:[=@\\t\\r]|[+-](?!${NUMBER}))`;
 const IS_RUN = new RegExp(`^'*${RUN}`);
@@ -39,16 +39,6 @@ export function unguarded(cell) {
 /** @type {(text: string) => boolean} Whether a text has no control characters and no white space other than blanks. */
 export function isPrintable(text) {
   return !NOT_PRINTABLE.test(text);
-}
-
-/** @type {(text: string) => boolean} Whether a text has a control character. */
-export function hasControl(text) {
-  return CONTROL.test(text);
-}
-
-/** @type {(text: string) => string} A text with a blank for each line break and the white space around it. */
-export function onOneLine(text) {
-  return text.replace(LINE_BREAKS, " ");
 }
 
 /** @type {(name: string) => string} A name without its white space and without a difference between small and capital letters. */
