@@ -12,10 +12,12 @@ np: Any = importlib.import_module("numpy")
 sparse: Any = importlib.import_module("scipy.sparse")
 optimize: Any = importlib.import_module("scipy.optimize")
 
-# Seconds for one neighbourhood at most; one that takes less than a fraction of it is too small, and one that takes all
-# too large.
+# Seconds of processor time for one neighbourhood at most; one that takes less than a fraction of it is too small, and
+# one that takes all too large.
 LONGEST = 2.0
 _SHORT = 0.15
+# Seconds of processor time that a search took at least, as far as the clock's pace is reckoned.
+_LEAST_USED = 0.01
 # HiGHS looks at so many nodes at most.
 _NODES = 100
 # So many variables are free at first, at least and at most, and how that grows and shrinks.
@@ -55,6 +57,8 @@ class Neighbourhoods:
         self.days = np.array([-1 if day is None else day for day in model.days] or [0] * model.variables)
         self.draw = random.Random(1)
         self.size = float(_FREE)
+        # Seconds by the clock for one of processor time.
+        self.pace = 1.0
 
     def point(self, plan: Sequence[int]) -> Point:
         """A plan as a point; its own rows are taken to be kept."""
@@ -101,9 +105,11 @@ class Neighbourhoods:
         """A better point in a drawn neighbourhood, or None. The next ones are larger where this was soon searched, and
         smaller where it wasn't searched in time."""
         free = self._drawn()
-        begin, allowed = time.monotonic(), min(LONGEST, seconds)
+        allowed = min(LONGEST * self.pace, seconds)
+        begin, used = time.monotonic(), time.process_time()
         taken = self.around(point, free, allowed)
-        took = time.monotonic() - begin
+        took, used = time.monotonic() - begin, time.process_time() - used
+        self.pace = max(1.0, (self.pace + took / max(used, _LEAST_USED)) / 2)
         if taken is not None and taken.is_least and took < _SHORT * allowed:
             self.size = min(self.size * _GROWTH, _MOST_FREE)
         elif taken is None or not taken.is_least or took > allowed / 2:

@@ -100,6 +100,21 @@ class Months(unittest.TestCase):
 
 
 @needs_scipy
+class Around(unittest.TestCase):
+    def test_a_search_has_its_time_by_the_processor(self):
+        """Where it had an eighth of a processor, the next one may take longer by the clock."""
+        from nushbaret.rows import neighbourhoods
+        model = models.drawn_month(random.Random(5))
+        search, allowed = neighbourhoods.Neighbourhoods(model), []
+        clock = mock.Mock(**{"monotonic.side_effect": (0, 8, 8, 16), "process_time.side_effect": (0, 1, 1, 2)})
+        with mock.patch.object(neighbourhoods, "time", clock), mock.patch.object(
+                search, "around", side_effect=lambda point, free, seconds: allowed.append(seconds)):
+            for _ in range(2):
+                self.assertIsNone(search.step(search.point([0] * model.variables), 100))
+        self.assertEqual(allowed, [neighbourhoods.LONGEST, 4.5 * neighbourhoods.LONGEST])
+
+
+@needs_scipy
 class Processes(unittest.TestCase):
     def test_finds_with_processes_of_its_own(self):
         told = []
