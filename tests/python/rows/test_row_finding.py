@@ -101,6 +101,21 @@ class Months(unittest.TestCase):
 
 @needs_scipy
 class Around(unittest.TestCase):
+    def test_days_that_are_drawn(self):
+        """Each real day is among them, also where days are counted from long ago, and they stand side by side."""
+        from nushbaret.rows import neighbourhoods
+        month = models.drawn_month(random.Random(5), 4, 7)
+        days = tuple(739_000 + variable // 2 % 7 for variable in range(month.variables))
+        search, seen = neighbourhoods.Neighbourhoods(month._replace(days=days)), set()
+        for size in (0, 16, 100) * 40:
+            search.sizes[1] = size
+            own = sorted({day for day, is_free in zip(days, search._drawn_days()) if is_free})
+            self.assertEqual((own[-1] - own[0] + 1, size > 56 or len(own) < 7), (len(own), True))
+            self.assertGreaterEqual(8 * len(own), min(size, 56))
+            seen.update(own if size == 0 else ())
+        self.assertEqual(seen, set(days))
+        self.assertFalse(neighbourhoods.Neighbourhoods(month).calendar.size)
+
     def test_a_search_has_its_time_by_the_processor(self):
         """Where it had an eighth of a processor, the next one may take longer by the clock."""
         from nushbaret.rows import neighbourhoods
