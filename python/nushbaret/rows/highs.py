@@ -69,7 +69,10 @@ class Finder:
         self.first = known[0] if known else ()
         for first in known:
             self.complete(first)
-        self.whole(max(_FIRST_PART, _FIRST_LEAST / self.seconds))
+        of_nobody = {person is None for cost, person in zip(self.model.costs, self.model.persons) if cost}
+        # Where only what nobody has costs anything, as what is missing does, searches around months find more.
+        if of_nobody != {True}:
+            self.whole(max(_FIRST_PART, _FIRST_LEAST / self.seconds))
         while not self.is_over and self.left() > 0:
             self.search()
             self.whole(_NEXT_PART)

@@ -101,6 +101,20 @@ class Months(unittest.TestCase):
 
 @needs_scipy
 class Around(unittest.TestCase):
+    def test_what_comes_first(self):
+        """Searches around months where only what nobody has costs anything, and HiGHS over all else."""
+        from nushbaret.rows import highs
+        rows = tuple(Row(1, ((person, 1), (2 + person, 1)), None, "one") for person in (0, 1))
+        for costs, first, least in (((0, 0, 1, 1), "search", 0), ((0, 2, 1, 1), "whole", 1), ((0,) * 4, "whole", 0)):
+            channel = models.Channel()
+            finder = highs.Finder(Model(4, costs, rows, (0, 1, None, None)), channel, time.monotonic() + 600)
+            done = mock.Mock()
+            done.attach_mock(mock.patch.object(finder, "search", side_effect=finder.search).start(), "search")
+            done.attach_mock(mock.patch.object(finder, "whole", side_effect=finder.whole).start(), "whole")
+            finder.run(())
+            self.assertEqual((done.mock_calls[0][0], channel.cost, finder.is_over), (first, least, True))
+        mock.patch.stopall()
+
     def test_days_that_are_drawn(self):
         """Each real day is among them, also where days are counted from long ago, and they stand side by side."""
         from nushbaret.rows import neighbourhoods
