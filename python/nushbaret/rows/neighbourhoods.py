@@ -14,7 +14,7 @@ optimize: Any = importlib.import_module("scipy.optimize")
 
 # Seconds of processor time for one neighbourhood at most; one that takes less than a fraction of it is too small, and
 # one that takes all too large.
-LONGEST = 2.0
+LONGEST = 1.0
 _SHORT = 0.15
 # Seconds of processor time that a search took at least, as far as the clock's pace is reckoned.
 _LEAST_USED = 0.01
