@@ -3,17 +3,16 @@
 
 Each ward has 10 to 100 nurses, 2 to 8 weeks, and rules of rest, runs and weeks, some with free weekends, hours, single
 nights and seniors. HiGHS, as SciPy has it, gets a model that this script makes itself from the drawn numbers, in a
-process of its own; T is the processor time of that process, at most LIMIT. Then the command gets 4 T of processor time
-in all, as a package that is installed with its bytecode; where the clock ended it before that, it runs again. Printed
-are T, what HiGHS found and its bound, the command's processor time, verdict, cost and bound.
+process of its own; T is the processor time of that process, at most LIMIT. HiGHS comes first on all months, then the
+command on each, in the order of T, with 4 T of processor time in all, as a package that is installed with its bytecode;
+where the clock ended it before that, it runs again. Printed are T, what HiGHS found and its bound, the command's
+processor time, verdict, cost and bound.
 `wards.py --prices` draws months in which a person missing of those wanted costs 3, and a night above the most 4, and
 prints whether both find the same least cost.
 `wards.py --sick` draws wards of 28 nurses of which two are gone from the 12th on, and prints how many places HiGHS
 leaves empty in the processor time that the command takes, and how many the command does.
 
-On a busy machine, seed 1, while the search was still being made better: each of 19 months that HiGHS closed was proved
-best in 1.5 to 3.9 T; where it left months open in 28 to 37 s the command found 240, 304 and 363, and HiGHS 242, 305 and
-363. 0 places were missed in sick wards 0 and 2. The 34 months with prices that were measured from 37 on agreed.
+README.md has what was measured.
 
 Needs SciPy and a built library."""
 import datetime
