@@ -24,7 +24,7 @@ Progress = Callable[[str, str, Optional[int], Optional[int]], None]
 # The share of the time that a stage before the costs gets, and that is left for one after them.
 SHARE = 0.25
 # The share of the time in which as little as can be is to be missed.
-MISSING_SHARE = 0.75
+MISSING_SHARE = 0.6
 # The share of the time in which it is looked for why something is missing, of what is left then.
 WHY_SHARE = 0.3
 # The share of the time that the plan that misses the least has by itself, where it wasn't asked for.
