@@ -3,17 +3,16 @@
 
 Each ward has 10 to 100 nurses, 2 to 8 weeks, and rules of rest, runs and weeks, some with free weekends, hours, single
 nights and seniors. HiGHS, as SciPy has it, gets a model that this script makes itself from the drawn numbers, in a
-process of its own; T is the processor time of that process, at most LIMIT. Then the command gets 4 T of processor time
-in all, as a package that is installed with its bytecode; where the clock ended it before that, it runs again. Printed
-are T, what HiGHS found and its bound, the command's processor time, verdict, cost and bound.
+process of its own; T is the processor time of that process, at most LIMIT. HiGHS comes first on all months, then the
+command on each, in the order of T, with 4 T of processor time in all, as a package that is installed with its bytecode;
+where the clock ended it before that, it runs again. Printed are T, what HiGHS found and its bound, the command's
+processor time, verdict, cost and bound.
 `wards.py --prices` draws months in which a person missing of those wanted costs 3, and a night above the most 4, and
 prints whether both find the same least cost.
 `wards.py --sick` draws wards of 28 nurses of which two are gone from the 12th on, and prints how many places HiGHS
 leaves empty in the processor time that the command takes, and how many the command does.
 
-On a busy machine, seed 1, while the search was still being made better: each of 19 months that HiGHS closed was proved
-best in 1.5 to 3.9 T; where it left months open in 28 to 37 s the command found 240, 304 and 363, and HiGHS 242, 305 and
-363. 0 places were missed in sick wards 0 and 2. The 34 months with prices that were measured from 37 on agreed.
+README.md has what was measured.
 
 Needs SciPy and a built library."""
 import datetime
@@ -32,8 +31,10 @@ TOP = pathlib.Path(__file__).resolve().parent.parent
 KINDS, MINUTES = ("Early", "Late", "Night"), {"Early": 77, "Late": 77, "Night": 95}
 FIRST = datetime.date(2027, 3, 1)
 LIMIT = 30.0
-# In times of T: where the command had less of the processors, it runs again with more time by the clock.
-ENOUGH = 3.7
+# The command gets TIMES T. Where the clock ended it before ENOUGH T, it runs again with more time, RUNS times in all.
+TIMES, ENOUGH, RUNS = 4, 3.7, 4
+# HiGHS gets a part so great of the command's processor time in sick wards, at least.
+AS_MUCH = 0.97
 # Nurses, weeks, and rules by letters: F free weekends, H hours, N no single night, S a senior on each night.
 # With prices: of a person that is missing of those wanted, and of a night above the most.
 WANTED, NIGHT = 3, 4
@@ -234,32 +235,42 @@ def busy_now():
     return max(1.0, (time.monotonic() - begin) / (time.process_time() - used))
 
 
-def compare(seed, number):
-    """Prints one month; whether its aim is reached."""
-    ward = Ward(seed, number)
-    begin = time.monotonic()
+def compare_all(seed, numbers):
+    """HiGHS on all months first, then the command on each, in the order of HiGHS's times; which are reached."""
     # HiGHS has its limit by the clock.
-    found, took = alone(seed, number, LIMIT * busy_now())
-    busy = max(1.0, (time.monotonic() - begin) / took)
-    what = f"{number:2} {ward.nurses:3} nurses, {ward.weeks} weeks, {ward.letters or 'easy':4}: "
-    is_closed = found["status"] == 0
-    if found["status"] == 2:
-        print(what + f"HiGHS {took:.1f} s none", flush=True)
-        return True
-    begin = time.monotonic()
+    by_highs = {number: alone(seed, number, LIMIT * busy_now()) for number in numbers}
+    return [compare(seed, number, *by_highs[number]) for number in sorted(numbers, key=lambda one: by_highs[one][1])]
+
+
+def compare(seed, number, found, took):
+    """Prints one month, where HiGHS took so long; whether its aim is reached."""
+    ward, begin = Ward(seed, number), time.monotonic()
     # Two processes take 4 T in 2 T by the clock of a machine without other work.
-    seconds = max(2, round(2 * took * busy))
+    seconds, is_open = max(2, round(2 * took * busy_now())), found["status"] == 1
     told, line, own = command(ward, seconds)
-    if is_closed and told.get("rules", {}).get("proved") != "best" and own < ENOUGH * took:
-        told, line, own = command(ward, round(seconds * 4 * took / own))
+    for _ in range(RUNS - 1):
+        if not (is_open and own > TIMES * took) and (is_reached(told, found) or own >= ENOUGH * took):
+            break
+        seconds = max(2, round(seconds * (ENOUGH + TIMES) / 2 * took / own))
+        told, line, own = command(ward, seconds)
     rules, cost = told.get("rules", {}), told.get("cost")
     bound = None if cost is None or rules.get("better") is None else float(cost) - float(rules["better"])
-    is_met = (rules.get("proved") == "best" and own <= 4 * took if is_closed else bound is not None and
-              (found["cost"] is None or float(cost) <= found["cost"]))
-    print(what + f"HiGHS {took:5.1f} s {'best' if is_closed else 'open'} {found['cost']} (bound {found['bound']}), "
-          f"command {own:5.1f} s ({own / took:.1f} T, {time.monotonic() - begin:.0f} s by the clock) "
-          f"{rules.get('proved')} {cost} (bound {bound}) {'reached' if is_met else 'MISSED'}: {line}", flush=True)
+    is_met = is_reached(told, found) and own <= TIMES * took
+    print(f"{number:2} {ward.nurses:3} nurses, {ward.weeks} weeks, {ward.letters or 'easy':4}: HiGHS {took:5.1f} s "
+          f"{('best', 'open', 'none')[found['status']]} {found['cost']} (bound {found['bound']}), command {own:5.1f} s "
+          f"({own / took:.1f} T, {time.monotonic() - begin:.0f} s by the clock) {rules.get('proved')} {cost} "
+          f"(bound {bound}) {'reached' if is_met else 'MISSED'}: {line}", flush=True)
     return is_met
+
+
+def is_reached(told, found):
+    """Whether the command says what HiGHS does: the least cost, or that there is no plan; or, where HiGHS left that
+    open, has a bound and a plan that costs no more."""
+    proved, cost = told.get("rules", {}).get("proved"), told.get("cost")
+    if found["status"] == 2:
+        return proved == "impossible"
+    is_cheap = cost is not None and (found["cost"] is None or float(cost) <= found["cost"])
+    return is_cheap and (proved == "best" or found["status"] == 1 and told["rules"].get("better") is not None)
 
 
 def priced(seed, number):
@@ -272,7 +283,7 @@ def priced(seed, number):
     if found["status"] == 2 or cost is None:
         agrees = found["status"] > 0 and rules.get("proved") in ("impossible", "undecided")
     else:
-        agrees = found["status"] == 1 or (cost == found["cost"] if rules["proved"] == "best" else cost > found["cost"])
+        agrees = found["status"] == 1 or (cost == found["cost"] if rules["proved"] == "best" else cost >= found["cost"])
     print(f"{number:2} {ward.nurses:3} nurses, {ward.weeks} weeks, {ward.letters or 'easy':4} with prices: HiGHS "
           f"{took:.1f} s {found['cost']}, command {own:.1f} s {rules.get('proved')} {cost} (missed "
           f"{rules.get('missed_cost')}) {'agrees' if agrees else 'DIFFERS'}: {line}", flush=True)
@@ -288,7 +299,12 @@ def sick(seed, number):
     """Prints one sick ward; whether it misses at most 3 more places than HiGHS finds in the same processor time."""
     ward = sick_ward(seed, number)
     told, line, own = command(ward, round(LIMIT * busy_now()), "--as-many-as-can")
-    found, took = alone(seed, number, own * busy_now(), "sick")
+    seconds = own * busy_now()
+    for _ in range(RUNS):
+        found, took = alone(seed, number, seconds, "sick")
+        if found["status"] == 0 or took >= AS_MUCH * own:
+            break
+        seconds *= 1.1 * own / took
     rules = told.get("rules", {})
     missing = rules.get("missing", 0) if told.get("cost") is not None else None
     theirs = None if found["cost"] is None else found["cost"] // 1000
@@ -315,13 +331,14 @@ def main():
         print(json.dumps(highs(WARDS[kind](seed, number), seconds, kind == "sick")))
         return
     kind = words.pop(0)[2:] if words[:1] in (["--sick"], ["--prices"]) else ""
-    reach, most = {"sick": (sick, 4), "prices": (priced, 100), "": (compare, 25)}[kind]
+    reach, most = {"sick": (sick, 4), "prices": (priced, 100), "": (None, 25)}[kind]
     seed, months, first = [int(word) for word in words] + [1, most, 0][len(words):]
     with tempfile.TemporaryDirectory() as name:
         global INSTALLED
         INSTALLED = pathlib.Path(name)
         install(INSTALLED)
-        reached = [reach(str(seed), number) for number in range(first, first + months)]
+        numbers = range(first, first + months)
+        reached = [reach(str(seed), number) for number in numbers] if reach else compare_all(str(seed), numbers)
     print(f"{sum(reached)} of {len(reached)} reached")
 
 

@@ -69,7 +69,10 @@ class Finder:
         self.first = known[0] if known else ()
         for first in known:
             self.complete(first)
-        self.whole(max(_FIRST_PART, _FIRST_LEAST / self.seconds))
+        of_nobody = {person is None for cost, person in zip(self.model.costs, self.model.persons) if cost}
+        # Where only what nobody has costs anything, as what is missing does, searches around months find more.
+        if of_nobody != {True}:
+            self.whole(max(_FIRST_PART, _FIRST_LEAST / self.seconds))
         while not self.is_over and self.left() > 0:
             self.search()
             self.whole(_NEXT_PART)
@@ -112,12 +115,13 @@ class Finder:
                 point = self.around.point(self.channel.plan or ())
             if point is None:
                 return
-            better = self.around.step(point, until - time.monotonic())
-            vain = 0 if better is not None else vain + 1
-            until = until if better is None else min(self.deadline, time.monotonic() + _AROUND_PART * self.seconds)
-            point = better or point
-            if better is not None and not better.missed:
-                self.say(whole_plan(better))
+            other = self.around.step(point, until - time.monotonic())
+            is_better = other is not None and other.is_better(point)
+            vain = 0 if is_better else vain + 1
+            until = min(self.deadline, time.monotonic() + _AROUND_PART * self.seconds) if is_better else until
+            point = other or point
+            if is_better and not point.missed:
+                self.say(whole_plan(point))
 
 
 def look_for_plans(model: Model, channel: Channel, deadline: float,

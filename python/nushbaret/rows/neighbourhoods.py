@@ -12,15 +12,17 @@ np: Any = importlib.import_module("numpy")
 sparse: Any = importlib.import_module("scipy.sparse")
 optimize: Any = importlib.import_module("scipy.optimize")
 
-# Seconds for one neighbourhood at most; one that takes less than a fraction of it is too small, and one that takes all
-# too large.
-LONGEST = 2.0
+# Seconds of processor time for one neighbourhood at most; one that takes less than a fraction of it is too small, and
+# one that takes all too large.
+LONGEST = 1.0
 _SHORT = 0.15
+# Seconds of processor time that a search took at least, as far as the clock's pace is reckoned.
+_LEAST_USED = 0.01
 # HiGHS looks at so many nodes at most.
 _NODES = 100
 # So many variables are free at first, at least and at most, and how that grows and shrinks.
 _FREE = 250
-_LEAST_FREE, _MOST_FREE, _GROWTH = 40, 600, 1.25
+_LEAST_FREE, _MOST_FREE, _GROWTH = 40, 1200, 1.25
 # What a unit costs by which a shared row is missed, in greatest costs.
 _MISSED = 4
 
@@ -52,9 +54,13 @@ class Neighbourhoods:
         self.owners = [block for block in self.blocks if model.persons[block.variables[0]] is not None]
         # What nobody has, and what has no day, is always free.
         self.always = np.array([person is None for person in model.persons], dtype=bool)
-        self.days = np.array([-1 if day is None else day for day in model.days] or [0] * model.variables)
+        self.days = np.array([-1 if day is None else day for day in model.days] or [-1] * model.variables)
+        self.calendar = np.unique(self.days[self.days >= 0])
         self.draw = random.Random(1)
-        self.size = float(_FREE)
+        # How many variables are free, of persons and of days.
+        self.sizes = [float(_FREE), float(_FREE)]
+        # Seconds by the clock for one of processor time.
+        self.pace = 1.0
 
     def point(self, plan: Sequence[int]) -> Point:
         """A plan as a point; its own rows are taken to be kept."""
@@ -98,40 +104,47 @@ class Neighbourhoods:
         return _least(part, low, high, costs, whole, seconds)
 
     def step(self, point: Point, seconds: float) -> Optional[Point]:
-        """A better point in a drawn neighbourhood, or None. The next ones are larger where this was soon searched, and
-        smaller where it wasn't searched in time."""
-        free = self._drawn()
-        begin, allowed = time.monotonic(), min(LONGEST, seconds)
+        """A point in a drawn neighbourhood that is no worse, or None. The next ones are larger where this was soon
+        searched, and smaller where it wasn't searched in time."""
+        by_days = int(self.calendar.size > 0 and self.draw.random() < 0.5)
+        free = self._drawn_days() if by_days else self._drawn_persons()
+        allowed = min(LONGEST * self.pace, seconds)
+        begin, used = time.monotonic(), time.process_time()
         taken = self.around(point, free, allowed)
-        took = time.monotonic() - begin
+        took, used = time.monotonic() - begin, time.process_time() - used
+        self.pace = max(1.0, (self.pace + took / max(used, _LEAST_USED)) / 2)
+        size = self.sizes[by_days]
         if taken is not None and taken.is_least and took < _SHORT * allowed:
-            self.size = min(self.size * _GROWTH, _MOST_FREE)
+            self.sizes[by_days] = min(size * _GROWTH, _MOST_FREE)
         elif taken is None or not taken.is_least or took > allowed / 2:
             # HiGHS heeds its limit late.
-            self.size = max(self.size / _GROWTH ** max(1.0, took / allowed), _LEAST_FREE)
+            self.sizes[by_days] = max(size / _GROWTH ** max(1.0, took / allowed), _LEAST_FREE)
         if taken is None:
             return None
         values = point.plan.copy()
         values[free] = np.rint(taken.point[:int(free.sum())])
         found = self.point(values)
-        return found if found.is_better(point) else None
+        return None if point.is_better(found) else found
 
-    def _drawn(self) -> Any:
-        """The variables of some persons, or of some days side by side."""
+    def _drawn_persons(self) -> Any:
+        """The variables of some persons."""
         free = self.always.copy()
-        size = free.sum() + self.size
-        if self.draw.random() < 0.5 or not self.model.days:
-            for block in self.draw.sample(self.owners, len(self.owners)):
-                free[block.variables] = True
-                if free.sum() >= size:
-                    break
-            return free
-        free |= self.days < 0
-        least, most = int(self.days[self.days >= 0].min(initial=0)), int(self.days.max())
-        first = last = self.draw.randint(least, most)
-        while free.sum() < size and (first > least or last < most):
-            free |= (self.days >= first) & (self.days <= last)
-            first, last = max(least, first - self.draw.randint(0, 1)), min(most, last + 1)
+        most = free.sum() + self.sizes[0]
+        for block in self.draw.sample(self.owners, len(self.owners)):
+            free[block.variables] = True
+            if free.sum() >= most:
+                break
+        return free
+
+    def _drawn_days(self) -> Any:
+        """The variables of some days side by side."""
+        free = self.always | (self.days < 0)
+        most, last_of_all = self.always.sum() + self.sizes[1], self.calendar.size - 1
+        first = last = self.draw.randint(0, last_of_all)
+        free |= self.days == self.calendar[first]
+        while free.sum() < most and (first > 0 or last < last_of_all):
+            first, last = max(0, first - self.draw.randint(0, 1)), min(last_of_all, last + 1)
+            free |= (self.days >= self.calendar[first]) & (self.days <= self.calendar[last])
         return free
 
 

@@ -190,15 +190,15 @@ class Prover:
     def by_persons(self, pricing: Pricing, best: Bound) -> None:
         """The bound that the prices show, plans near it, and trees after the persons' links for what is left between
         them."""
-        least, reaches = -(-best.value // SCALE), pricing.reaches(best)
+        least = -(-best.value // SCALE)
         most = least - 1 if self.channel.cost is None else min(least, self.channel.cost) - 1
         if self.bound is None or most >= self.bound:
             try:
                 self.tell(chain(pricing, best, most, self.deadline), most)
             except Open:
                 pass
-        if not self.channel.is_over:
-            self.look_for_plan(reaches, least)
+        if not self.channel.is_over and not self.is_closed():
+            self.look_for_plan(pricing.reaches(best), least)
         self.close(pricing, best)
 
     def look_for_plan(self, reaches: Any, least: int) -> None:

@@ -100,6 +100,50 @@ class Months(unittest.TestCase):
 
 
 @needs_scipy
+class Around(unittest.TestCase):
+    def test_what_comes_first(self):
+        """Searches around months where only what nobody has costs anything, and HiGHS over all else."""
+        from nushbaret.rows import highs
+        rows = tuple(Row(1, ((person, 1), (2 + person, 1)), None, "one") for person in (0, 1))
+        for costs, first, least in (((0, 0, 1, 1), "search", 0), ((0, 2, 1, 1), "whole", 1), ((0,) * 4, "whole", 0)):
+            channel = models.Channel()
+            finder = highs.Finder(Model(4, costs, rows, (0, 1, None, None)), channel, time.monotonic() + 600)
+            done = mock.Mock()
+            done.attach_mock(mock.patch.object(finder, "search", side_effect=finder.search).start(), "search")
+            done.attach_mock(mock.patch.object(finder, "whole", side_effect=finder.whole).start(), "whole")
+            finder.run(())
+            self.assertEqual((done.mock_calls[0][0], channel.cost, finder.is_over), (first, least, True))
+        mock.patch.stopall()
+
+    def test_days_that_are_drawn(self):
+        """Each real day is among them, also where days are counted from long ago, and they stand side by side."""
+        from nushbaret.rows import neighbourhoods
+        month = models.drawn_month(random.Random(5), 4, 7)
+        days = tuple(739_000 + variable // 2 % 7 for variable in range(month.variables))
+        search, seen = neighbourhoods.Neighbourhoods(month._replace(days=days)), set()
+        for size in (0, 16, 100) * 40:
+            search.sizes[1] = size
+            own = sorted({day for day, is_free in zip(days, search._drawn_days()) if is_free})
+            self.assertEqual((own[-1] - own[0] + 1, size > 56 or len(own) < 7), (len(own), True))
+            self.assertGreaterEqual(8 * len(own), min(size, 56))
+            seen.update(own if size == 0 else ())
+        self.assertEqual(seen, set(days))
+        self.assertFalse(neighbourhoods.Neighbourhoods(month).calendar.size)
+
+    def test_a_search_has_its_time_by_the_processor(self):
+        """Where it had an eighth of a processor, the next one may take longer by the clock."""
+        from nushbaret.rows import neighbourhoods
+        model = models.drawn_month(random.Random(5))
+        search, allowed = neighbourhoods.Neighbourhoods(model), []
+        clock = mock.Mock(**{"monotonic.side_effect": (0, 8, 8, 16), "process_time.side_effect": (0, 1, 1, 2)})
+        with mock.patch.object(neighbourhoods, "time", clock), mock.patch.object(
+                search, "around", side_effect=lambda point, free, seconds: allowed.append(seconds)):
+            for _ in range(2):
+                self.assertIsNone(search.step(search.point([0] * model.variables), 100))
+        self.assertEqual(allowed, [neighbourhoods.LONGEST, 4.5 * neighbourhoods.LONGEST])
+
+
+@needs_scipy
 class Processes(unittest.TestCase):
     def test_finds_with_processes_of_its_own(self):
         told = []
