@@ -12,7 +12,8 @@ from .solve import solve_problem
 
 
 class _KBest(Iterator[Plan]):
-    """The plans of `k_best`. Half-way it can be pickled: then it goes on where it was, with plans that are found again."""
+    """The plans of `k_best`. It can be pickled half-way: then it goes on where it was, and finds the plans before that
+    again."""
 
     def __init__(self, problem: AssignmentProblem, result: Result, count: int, timeout: Optional[float]):
         self._problem, self._result, self._count, self._timeout = problem, result, count, timeout

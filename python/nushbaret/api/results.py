@@ -288,9 +288,9 @@ class Result(ByNames, Lasting):
 
         Notes
         -----
-        `nushbaret_next` proves that the plan is a next best one, or that there is none, where costs and prices are whole
-        numbers in its range, as many pairs are made as the shorter side has rows or columns, and it decides: mostly.
-        Elsewhere Python finds it, and it is checked as in `k_best`.
+        `nushbaret_next` proves that the plan is a next best one, or that there is none, where costs and prices are
+        whole numbers in its range, as many pairs are made as the shorter side has rows or columns, and it decides:
+        mostly. Elsewhere Python finds it, and it is checked as in `k_best`.
 
         Examples
         --------

@@ -8,8 +8,8 @@ nothing.
 The library checks each plan before it is handed out: the duals of its part prove that it is a best plan of the part.
 That the parts hold all plans, and that no part that waits has a better one, is computed here.
 
-A plan costs the sum of its pairs' reduced costs more than the best one. So at first only pairs of small reduced cost are
-looked at, and then, for plans that cost more than that, those of greater ones."""
+A plan costs the sum of its pairs' reduced costs more than the best one. So at first only pairs of small reduced cost
+are looked at, and then, for plans that cost more than that, those of greater ones."""
 import heapq
 from array import array
 from bisect import insort
@@ -49,8 +49,8 @@ class Ranking:
         self._begin_near(_FIRST_PAIRS)
 
     def _begin_near(self, count: int) -> None:
-        """Begins with the pairs of small reduced cost, about so many of a row; with all where they aren't doubles, which
-        take long to be made whole, or few."""
+        """Begins with the pairs of small reduced cost, about so many of a row; with all where they aren't doubles, or
+        few. Doubles take long to be made whole."""
         problem, pairs = self.given, self.given.n_rows * self.given.n_columns
         if not problem.numpy or problem.matrix_of_doubles() is None or not _FEW < pairs > count * problem.n_rows:
             self._begin(problem)
@@ -196,8 +196,8 @@ def plans_in_order(best: BestPlan, count: int) -> Iterator[Tuple[List[int], List
 
 
 def near_pairs(problem: AssignmentProblem, duals: Duals, unit: Unit, count: int) -> Tuple[AssignmentProblem, Fraction]:
-    """The pairs of small reduced cost of a matrix of doubles, about so many of a row, and a reduced cost up to which all
-    are among them."""
+    """The pairs of small reduced cost of a matrix of doubles, about so many of a row, and a reduced cost up to which
+    all are among them."""
     numpy, sign = problem.numpy, -1 if problem.maximize else 1
     costs = sign * problem.costs.numbers.reshape(problem.n_rows, problem.n_columns)
     rows, columns = (numpy.array([dual / unit.denominator for dual in own]) for own in (duals.rows, duals.columns))

@@ -515,7 +515,8 @@ class Forms(unittest.TestCase):
                 for place, row in enumerate(after):
                     costs[place][:] = row
                 try:
-                    self.assertEqual((result.is_unique(), result.next_best().cost), (unique, next_cost), (before, after))
+                    self.assertEqual((result.is_unique(), result.next_best().cost), (unique, next_cost),
+                                     (before, after))
                 except ValueError as fault:
                     self.assertIn("the costs were changed after the call", str(fault))
                     self.assertEqual(before, [[-1.0, 2.5]])
