@@ -71,8 +71,7 @@ def k_best(costs: Matrix, k: int, maximize: bool = False, decimals: Optional[int
     reduced cost. Before it is yielded, each is checked as `check` does, by the library where costs are in its range: it
     is a best one of its part, which has the plans that agree with an earlier plan in the first rows and differ from it
     in the next. That the parts hold all plans and are taken in order is tested, not proved. The iterator may be pickled
-    half-way. Plans differ in their rows or columns; equal rows make plans of
-    one cost, and there may be very many.
+    half-way. Plans differ in their rows or columns; equal rows make plans of one cost, and there may be very many.
 
     Examples
     --------

@@ -257,9 +257,9 @@ class Result(ByNames, Lasting):
 
         Notes
         -----
-        `nushbaret_unique` proves it of whole costs in its range. Of others the library finds, among the plans along
-        pairs without reduced cost, one with as few of this plan's pairs as possible; which pairs these are follows
-        from the duals.
+        `nushbaret_unique` proves it of whole costs in its range. Of a matrix of doubles `nushbaret_doubles_from` proves
+        it where each other plan is worse by a margin. Else the library finds, among the plans along pairs without
+        reduced cost, one with as few of this plan's pairs as possible; which pairs these are follows from the duals.
 
         Examples
         --------

@@ -7,7 +7,7 @@ from typing import Any, Dict, FrozenSet, Iterable, List, NamedTuple, Optional, S
 
 INFINITE = float("inf")
 # So many rows show what reduced costs are usual.
-_SAMPLED_ROWS = 32
+SAMPLED_ROWS = 32
 NOBODY: FrozenSet[int] = frozenset()
 
 Choice = Tuple[int, int]
@@ -46,7 +46,7 @@ class Paths:
 
     def usual_bound(self, rows: List[int], columns: List[int], count: int) -> int:
         """A reduced cost up to which a row has about so many pairs: by some of the rows."""
-        some = range(0, self.n_rows, max(1, self.n_rows // _SAMPLED_ROWS))
+        some = range(0, self.n_rows, max(1, self.n_rows // SAMPLED_ROWS))
         found: List[int] = heapq.nsmallest(count * len(some), (cost - columns[column] - rows[row] for row in some
                                                     for column, cost in zip(*self.lists[row])))
         return found[-1] if found else 0

@@ -23,7 +23,7 @@ from ..costs.problem import AssignmentProblem, costs_of_pairs, in_whole_numbers,
 from . import library
 from .duals import duals_of_whole
 from .matching import Group, prove_short
-from .paths import INFINITE, NOBODY, Choice, PathSearch, Paths, Subproblem
+from .paths import INFINITE, NOBODY, SAMPLED_ROWS, Choice, PathSearch, Paths, Subproblem
 from .plan_check import check_problem
 from .proved import Duals
 from .solving import BestPlan, least_sum
@@ -203,7 +203,7 @@ def near_pairs(problem: AssignmentProblem, duals: Duals, unit: Unit, count: int)
     rows, columns = (numpy.array([dual / unit.denominator for dual in own]) for own in (duals.rows, duals.columns))
     # No reduced cost is rounded by as much, with the decimals that doubles print as.
     error = 2.0**-49 * float(abs(costs).max() + abs(rows).max() + abs(columns).max())
-    some = numpy.arange(0, problem.n_rows, max(1, problem.n_rows // 32))
+    some = numpy.arange(0, problem.n_rows, max(1, problem.n_rows // SAMPLED_ROWS))
     usual = numpy.partition((costs[some] - rows[some, None] - columns).ravel(), count * len(some))[count * len(some)]
     bound = max(float(usual), 0.0) + 2 * error
     places = [(first, (costs[first:first + 64] - rows[first:first + 64, None] - columns <= bound).nonzero())

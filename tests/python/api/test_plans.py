@@ -139,7 +139,6 @@ class Plans(unittest.TestCase):
         self.assertEqual((plans[0].cost, plans[1].cost), (result.cost, result.next_best().cost))
         self.assertEqual(plans[1].cost, min(result.without(*pair).cost for pair in result.pairs))
 
-
     def test_few_pairs_at_first(self):
         """Where small reduced costs don't suffice, greater ones are looked at: each list is the one of all pairs."""
         draw = drawing(38)
