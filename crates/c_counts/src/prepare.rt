@@ -11,13 +11,26 @@ pub struct Prepared {
     pub costs: Vec<Cost>,
 }
 
-// Counts the pairs of each row, at its number.
-fn count_rows(starts: &mut [usize], rows: &[u32]) {
-    for row in rows {
-        if let Some(start) = starts.get_mut(*row as usize) {
-            *start = start.wrapping_add(1);
-        }
+// Adds to the count of a row, at its number.
+fn add(starts: &mut [usize], row: u32, count: usize) {
+    if let Some(start) = starts.get_mut(row as usize) {
+        *start = start.wrapping_add(count);
     }
+}
+
+// Counts the pairs of each row, of which the pairs stand together.
+fn count_rows(starts: &mut [usize], rows: &[u32]) {
+    let mut last = 0u32;
+    let mut count = 0usize;
+    for row in rows {
+        if *row != last {
+            add(starts, last, count);
+            last = *row;
+            count = 0;
+        }
+        count = count.wrapping_add(1);
+    }
+    add(starts, last, count);
 }
 
 // Adds to each number all before it.
@@ -39,9 +52,9 @@ fn starts_of(alloc: Global, lists: CountLists<'_>) -> Result<Vec<usize>, AllocEr
 
 // The columns from 0.
 fn columns_of(alloc: Global, lists: CountLists<'_>) -> Result<Vec<u32>, AllocError> {
-    let mut columns = Vec::with_capacity(alloc, lists.columns.len())?;
-    for column in lists.columns {
-        columns.push(column.saturating_sub(1))?;
+    let mut columns = Vec::from_slice(alloc, lists.columns)?;
+    for column in columns.as_mut_slice().iter_mut() {
+        *column = column.saturating_sub(1);
     }
     Ok(columns)
 }
@@ -56,9 +69,11 @@ pub fn turned(sense: Sense, cost: Cost) -> Cost {
 
 // The costs as ones to minimise.
 fn costs_of(alloc: Global, lists: CountLists<'_>) -> Result<Vec<Cost>, AllocError> {
-    let mut costs = Vec::with_capacity(alloc, lists.costs.len())?;
-    for cost in lists.costs {
-        costs.push(turned(lists.sense, *cost))?;
+    let mut costs = Vec::from_slice(alloc, lists.costs)?;
+    if lists.sense == Sense::Max {
+        for cost in costs.as_mut_slice().iter_mut() {
+            *cost = cost.wrapping_neg();
+        }
     }
     Ok(costs)
 }

@@ -1,5 +1,5 @@
 // Faults of a caller's lists.
-ghost use Rattle.std.specs.Prelude.{◌≡◌, ◌≤◌, ◌<◌, ◌+◌, ◌↔◌, ◌^◌, ℕ, IsTrue, All, MatchOption, length, slice_index};
+ghost use Rattle.std.specs.Prelude.{◌≡◌, ◌≤◌, ◌<◌, ◌+◌, ◌↔◌, ◌^◌, ℕ, IsTrue, All, MatchOption, length, slice_index, true};
 ghost use Rattle.assign_core.specs.Numbered.{IsNumber};
 ghost use Rattle.assign_core.specs.Rows.{IsCost};
 ghost use Rattle.cost_lists.specs.ListedCosts.{IsCount};
@@ -63,11 +63,25 @@ fn are_of_length(lists: CountLists<'_>) -> bool
         && lists.groups.len() == lists.column_least.len()
 }
 
+// Whether each number is from 1 to n. Compilers make vectors of this loop and of the two like it.
+fn are_numbers(n: usize, numbers: &[u32]) -> bool
+    ensures { result ≡ true → All (IsNumber n) numbers.now }
+{
+    let mut are = true;
+    for k in 0..numbers.len() {
+        are = are & (numbers[k] != 0) & (numbers[k] as usize <= n);
+    }
+    are
+}
+
 // The place of the first number that isn't from 1 to n.
 fn first_outside(n: usize, numbers: &[u32]) -> Option<usize>
     ensures { MatchOption result (All (IsNumber n) numbers.now)
         (IsFirstWithout (IsNumber n) numbers.now) }
 {
+    if are_numbers(n, numbers) {
+        return None;
+    }
     for k in 0..numbers.len() {
         if numbers[k] == 0 || numbers[k] as usize > n {
             return Some(k);
@@ -76,10 +90,24 @@ fn first_outside(n: usize, numbers: &[u32]) -> Option<usize>
     None
 }
 
+// Whether no number is below the one before.
+fn are_rising(numbers: &[u32]) -> bool
+    ensures { result ≡ true → AreRising numbers.now }
+{
+    let mut are = true;
+    for k in 1..numbers.len() {
+        are = are & (numbers[k - 1] <= numbers[k]);
+    }
+    are
+}
+
 // The place of the first number that is below the one before.
 fn first_lower(numbers: &[u32]) -> Option<usize>
     ensures { MatchOption result (AreRising numbers.now) (IsFirstLower numbers.now) }
 {
+    if are_rising(numbers) {
+        return None;
+    }
     for k in 1..numbers.len() {
         if numbers[k] < numbers[k - 1] {
             return Some(k);
@@ -115,10 +143,24 @@ fn first_crossed(least: &[u32], most: &[u32]) -> Option<usize>
     None
 }
 
+// Whether all costs are in range.
+fn are_costs(costs: &[Cost]) -> bool
+    ensures { result ≡ true → All IsCost costs.now }
+{
+    let mut are = true;
+    for k in 0..costs.len() {
+        are = are & (costs[k] >= -GREATEST_COST) & (costs[k] <= GREATEST_COST);
+    }
+    are
+}
+
 // The place of the first cost that is out of range.
 fn first_cost(costs: &[Cost]) -> Option<usize>
     ensures { MatchOption result (All IsCost costs.now) (IsFirstWithout IsCost costs.now) }
 {
+    if are_costs(costs) {
+        return None;
+    }
     for k in 0..costs.len() {
         if costs[k] < -GREATEST_COST || costs[k] > GREATEST_COST {
             return Some(k);

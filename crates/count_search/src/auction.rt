@@ -3,6 +3,7 @@
 use super::groups::Groups;
 use super::offers::Offer;
 use super::queue::Queue;
+use super::runs::Runs;
 use super::slots::{Slot, Slots};
 use super::state::State;
 use super::tournament::Tournament;
@@ -51,6 +52,7 @@ pub struct Auction {
     pub tournament: Tournament,
     pub offers: Vec<Offer>,
     pub groups: Groups,
+    pub runs: Runs,
     /// The columns of which the dummy row takes slots.
     pub touched: Vec<u32>,
     /// Where the offer of a group stands.
@@ -82,6 +84,7 @@ impl Auction {
         terms: Terms,
         arc_scans: ArcScans,
         groups: Groups,
+        runs: Runs,
     ) -> Result<Auction, AllocError> {
         let count = sizes.columns.saturating_add(1);
         let rows = sizes.rows;
@@ -105,6 +108,7 @@ impl Auction {
             tournament: Tournament::new(alloc, count, is_needed)?,
             offers: Vec::new(alloc),
             groups,
+            runs,
             touched: Vec::new(alloc),
             places: vec![in alloc; 0u32; sizes.columns]?,
         })

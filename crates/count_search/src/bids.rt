@@ -12,6 +12,18 @@ use std::alloc::AllocError;
 const OUT_OF_REACH: i64 = 1 << 60;
 
 impl Auction {
+    // The two best of the pairs that a row may take.
+    #[inline(always)]
+    fn two_best(&self, state: &State, row: u32, pairs: Row<'_>) -> Two {
+        let (prices, scale) = (state.prices.as_slice(), self.terms.scale);
+        if state.held_of(row) == 0 {
+            if let Some(run) = self.runs.run_of(row, pairs, prices, scale) {
+                return run.two_best();
+            }
+        }
+        two_best_open(pairs, self.groups.closed(state, pairs), prices, scale)
+    }
+
     // One hand of a row bids.
     #[inline(always)]
     fn bid_once(
@@ -23,8 +35,7 @@ impl Auction {
         let pairs = problem.row(row);
         self.bids = self.bids.wrapping_add(1);
         self.arc_scans.add(pairs.columns.len());
-        let closed = self.groups.closed(state, pairs);
-        let mut two = two_best_open(pairs, closed, state.prices.as_slice(), self.terms.scale);
+        let mut two = self.two_best(state, row, pairs);
         let outside = state.outside();
         if self.room_outside(state, row) > 0 {
             two = two.with(pairs.columns.len(), state.price(outside));

@@ -20,6 +20,7 @@ mod queue;
 mod record;
 mod repair;
 mod resume;
+mod runs;
 mod shortage;
 mod slots;
 mod state;

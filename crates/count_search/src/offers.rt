@@ -77,34 +77,23 @@ struct Values<'a> {
 }
 
 impl Values<'_> {
-    // The first pair from a place on whose value is below a bound.
     #[inline(always)]
-    fn first_below(self, from: usize, bound: i64) -> Option<(usize, i64)> {
-        let end = self.row.columns.len();
-        let columns = self.row.columns.get(from..end).unwrap_or(&[]);
-        let costs = self.row.costs.get(from..end).unwrap_or(&[]);
-        let bytes = self.bytes.get(from..end).unwrap_or(&[]);
-        for (k, ((column, cost), byte)) in columns.iter().zip(costs).zip(bytes).enumerate() {
-            let value = value_at(*column, *cost, self.prices, self.scale);
-            let value = value.wrapping_add(i64::from(*byte).wrapping_shl(CLOSED));
-            if value < bound {
-                return Some((from.wrapping_add(k), value));
-            }
-        }
-        None
+    fn value(self, column: u32, cost: i64, byte: u8) -> i64 {
+        let value = value_at(column, cost, self.prices, self.scale);
+        value.wrapping_add(i64::from(byte).wrapping_shl(CLOSED))
     }
 
+    // Without branches, which in a short row would go either way.
+    #[inline(always)]
     fn two_best(self) -> Two {
         let mut two = Two::none();
-        let mut from = 0usize;
-        for _better in 0..self.row.columns.len() {
-            match self.first_below(from, two.second) {
-                Some((place, value)) => {
-                    two = two.with(place, value);
-                    from = place.wrapping_add(1);
-                }
-                None => return two,
-            }
+        let pairs = self.row.columns.iter().zip(self.row.costs);
+        for (k, ((column, cost), byte)) in pairs.zip(self.bytes).enumerate() {
+            let value = self.value(*column, *cost, *byte);
+            let is_better = value < two.best;
+            two.second = two.second.min(two.best.max(value));
+            two.place = if is_better { k } else { two.place };
+            two.best = two.best.min(value);
         }
         two
     }

@@ -3,14 +3,20 @@ use super::auction::Auction;
 use super::groups::Groups;
 use super::layout::Layout;
 use super::problem::Problem;
+use super::runs::Runs;
 use super::state::State;
 use super::values::{clear_bytes, clear_counts, count_at, set_count};
 use search_base::{ArcScans, place_at};
 use std::alloc::{AllocError, Global};
 
 // The numbers come from measurements; no answer depends on them.
-// The slackness falls by this factor.
+// The slackness falls by this factor, and by as much more for each quiet phase before.
 const FALL: i64 = 8;
+
+const FALL_BITS: u32 = 3;
+
+const MOST_QUIET: u32 = 16;
+
 // After a phase with more bids of a hand than this it falls by less.
 const BIDS_OF_A_WAR: u64 = 2;
 
@@ -26,15 +32,16 @@ const MOST_PHASES: usize = 64;
 /// No price of a phase is higher.
 pub const HIGHEST_PRICE: i64 = 1 << 60;
 
-// The slackness after a phase of so many bids.
-fn fallen(slackness: i64, bids: u64, hands: u64) -> i64 {
+// The slackness after a phase of so many bids, and after so many phases in a row in which nobody bid
+// twice.
+fn fallen(slackness: i64, bids: u64, hands: u64, quiet: u32) -> i64 {
     let is_war = bids > hands.saturating_mul(BIDS_OF_A_WAR);
-    let next = if is_war {
-        slackness / FALL_IN_A_WAR
+    let fall = if is_war {
+        FALL_IN_A_WAR
     } else {
-        slackness / FALL
+        FALL.wrapping_shl(FALL_BITS.wrapping_mul(quiet.min(MOST_QUIET)))
     };
-    next.max(1)
+    (slackness / fall.max(1)).max(1)
 }
 
 /// How a phase, or an auction, ended.
@@ -58,7 +65,8 @@ impl Auction {
         arc_scans: ArcScans,
     ) -> Result<Auction, AllocError> {
         let groups = Groups::of(alloc, problem, state)?;
-        Auction::new(alloc, layout.sizes, layout.terms, arc_scans, groups)
+        let runs = Runs::of(alloc, problem)?;
+        Auction::new(alloc, layout.sizes, layout.terms, arc_scans, groups, runs)
     }
 
     // How many slots of a column, and of staying out, the dummy row may hold.
@@ -159,14 +167,17 @@ impl Auction {
         state: &mut State,
         layout: Layout,
     ) -> Result<Ended, AllocError> {
-        for _phase in 0..MOST_PHASES {
+        let mut quiet = 0u32;
+        for phase in 0..MOST_PHASES {
             let begun = self.bids;
             let ended = self.run_phase(problem, state)?;
             if !matches!(ended, Ended::Settled) || self.terms.slackness <= 1 {
                 return Ok(ended);
             }
             let bids = self.bids.saturating_sub(begun);
-            let slackness = fallen(self.terms.slackness, bids, layout.hands);
+            let is_quiet = phase > 0 && bids <= layout.hands;
+            quiet = if is_quiet { quiet.wrapping_add(1) } else { 0 };
+            let slackness = fallen(self.terms.slackness, bids, layout.hands, quiet);
             self.begin_phase(state, layout, slackness);
         }
         Ok(Ended::War)
