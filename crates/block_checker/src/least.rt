@@ -52,7 +52,7 @@ fn set_of_rows(
         let row = part(costs, i, m);
         least[i] = least_of_row(sense, row, prices);
         if least[i] < numbers[i] {
-            best.add_row(i, sense, row, prices, numbers[i], most)?;
+            best.add_row(i, sense, row, prices, least[i], numbers[i], most)?;
         }
     }
     Ok(())

@@ -16,4 +16,4 @@ pub use bounded::first_better;
 pub use closed::bounds_show_closed;
 pub use least::{Looked, look};
 pub use marks::own_marks;
-pub use selection::{Selected, Selection, select_of_row};
+pub use selection::{Selected, Selection, room_for};

@@ -1,14 +1,27 @@
 // Which pairs of a block are its persons' best ones. Nothing of it has to be right.
-use super::selection::{Selected, Selection, select_of_row};
+use super::selection::{Selected, Selection, room_for};
 use assign_core::{Cost, Sense};
 use cost_lists::{Pairs, Price};
 use std::alloc::{AllocError, Global};
+use std::simd::prelude::*;
+
+// No sum of a cost and a price is as great. No difference of it and a sum leaves the range of a sum.
+const BEYOND: Cost = 9_100_000_000_000_000_000;
 
 // The sum of a cost, turned so that less is better, and a price.
 fn sum_of(sense: Sense, cost: Cost, price: Price) -> Cost {
     match sense {
         Sense::Min => price.wrapping_add(cost),
         Sense::Max => price.wrapping_sub(cost),
+    }
+}
+
+// Eight of them.
+fn sums_of(sense: Sense, costs: &[Cost; 8], prices: &[Price; 8]) -> i64x8 {
+    let (costs, prices) = (i64x8::from_array(*costs), i64x8::from_array(*prices));
+    match sense {
+        Sense::Min => prices + costs,
+        Sense::Max => prices - costs,
     }
 }
 
@@ -27,12 +40,78 @@ fn set_sums(sums: &mut [Cost], sense: Sense, costs: &[Cost], prices: &[Price]) {
     }
 }
 
+// Which of 64 sums are below a bound, as bits. The signs of differences tell.
+fn word_of(sense: Sense, costs: &[Cost; 64], prices: &[Price; 64], bound: Cost) -> u64 {
+    let (costs, _) = costs.as_slice().as_chunks::<8>();
+    let (prices, _) = prices.as_slice().as_chunks::<8>();
+    let mut word = 0u64;
+    for (costs, prices) in costs.iter().zip(prices.iter()) {
+        let signs = (sums_of(sense, costs, prices) - i64x8::splat(bound)).simd_lt(i64x8::splat(0));
+        word = (word >> 8) | (signs.to_bitmask() << 56);
+    }
+    word
+}
+
+// The same of fewer sums.
+fn last_word_of(sense: Sense, costs: &[Cost], prices: &[Price], bound: Cost) -> u64 {
+    let (mut word, mut bit) = (0u64, 1u64);
+    for (cost, price) in costs.iter().zip(prices.iter()) {
+        if sum_of(sense, *cost, *price) < bound {
+            word |= bit;
+        }
+        bit = bit.wrapping_add(bit);
+    }
+    word
+}
+
+// Sets the words of a row's sums below a bound.
+fn set_words(words: &mut [u64], sense: Sense, costs: &[Cost], prices: &[Price], bound: Cost) {
+    let (costs, last_costs) = costs.as_chunks::<64>();
+    let (prices, last_prices) = prices.as_chunks::<64>();
+    let (words, last) = words.split_at_mut(costs.len().min(words.len()));
+    for (word, (costs, prices)) in words.iter_mut().zip(costs.iter().zip(prices.iter())) {
+        *word = word_of(sense, costs, prices, bound);
+    }
+    for word in last.iter_mut() {
+        *word = last_word_of(sense, last_costs, last_prices, bound);
+    }
+}
+
+// The least and the greatest number.
+fn range_of(numbers: &[Cost]) -> (Cost, Cost) {
+    let (mut least, mut greatest) = (Cost::MAX, Cost::MIN);
+    for number in numbers.iter() {
+        (least, greatest) = (least.min(*number), greatest.max(*number));
+    }
+    (least, greatest)
+}
+
+// A distance that has some more numbers than `most` where another one has `most` of them.
+fn widened(distance: Cost, most: usize) -> Cost {
+    if most < 16 {
+        distance.saturating_mul(2)
+    } else {
+        distance.saturating_add(distance >> 1)
+    }
+}
+
+// A mean of both if the old one was good, else the new one.
+fn next_spread(old: Cost, new: Cost, is_good: bool) -> Cost {
+    if is_good {
+        old.wrapping_sub(old >> 2).wrapping_add(new >> 2)
+    } else {
+        new
+    }
+}
+
 /// The best pairs of one person after another.
 #[derive(Drop)]
 pub struct BestPairs {
     selection: Selection,
     // The sums of a row.
     sums: Vec<Cost>,
+    // How far above its least sum the best ones of a row are looked for first.
+    spread: Cost,
     /// Those of the persons so far.
     pub selected: Vec<Selected>,
 }
@@ -43,32 +122,109 @@ impl BestPairs {
         BestPairs {
             selection: Selection::new(alloc),
             sums: Vec::new(alloc),
+            spread: 0,
             selected: Vec::new(alloc),
         }
     }
 
+    // Finds the sums of a row up to a guess, if they aren't too many.
+    fn find(
+        &mut self,
+        sense: Sense,
+        costs: &[Cost],
+        prices: &[Price],
+        guess: Cost,
+        most: usize,
+    ) -> Result<bool, AllocError> {
+        let bound = guess.wrapping_add(1);
+        self.selection.resize(costs.len())?;
+        set_words(
+            self.selection.words.as_mut_slice(),
+            sense,
+            costs,
+            prices,
+            bound,
+        );
+        self.selection.find(room_for(most).min(costs.len()))
+    }
+
+    // Finds the least sums of a row up to a limit, with more care. The bound that it took.
+    fn find_least(
+        &mut self,
+        sense: Sense,
+        costs: &[Cost],
+        prices: &[Price],
+        limit: Cost,
+        most: usize,
+    ) -> Result<Cost, AllocError> {
+        self.sums.resize(costs.len(), 0)?;
+        set_sums(self.sums.as_mut_slice(), sense, costs, prices);
+        self.selection.find_least(self.sums.as_slice(), limit, most)
+    }
+
+    // Sets the found sums.
+    fn set_found(
+        &mut self,
+        sense: Sense,
+        costs: &[Cost],
+        prices: &[Price],
+    ) -> Result<(), AllocError> {
+        let Selection {
+            found,
+            places,
+            numbers,
+            ..
+        } = &mut self.selection;
+        numbers.clear();
+        for at in places.iter().take(*found) {
+            let sum = sum_of(sense, number_at(costs, *at), number_at(prices, *at));
+            numbers.push(sum)?;
+        }
+        Ok(())
+    }
+
     /// Adds at most `most` pairs of a person whose sums are below its number, those of the least sums. The
-    /// costs are those of its row.
+    /// costs are those of its row, and `least` is their least sum, which is below the number.
     pub fn add_row(
         &mut self,
         row: usize,
         sense: Sense,
         costs: &[Cost],
         prices: &[Price],
+        least: Cost,
         number: Cost,
         most: usize,
     ) -> Result<(), AllocError> {
-        self.sums.resize(costs.len(), 0)?;
-        set_sums(self.sums.as_mut_slice(), sense, costs, prices);
-        let sums = self.sums.as_slice();
-        select_of_row(
-            &mut self.selected,
-            &mut self.selection,
-            row,
-            sums,
-            number,
-            most,
-        )
+        if most == 0 {
+            return Ok(());
+        }
+        let limit = number.min(BEYOND).wrapping_sub(1);
+        let guess = least.saturating_add(self.spread).min(limit);
+        let is_few = self.find(sense, costs, prices, guess, most)?;
+        let is_guessed = is_few && (self.selection.found >= most || guess == limit);
+        let bound = if is_guessed {
+            guess
+        } else {
+            self.find_least(sense, costs, prices, limit, most)?
+        };
+        if self.selection.found > most {
+            self.set_found(sense, costs, prices)?;
+        }
+        let last = self
+            .selection
+            .add_to(&mut self.selected, row, most, least, bound)?;
+        match last {
+            Some(last) => {
+                let wide = widened(last.saturating_sub(least), most);
+                self.spread = next_spread(self.spread, wide, is_guessed);
+            }
+            None => {
+                if bound == limit {
+                    self.spread = self.spread.max(limit.saturating_sub(least));
+                }
+            }
+        }
+        Ok(())
     }
 
     // Adds the best ones of each person's better pairs.
@@ -81,12 +237,11 @@ impl BestPairs {
             let (some, other_sums) = sums.split_at(count.min(sums.len()));
             let (some_places, other_places) = places.split_at(count.min(places.len()));
             (sums, places) = (other_sums, other_places);
-            self.selection.best_of(some, Cost::MAX, most)?;
-            for at in self.selection.best.iter() {
-                if let Some(place) = some_places.get(*at) {
-                    self.selected.push(Selected { row: 0, at: *place })?;
-                }
-            }
+            let (least, greatest) = range_of(some);
+            self.selection.take(some_places, some)?;
+            let _last = self
+                .selection
+                .add_to(&mut self.selected, 0, most, least, greatest)?;
         }
         Ok(())
     }
@@ -101,6 +256,9 @@ impl BestPairs {
         numbers: &[Cost],
         most: usize,
     ) -> Result<(), AllocError> {
+        if most == 0 {
+            return Ok(());
+        }
         let better = better_of_pairs(alloc, sense, pairs, numbers, prices)?;
         self.add_better(&better, most)
     }
