@@ -40,7 +40,7 @@ fn set_sums(sums: &mut [Cost], sense: Sense, costs: &[Cost], prices: &[Price]) {
     }
 }
 
-// Which of 64 sums are below a bound, as bits. The signs of differences tell.
+// Which of 64 sums are below a bound, as bits: the signs of differences.
 fn word_of(sense: Sense, costs: &[Cost; 64], prices: &[Price; 64], bound: Cost) -> u64 {
     let (costs, _) = costs.as_slice().as_chunks::<8>();
     let (prices, _) = prices.as_slice().as_chunks::<8>();
@@ -92,15 +92,6 @@ fn widened(distance: Cost, most: usize) -> Cost {
         distance.saturating_mul(2)
     } else {
         distance.saturating_add(distance >> 1)
-    }
-}
-
-// A mean of both if the old one was good, else the new one.
-fn next_spread(old: Cost, new: Cost, is_good: bool) -> Cost {
-    if is_good {
-        old.wrapping_sub(old >> 2).wrapping_add(new >> 2)
-    } else {
-        new
     }
 }
 
@@ -183,6 +174,18 @@ impl BestPairs {
         Ok(())
     }
 
+    // Sets how far above its least sum the best ones of the next row are looked for first: a mean of that distance
+    // and the wanted one if it was good.
+    fn set_spread(&mut self, wanted: Cost, is_good: bool) {
+        self.spread = if is_good {
+            self.spread
+                .wrapping_sub(self.spread >> 2)
+                .wrapping_add(wanted >> 2)
+        } else {
+            wanted
+        };
+    }
+
     /// Adds at most `most` pairs of a person whose sums are below its number, those of the least sums. The
     /// costs are those of its row, and `least` is their least sum, which is below the number.
     pub fn add_row(
@@ -214,10 +217,7 @@ impl BestPairs {
             .selection
             .add_to(&mut self.selected, row, most, least, bound)?;
         match last {
-            Some(last) => {
-                let wide = widened(last.saturating_sub(least), most);
-                self.spread = next_spread(self.spread, wide, is_guessed);
-            }
+            Some(last) => self.set_spread(widened(last.saturating_sub(least), most), is_guessed),
             None => {
                 if bound == limit {
                     self.spread = self.spread.max(limit.saturating_sub(least));

@@ -251,7 +251,8 @@ impl BestPairs {
         Ok(())
     }
 
-    // Sets how far above its least sum the best ones of the next row are looked for first.
+    // Sets how far above its least sum the best ones of the next row are looked for first: a mean of that distance
+    // and the wanted one if it was good.
     fn set_spread(&mut self, wanted: f64, is_good: bool) {
         self.spread = if is_good {
             0.75 * self.spread + 0.25 * wanted
