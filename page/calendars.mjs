@@ -13,7 +13,6 @@ const MOST_OCTETS = 200;
 const MINUTES = 24 * 60;
 const encoder = new TextEncoder();
 /**
- * @typedef {import("./roster.mjs").Roster} Roster
  * @typedef {{ name: string, bytes: Uint8Array }} File
  * @typedef {{ sequence: number, events: Map<string, string[]>, live: Set<string> }} Older Its number among the versions, the lines of its
  *   events by their UIDs, without those that say which version it is, and the UIDs of those that weren't cancelled
@@ -147,7 +146,7 @@ function versioned(own, older) {
 }
 
 /**
- * @type {(found: import("./answers.mjs").Found, version: string) => { files: File[], why: string }}
+ * @type {(found: Found, version: string) => { files: File[], why: string }}
  *   A calendar for each person, which cancels what its older one has, or else the earlier plan; why there is none where
  *   groups are no dates.
  */

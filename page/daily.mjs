@@ -10,8 +10,6 @@ import { quoted } from "./texts.mjs";
 
 const COLUMNS = 4;
 /**
- * @typedef {import("./sheet.mjs").Sheet} Sheet
- * @typedef {import("./numbers.mjs").Costs} Costs
  * @typedef {import("./roster.mjs").Read} Read
  * @typedef {{ line: number, corner: string, days: string[], shifts: string[] }} Heads
  */
@@ -23,7 +21,7 @@ function areDates(cells) {
 
 /** @typedef {(day: string, shift: string, line: number, columns: number[]) => number} NumberOf The number of an object, a new one where it is new */
 
-/** @type {(title: string, names: Names) => { groups: import("./takes.mjs").Groups, numberOf: NumberOf }} Objects by day and shift, as they come. */
+/** @type {(title: string, names: Names) => { groups: Groups, numberOf: NumberOf }} Objects by day and shift, as they come. */
 function objectsBy(title, names) {
   const days = new Names("days");
   const groups = groupsOf(days, title);

@@ -2,30 +2,14 @@
 import { DAY_NAMES, datesOf, isoOf, weekdayOf, weekendsAmong } from "./dates.mjs";
 import { costsOf, orderOf, pairKey } from "./earlier.mjs";
 import { said } from "./faults.mjs";
-import { countsOf, gathered, usesOf } from "./gathered.mjs";
+import { countsOf, gathered, sumOf, usesOf } from "./gathered.mjs";
 import { shown } from "./numbers.mjs";
-import { hasBounds, ofObject, withoutGroup } from "./takes.mjs";
+import { boundsOf, hasBounds, withoutGroup } from "./takes.mjs";
 
 // So many days, kinds and persons fit on a sheet.
 const [MOST_DAYS, MOST_KINDS, MOST_ROWS] = [62, 12, 400];
 const ALPHABET = "ABCDEFGHIJKLMNOPQRSTUVWXYZ";
 const SATURDAY = 5;
-/**
- * @typedef {import("./roster.mjs").Roster} Roster
- * @typedef {import("./plan.mjs").Plan} Plan
- * @typedef {{ name: string, group: number, isWeekend: boolean, when: number | null, isPast: boolean }} Day
- * @typedef {{ label: string, object: number, isFixed: boolean, isNew: boolean }} Entry
- * @typedef {{ entries: Entry[], gone: string[], isOff: boolean }} Cell What a person has on a day, what it had in an earlier plan and has no more,
- *   and whether nothing is allowed
- * @typedef {{ had: number, wanted: number | null }} Staff
- * @typedef {object} DaySheet
- * @property {Day[]} days
- * @property {Map<string, string>} letters
- * @property {{ name: string, cells: Cell[], sums: string[] }[]} persons
- * @property {{ title: string, meaning: string }[]} columns
- * @property {{ kind: string, staff: (Staff | null)[] }[]} kinds
- */
-
 /** @type {(roster: Roster) => string[]} The names of objects, without the name of their group where the rest still differs. */
 export function labelsOf({ objects, groups }) {
   if (!groups) return objects;
@@ -66,7 +50,7 @@ function weekendsIn(days, cells) {
   return count;
 }
 
-/** @type {(roster: Roster, plan: Plan, kept: import("./earlier.mjs").OldPlan | null) => DaySheet | null} The sheet of a plan; null where there are no groups, or too many days or kinds. */
+/** @type {(roster: Roster, plan: Plan, kept: OldPlan | null) => DaySheet | null} The sheet of a plan; null where there are no groups, or too many days or kinds. */
 export function sheetOf(roster, plan, kept) {
   const { groups, persons, objects } = roster;
   if (!groups) return null;
@@ -88,7 +72,7 @@ export function sheetOf(roster, plan, kept) {
     ...hasWeekends ? [{ title: "we", meaning: said("weekends") }] : [], { title: roster.titles[2], meaning: "" }];
   const rows = persons.map((name, person) => {
     const own = cells[person].flatMap(({ entries }) => entries);
-    const cost = (ofPersons.get(person) || []).reduce((sum, pair) => sum + BigInt(pair.cost), 0n);
+    const cost = sumOf(ofPersons.get(person) || []);
     return { name, cells: cells[person], sums: [
       String(own.length), ...ofKinds.map((kind) => String(own.filter(({ label }) => label === kind).length)),
       ...hasWeekends ? [String(weekendsIn(days, cells[person]))] : [], shown(roster, cost)] };
@@ -97,7 +81,7 @@ export function sheetOf(roster, plan, kept) {
   const staff = kinds.map((kind) => ({ kind, staff: days.map(({ group }) => {
     const object = (ofDays.get(group) || []).find((one) => labels[one] === kind);
     if (object === undefined) return null;
-    return { had: used.get(object) || 0, wanted: hasBounds(roster) ? ofObject(roster, object).least : null };
+    return { had: used.get(object) || 0, wanted: hasBounds(roster) ? boundsOf(roster, 1, object).least : null };
   }) }));
   return { days, letters, persons: rows, columns, kinds: staff };
 }

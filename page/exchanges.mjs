@@ -2,7 +2,6 @@
 // back where it has it; one more vertex is where rows and columns that may take more, or less, begin and end.
 
 /**
- * @typedef {import("./library.mjs").Counted} Counted
  * @typedef {number[][]} Graph The ends of the arrows from each vertex: rows come first, then columns, the one of free counts, and a vertex for
  *   each row group of a group that was given
  */

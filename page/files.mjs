@@ -14,12 +14,6 @@ export const KINDS = ["roster", "places", "tasks", "groups", "plan", "calendars"
 const COUNT_TITLES = /^(?:(?:at )?(?:least|most)|wanted|price|min(?:imum)?|max(?:imum)?|count|number|how many)$/;
 const RULE = /^rules?$/;
 
-/**
- * @typedef {{ name: string, kind: string, source?: string | ArrayBuffer, rows?: string[][], separator?: string }} Given A file, or what was made of it
- *   in the page; its kind where somebody chose it
- * @typedef {{ name: string, kind: string, sheet: Sheet, isGuess: boolean, isChosen: boolean, place: number }} Table `place` is that of its file
- */
-
 /** @type {(given: Given[], comma: boolean, tables?: Table[]) => Promise<Table[]>} The tables of files, also of those that can't be read, of which the first is refused at the end. */
 export async function tablesOf(given, comma, tables = []) {
   const faults = [];

@@ -4,15 +4,6 @@ import { graphOf, keyOf, strongParts, turned } from "./exchanges.mjs";
 import { countsOf, gathered, rising } from "./gathered.mjs";
 import { narrowed } from "./narrowed.mjs";
 
-/**
- * Least counts that can't be met: these rows (or columns) must have `wanted`, and can have no more than `had`: as many as the columns (or
- * rows) take at most, and one for each row group in `once`.
- * @typedef {{ ofColumns: boolean, rows: number[], columns: number[], once: { row: number, group: number }[], wanted: number, had: number }} Lack
- * @typedef {import("./library.mjs").Counted} Counted
- * @typedef {import("./library.mjs").Bounds} Bounds
- * @typedef {import("./library.mjs").Library} Library
- */
-
 /** @type {(counted: Counted, ofColumns: boolean, library: Library) => Lack[]} What is short of the least counts of one side. */
 function lacksOfSide(counted, ofColumns, library) {
   const sides = [counted.rows, counted.columns];
@@ -85,7 +76,7 @@ export function lacksOf(counted, library) {
 }
 
 /**
- * @type {(part: import("./narrowed.mjs").Part, lacks: Lack[]) => import("./narrowed.mjs").Part}
+ * @type {(part: Part, lacks: Lack[]) => Part}
  *   The plans that miss as little of the least counts as can be, summed up over both sides. What is short takes no more than its least count, and all that limits it; by the shortages' numbers, 1 for what is short and -1 for what limits it, these plans pay least.
  */
 export function cutOf(part, lacks) {

@@ -13,13 +13,6 @@ const WORDS_OF_RECORD = 8;
 const GREATEST_NUMBER = 2n ** 51n;
 
 /**
- * Pairs that may be made, by rising rows, none twice, and their costs, whose sum is to be least; how many columns each row takes, and how
- * many rows each column; and the group of each column, of which a row takes one at most. All numbers are from 0. Groups that were given
- * are below `nGroups`; a column k in none is alone in the group `nGroups` + k.
- * @typedef {{ least: number, most: number }} Bounds
- * @typedef {{ rows: Bounds[], columns: Bounds[], groupOf: number[], nGroups: number, ofRows: number[], ofColumns: number[], costs: number[] }} Counted
- * @typedef {{ code: string, plan: Uint8Array, rows: bigint[], columns: bigint[] }} Answer A byte for each pair, and numbers of rows and
- *   columns that prove the plan best
  * @typedef {{ address: number, count: bigint }} Block
  * @typedef {Uint8Array | Uint32Array | BigInt64Array} List
  * @typedef {(values: List) => Block} Take

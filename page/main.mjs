@@ -13,12 +13,6 @@ const BOM = "\ufeff";
 const PASTED = "";
 const [KEPT, KEPT_CALENDARS] = ["the kept plan", "the kept plan's calendars"];
 
-/**
- * @typedef {import("./answers.mjs").Reply} Reply
- * @typedef {import("./answers.mjs").Found} Found
- * @typedef {import("./answers.mjs").Shown} Shown
- * @typedef {import("./files.mjs").Given} Given
- */
 
 /** @type {{ begin: number, clock: number } | null} */
 let run = null;
@@ -28,7 +22,7 @@ let worker = null;
 let files = [];
 /** @type {Shown[]} */
 let tables = [];
-/** @type {import("./answers.mjs").Mark[]} */
+/** @type {Mark[]} */
 let marks = [];
 /** @type {Found | null} */
 let found = null;
@@ -93,7 +87,7 @@ function stop() {
   byId("plan", HTMLElement).focus();
 }
 
-/** @type {() => import("./answers.mjs").Choices} What is chosen below the files. */
+/** @type {() => Choices} What is chosen below the files. */
 function choices() {
   const chosen = new FormData(byId("ask", HTMLFormElement));
   return {
@@ -125,7 +119,7 @@ async function plan() {
   }
 }
 
-/** @type {(fault: import("./answers.mjs").Fault | import("./answers.mjs").Failure) => string} Where a fault is: its file where there are several, line and column. */
+/** @type {(fault: Fault | Failure) => string} Where a fault is: its file where there are several, line and column. */
 function placeOf(fault) {
   if (fault.kind === "failure") return "";
   const [file, line] = [files.length > 1 ? fault.file : "", fault.line ? `${itemOf(fault.file)} ${fault.line}` : ""];
@@ -244,9 +238,9 @@ function showMarks() {
   }));
 }
 
-/** @type {(those: import("./answers.mjs").Mark[], mark: import("./answers.mjs").Mark | null) => void} Takes choices back, makes one, and plans again. */
+/** @type {(those: Mark[], mark: Mark | null) => void} Takes choices back, makes one, and plans again. */
 function decide(those, mark) {
-  const isSame = (/** @type {import("./answers.mjs").Mark} */ one) => those.some(({ person, object }) => person === one.person && object === one.object);
+  const isSame = (/** @type {Mark} */ one) => those.some(({ person, object }) => person === one.person && object === one.object);
   marks = [...marks.filter((one) => !isSame(one)), ...mark ? [mark] : []];
   plan();
 }

@@ -18,7 +18,6 @@ const MOST_HEADING_HEIGHT = 120;
 const ROWS_AT_ONCE = 100;
 
 /**
- * @typedef {import("./answers.mjs").Found} Found
  * @typedef {{ found: Found, costs: Map<number, number>, least: number, greatest: number, who: Set<number>, what: Set<number>, chosen: Set<number> }} Drawing
  */
 
@@ -53,8 +52,9 @@ function partsOf({ found: { roster }, least, greatest }) {
 /** @type {(found: Found) => Drawing} */
 function drawingOf(found) {
   const { roster, short } = found;
-  const least = roster.costs.reduce((one, other) => Math.min(one, other), roster.costs[0] ?? 0);
-  const greatest = roster.costs.reduce((one, other) => Math.max(one, other), roster.costs[0] ?? 0);
+  const first = roster.pairs[0]?.cost ?? 0;
+  const least = roster.pairs.reduce((most, { cost }) => Math.min(most, cost), first);
+  const greatest = roster.pairs.reduce((most, { cost }) => Math.max(most, cost), first);
   const chosen = new Set((found.plan?.pairs || []).map(({ person, object }) => pairKey(roster, person, object)));
   return { found, costs: costsOf(roster), least, greatest, who: new Set(short.persons), what: new Set(short.objects), chosen };
 }

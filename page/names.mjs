@@ -48,15 +48,13 @@ export class Names {
 
 /** The pairs of a roster and their costs, as they are read. */
 export class Pairs {
-  /** @param {import("./numbers.mjs").Costs} costs */
+  /** @param {Costs} costs */
   constructor(costs) {
     this.costs = costs;
     this.persons = new Names("persons");
     this.objects = new Names("objects");
-    /** @type {number[]} */
-    this.ofPersons = [];
-    /** @type {number[]} */
-    this.ofObjects = [];
+    /** @type {{ person: number, object: number }[]} */
+    this.list = [];
     /** @type {Map<number, number>} */
     this.lines = new Map();
   }
@@ -64,8 +62,7 @@ export class Pairs {
   /** @type {(person: number, object: number, cell: string, line: number, column: number) => void} */
   take(person, object, cell, line, column) {
     this.costs.take(cell, line, column);
-    this.ofPersons.push(person);
-    this.ofObjects.push(object);
+    this.list.push({ person, object });
   }
 
   /** @type {(person: number, object: number, names: string[], line: number) => void} Refuses a pair that a line before has. */

@@ -6,11 +6,6 @@ import { drawMatrix, MOST_AT_ONCE, MOST_CELLS } from "./matrix.mjs";
 
 // So many kinds have a colour of their own. What is printed: the height of a sheet for rows, and of a row at most.
 const [COLOURS, HEIGHT, ROW] = [6, 600, 17];
-/**
- * @typedef {import("./answers.mjs").Found} Found
- * @typedef {import("./days.mjs").DaySheet} DaySheet
- * @typedef {import("./days.mjs").Cell} Cell
- */
 
 /** Which answer is on the page: drawing stops where it is another. */
 let current = 0;
@@ -34,7 +29,7 @@ function unfolding(title, content, isOpen) {
   return element("details", isOpen ? { open: "" } : {}, element("summary", {}, title), content);
 }
 
-/** @type {(left: import("./plan.mjs").Left) => HTMLElement[]} Who and what is left over: a line that unfolds; on paper, where nothing can, the names. */
+/** @type {(left: Left) => HTMLElement[]} Who and what is left over: a line that unfolds; on paper, where nothing can, the names. */
 function leftOver({ how, count, names }) {
   const title = `${how}: ${count}`;
   return [unfolding(title, element("p", { lang: "" }, names), true), element("p", { class: "paper" }, `${title}: ${names}`)];
@@ -45,7 +40,7 @@ function coloursOf({ letters }) {
   return new Map([...letters.keys()].map((kind, k) => [kind, k < COLOURS ? `k${k}` : ""]));
 }
 
-/** @type {(sheet: DaySheet, cell: Cell, day: import("./days.mjs").Day, colours: Map<string, string>) => HTMLElement} */
+/** @type {(sheet: DaySheet, cell: Cell, day: Day, colours: Map<string, string>) => HTMLElement} */
 function cellElement({ letters }, { entries, gone, isOff }, day, colours) {
   const isChanged = gone.length > 0 || entries.some(({ isNew }) => isNew);
   const marks = [

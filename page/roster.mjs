@@ -8,36 +8,9 @@ import { quoted } from "./texts.mjs";
 
 const TITLES = ["person", "object", "cost"];
 
-/**
- * A problem by names. Pair k is of `persons[ofPersons[k]]` and `objects[ofObjects[k]]`, no pair twice; `costs[k]` is in units of
- * 10^-decimals. `titles` are the words for a person, an object and a cost.
- * @typedef {object} Roster
- * @property {string[]} titles
- * @property {string[]} persons
- * @property {string[]} objects
- * @property {number[]} ofPersons
- * @property {number[]} ofObjects
- * @property {number[]} costs
- * @property {number} decimals
- * @property {string} separator
- * @property {boolean} comma
- * @property {boolean} isMatrix
- * @property {Map<string, number>} personNumbers
- * @property {Map<string, number>} objectNumbers
- * @property {import("./takes.mjs").Takes | null} takes How many names take; where there is none each takes one at most, and the fewer ones one
- * @property {import("./takes.mjs").Groups | null} groups
- * @property {Set<number>} past Objects of which nothing is planned
- * @property {Set<number>} gone Persons of the past alone
- */
+/** @typedef {{ titles: string[], pairs: Pairs, groups?: Groups | null }} Read */
 
-/**
- * What the reader says of a roster: `form` is 'lines', 'matrix' or '', which takes the form from the text.
- * @typedef {{ form: string, comma: boolean }} Reading
- * @typedef {import("./sheet.mjs").Sheet} Sheet
- * @typedef {{ titles: string[], pairs: Pairs, groups?: import("./takes.mjs").Groups | null }} Read
- */
-
-/** @type {(sheet: Sheet, reading: Reading) => Roster} The roster that a sheet holds. */
+/** @type {(sheet: Sheet, choices: Choices) => Roster} The roster that a sheet holds; its form is taken from the text where it is ''. */
 export function rosterOf(sheet, { form, comma }) {
   const costs = new Costs(comma);
   const isDaily = form !== "matrix" && areDailyLines(sheet);
@@ -45,11 +18,12 @@ export function rosterOf(sheet, { form, comma }) {
   const heads = isMatrix ? headsOf(sheet) : null;
   const read = isDaily ? readDailyLines : isMatrix ? readMatrix : form ? readLines : readSureLines;
   const { titles, pairs, groups = null } = heads ? readDailyMatrix(sheet, costs, heads) : read(sheet, costs);
-  const { persons, objects, ofPersons, ofObjects } = pairs;
+  const { persons, objects } = pairs;
   const { decimals, units } = costs.scaled();
   return {
-    titles, persons: persons.list, objects: objects.list, personNumbers: persons.numbers, objectNumbers: objects.numbers, ofPersons, ofObjects,
-    costs: units, decimals, separator: sheet.separator, comma, isMatrix, takes: null, groups, past: new Set(), gone: new Set(),
+    titles, persons: persons.list, objects: objects.list, personNumbers: persons.numbers, objectNumbers: objects.numbers,
+    pairs: pairs.list.map((pair, k) => ({ ...pair, cost: units[k] })), decimals, separator: sheet.separator, comma, isMatrix,
+    takes: null, groups, past: new Set(), gone: new Set(),
   };
 }
 
@@ -87,7 +61,7 @@ function readSureLines(sheet, costs) {
     refuseUnsure(sheet);
     throw fault;
   }
-  if (!areLines(read.pairs.ofPersons, read.pairs.objects.list)) refuseUnsure(sheet);
+  if (!areLines(read.pairs.list.map(({ person }) => person), read.pairs.objects.list)) refuseUnsure(sheet);
   return read;
 }
 
@@ -106,7 +80,7 @@ function readLines(sheet, costs) {
     pairs.refuseTwice(person, object, cells.slice(0, 2), line);
     pairs.take(person, object, cells[2], line, 3);
   }
-  if (!pairs.ofPersons.length) refuse(first, 0, "no line");
+  if (!pairs.list.length) refuse(first, 0, "no line");
   return { titles, pairs };
 }
 

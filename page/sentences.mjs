@@ -6,19 +6,20 @@ import { firstOf, joined } from "./texts.mjs";
 // A sentence names so many persons and objects at most, and lists so many objects even where they are all of their groups.
 const MOST_NAMES = 8;
 const MOST_LISTED = 6;
+const MOST_NAMED = 20;
 // Titles are in any language, so plurals are of these words alone.
 const WITH_S = SHARED.with_s.split(" ");
 
-/**
- * @typedef {import("./roster.mjs").Roster} Roster
- * @typedef {import("./library.mjs").Counted} Counted
- * @typedef {import("./lacks.mjs").Lack} Lack
- */
 
 /** @type {(count: number, word: string) => string} A count of things: 1 shift, 2 shifts, 3 people, 2 \u00d7 Schicht. */
 export function counted(count, word) {
   if (count === 1) return `${count} ${word}`;
   return `${count} ${word === "person" ? "people" : WITH_S.includes(word) ? `${word}s` : `\u00d7 ${word}`}`;
+}
+
+/** @type {(numbers: number[], word: string, names: string[]) => string} How many there are, and the first of their names. */
+export function named(numbers, word, names) {
+  return `${counted(numbers.length, word)} (${firstOf(numbers.map((number) => names[number]), MOST_NAMED)})`;
 }
 
 /** The names that a sentence shows: persons and objects share eight, and each side may have four at least. */

@@ -9,7 +9,7 @@ const WORDS = {
   groups: "groups: nobody takes two of one", plan: "earlier plan", calendars: "calendars of an earlier plan",
   rules: "rules (the command's)", unused: "not used",
 };
-/** @typedef {import("./answers.mjs").Shown} Shown @typedef {{ onKind: (table: Shown, kind: string) => void, onRows: (table: Shown, rows: string[][]) => void, onRemove: (table: Shown) => void }} Works */
+/** @typedef {{ onKind: (table: Shown, kind: string) => void, onRows: (table: Shown, rows: string[][]) => void, onRemove: (table: Shown) => void }} Works */
 
 /** @type {(shown: Shown, rows: string[][], works: Works) => HTMLElement} The cells of a table, each to be changed. */
 function editor(shown, rows, works) {
