@@ -84,10 +84,10 @@ function headOf(drawing, part, name) {
 }
 
 /**
- * Draws the matrix of an answer, some rows at a time, so that the page answers meanwhile. It stops where `isWanted` says so.
- * @type {(found: Found, room: HTMLElement, isWanted: () => boolean) => Promise<void>}
+ * Draws the matrix of an answer, some rows at a time, so that the page answers meanwhile. It stops where the room is no more on the page.
+ * @type {(found: Found, room: HTMLElement) => Promise<void>}
  */
-export async function drawMatrix(found, room, isWanted) {
+export async function drawMatrix(found, room) {
   const drawing = drawingOf(found);
   const { objects, persons } = found.roster;
   const parts = partsOf(drawing);
@@ -96,12 +96,12 @@ export async function drawMatrix(found, room, isWanted) {
   for (const [place, part] of parts.entries()) {
     const name = `${objects[part[0]]} to ${objects[part[part.length - 1]]} (part ${place + 1} of ${parts.length})`;
     const body = element("tbody", {});
-    for (let person = 0; person < persons.length && isWanted(); person++) {
+    for (let person = 0; person < persons.length && room.isConnected; person++) {
       if (person % ROWS_AT_ONCE === 0) await new Promise((done) => setTimeout(done));
       const cells = part.map((object) => cell(drawing, person, object));
       body.append(element("tr", {}, heading("row", persons[person], drawing.who.has(person)), ...cells));
     }
     tables.push(element("table", {}, headOf(drawing, part, parts.length > 1 ? name : ""), body));
   }
-  if (isWanted()) room.append(...tables);
+  room.append(...tables);
 }
