@@ -118,10 +118,8 @@ function olderOf(text) {
   };
 }
 
-/**
- * A person's events; what the older calendar has and the plan has no more is cancelled, in a version one above.
- * @type {(own: Map<string, string[]>, older: Older) => string[]}
- */
+// A person's events; what the older calendar has and the plan has no more is cancelled, in a version one above.
+/** @type {(own: Map<string, string[]>, older: Older) => string[]} */
 function versioned(own, older) {
   const isSame = older.live.size === own.size
     && [...own].every(([uid, lines]) => older.live.has(uid) && String(older.events.get(uid)) === String(lines));

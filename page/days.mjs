@@ -48,10 +48,8 @@ function weekendsIn(days, cells) {
   return count;
 }
 
-/**
- * What a person has on a day with these objects.
- * @type {(roster: Roster, labels: string[], plan: Plan, kept: OldPlan | null) => (person: number, own: number[]) => Cell}
- */
+// What a person has on a day with these objects.
+/** @type {(roster: Roster, labels: string[], plan: Plan, kept: OldPlan | null) => (person: number, own: number[]) => Cell} */
 function cellsOf(roster, labels, plan, kept) {
   const [costs, pairs] = [costsOf(roster), gathered(plan.pairs, ({ person }) => person)];
   const before = kept && new Set(numbersOf(roster, kept.named).map(({ key }) => key));

@@ -18,12 +18,8 @@ export function pairKey({ objects }, person, object) {
   return person * objects.length + object;
 }
 
-/**
- * @template {{ person: string, object: string }} Own
- * @param {Roster} roster
- * @param {Own[]} pairs
- * @returns Those whose names the roster has, with their numbers and their key.
- */
+// The pairs whose names the roster has.
+/** @type {<Own extends { person: string, object: string }>(roster: Roster, pairs: Own[]) => Numbered<Own>[]} */
 export function numbersOf(roster, pairs) {
   return pairs.flatMap((pair) => {
     const [person, object] = [roster.personNumbers.get(pair.person), roster.objectNumbers.get(pair.object)];
@@ -56,17 +52,12 @@ export function namedPairs(sheet, roster) {
   });
 }
 
-/**
- * @template Item
- * @param {Item[]} items
- * @param {(item: Item) => number} keyOf
- * @param {(key: number) => number} mostOf
- * @returns {Item[]} The first item whose key stands more often than it may, after the first item of its key; none where none does.
- */
+// The first item whose key stands more often than it may, after the first item of its key; none where none does.
+/** @type {<Item>(items: Item[], keyOf: (item: Item) => number, mostOf: (key: number) => number) => Item[]} */
 function firstBeyond(items, keyOf, mostOf) {
   const all = gathered(items, keyOf);
   const again = items.find((item) => all.get(keyOf(item))?.[mostOf(keyOf(item))] === item);
-  return again ? [/** @type {Item[]} */ (all.get(keyOf(again)))[0], again] : [];
+  return again ? [...(all.get(keyOf(again)) || []).slice(0, 1), again] : [];
 }
 
 /** @type {(roster: Roster, named: Named[], item: string) => void} Refuses a pair of a plan that stands there twice. */
@@ -174,10 +165,8 @@ function moved(way, those, what) {
   return those.length ? [said(those.length === 1 ? `${way} alone` : way, what)] : [];
 }
 
-/**
- * What changes from an earlier plan: how many pairs, whose, and what can't be any more.
- * @type {(roster: Roster, pairs: Spot[], kept: OldPlan) => { comes: Spot[], goes: Spot[], lines: string[] }}
- */
+// What changes from an earlier plan: how many pairs, whose, and what can't be any more.
+/** @type {(roster: Roster, pairs: Spot[], kept: OldPlan) => { comes: Spot[], goes: Spot[], lines: string[] }} */
 export function changesOf(roster, pairs, kept) {
   const costs = costsOf(roster);
   const now = new Set(pairs.map(({ person, object }) => pairKey(roster, person, object)));

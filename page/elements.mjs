@@ -1,11 +1,6 @@
 // Elements of the page. All text is set as text, so that no name is read as HTML.
 
-/**
- * @template {HTMLElement} [Kind=HTMLElement]
- * @param {string} id
- * @param {new () => Kind} kind
- * @returns The element of the page with this id, of this kind.
- */
+/** @type {<Kind extends HTMLElement = HTMLElement>(id: string, kind?: new () => Kind) => Kind} The element with this id. */
 export function byId(id, kind = /** @type {any} */ (HTMLElement)) {
   const found = document.getElementById(id);
   if (!(found instanceof kind)) throw new Error(`the page has no ${id}`);

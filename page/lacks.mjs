@@ -22,10 +22,8 @@ function lacksOfSide(counted, ofColumns, library) {
   return shortParts(counted, ofColumns, (row) => reached.has(row), (column) => reached.has(rows.length + column));
 }
 
-/**
- * @type {(counted: Counted, ofColumns: boolean, isRow: (row: number) => boolean, isColumn: (column: number) => boolean) => Lack[]}
- *   The shortages of rows and columns that were reached, in connected parts: each name with what limits it, names of the other side, which have numbers from 0, and row groups, whose numbers are below.
- */
+// The shortages of rows and columns that were reached, in connected parts: each name with what limits it, names of the other side, which have numbers from 0, and row groups, whose numbers are below.
+/** @type {(counted: Counted, ofColumns: boolean, isRow: (row: number) => boolean, isColumn: (column: number) => boolean) => Lack[]} */
 function shortParts(counted, ofColumns, isRow, isColumn) {
   const { ofRows, ofColumns: columns } = counted;
   const keys = ofRows.map((_, pair) => -1 - keyOf(counted, pair));
@@ -75,10 +73,8 @@ export function lacksOf(counted, library) {
   return lacks;
 }
 
-/**
- * @type {(part: Part, lacks: Lack[]) => Part}
- *   The plans that miss as little of the least counts as can be, summed up over both sides. What is short takes no more than its least count, and all that limits it; by the shortages' numbers, 1 for what is short and -1 for what limits it, these plans pay least.
- */
+// The plans that miss as little of the least counts as can be, summed up over both sides. What is short takes no more than its least count, and all that limits it; by the shortages' numbers, 1 for what is short and -1 for what limits it, these plans pay least.
+/** @type {(part: Part, lacks: Lack[]) => Part} */
 export function cutOf(part, lacks) {
   /** @type {(bounds: Bounds[], side: boolean) => { numbers: number[], cut: Bounds[] }} */
   const sideOf = (bounds, side) => {

@@ -76,11 +76,6 @@ export class Library {
     }
   }
 
-  /** @type {(block: Block) => bigint[]} Words of 64 bits that a call wrote. */
-  words(block) {
-    return Array.from(new BigInt64Array(this.memory.buffer, block.address, Number(block.count)));
-  }
-
   /** @type {(block: Block) => Uint8Array} Bytes that a call wrote. */
   bytes(block) {
     return new Uint8Array(this.memory.buffer, block.address, Number(block.count)).slice();
@@ -100,19 +95,19 @@ export class Library {
         code = CODES[this.calls.nushbaret_counts_from(0, ...words, BUDGET, record.address, info.address)];
         if (code === "STOPPED") this.look(this.bytes(plan).reduce((sum, chosen) => sum + chosen, 0));
       }
-      return { code, plan: this.bytes(plan), rows: this.words(rows), columns: this.words(columns) };
+      const [ofRows, ofColumns] = [rows, columns].map(({ address, count }) => (
+        Array.from(new BigInt64Array(this.memory.buffer, address, Number(count)))));
+      return { code, plan: this.bytes(plan), rows: ofRows, columns: ofColumns };
     });
   }
 
-  /**
-   * @type {(counted: Counted, ofColumns: boolean, rows: number[], columns: number[]) => boolean}
-   *   Whether the proved checker takes a shortage: of marked columns if `ofColumns` is true, and else of marked rows.
-   */
+  // Whether the proved checker takes a shortage: of marked columns if `ofColumns` is true, and else of marked rows.
+  /** @type {(counted: Counted, ofColumns: boolean, rows: number[], columns: number[]) => boolean} */
   isShort(counted, ofColumns, rows, columns) {
-    /** @type {(count: number, own: number[]) => Uint8Array} */
-    const marked = (count, own) => own.reduce((marks, number) => marks.fill(1, number, number + 1), new Uint8Array(count));
+    const marked = (/** @type {Bounds[]} */ bounds, /** @type {number[]} */ own) => (
+      own.reduce((marks, number) => marks.fill(1, number, number + 1), new Uint8Array(bounds.length)));
     return this.within((take) => {
-      const marks = wordsOf(take(marked(counted.rows.length, rows)), take(marked(counted.columns.length, columns)));
+      const marks = wordsOf(take(marked(counted.rows, rows)), take(marked(counted.columns, columns)));
       const [lists, info] = [wordsOf(...given(counted, take)), take(new BigInt64Array(WORDS_OF_INFO))];
       const code = this.calls.nushbaret_check_shortage(0, ...lists, ofColumns ? 2 : 1, ...marks, info.address);
       return CODES[code] === (ofColumns ? "COLUMNS_LACK" : "ROWS_LACK");

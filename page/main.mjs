@@ -15,18 +15,14 @@ const WALL_HEAD = `<meta charset="utf-8"><meta http-equiv="Content-Security-Poli
 'unsafe-inline'"><meta name="viewport" content="width=device-width, initial-scale=1">`;
 
 
-/** @type {{ begin: number, clock: number } | null} */
-let run = null;
-/** @type {Worker | null} Answers one question after the other, until one is stopped: what it has run once runs faster. */
-let worker = null;
-/** @type {Given[]} The files, the last one that was given last. */
-let files = [];
-/** @type {Shown[]} */
-let tables = [];
-/** @type {Mark[]} */
-let marks = [];
-/** @type {Found | null} */
-let found = null;
+let run = /** @type {{ begin: number, clock: number } | null} */ (null);
+// Answers one question after the other, until one is stopped: what it has run once runs faster.
+let worker = /** @type {Worker | null} */ (null);
+// The last one that was given last.
+let files = /** @type {Given[]} */ ([]);
+let tables = /** @type {Shown[]} */ ([]);
+let marks = /** @type {Mark[]} */ ([]);
+let found = /** @type {Found | null} */ (null);
 
 /** @type {(id: string, text: string) => void} */
 function put(id, text) {

@@ -1,6 +1,5 @@
 // The files that were read: what each is, which can be chosen, and their cells, which can be changed.
 import { button, byId, element, region } from "./elements.mjs";
-import { KINDS } from "./files.mjs";
 
 // Tables with more cells are changed in a spreadsheet.
 const MOST_EDITED = 6000;
@@ -37,8 +36,8 @@ function editor(shown, rows, change) {
 
 /** @type {(shown: Shown, isEditable: boolean, change: Change) => HTMLElement} */
 function entryOf(shown, isEditable, change) {
-  const choice = /** @type {HTMLSelectElement} */ (element("select", { "aria-label": `What ${shown.name} is` }, ...KINDS.map((kind) => (
-    element("option", kind === shown.kind ? { value: kind, selected: "" } : { value: kind }, WORDS[/** @type {keyof typeof WORDS} */ (kind)])))));
+  const options = Object.entries(WORDS).map(([kind, word]) => new Option(word, kind, kind === shown.kind, kind === shown.kind));
+  const choice = /** @type {HTMLSelectElement} */ (element("select", { "aria-label": `What ${shown.name} is` }, ...options));
   choice.addEventListener("change", () => change(shown, { kind: choice.value }));
   const remove = button("Remove", () => change(shown, null), { "aria-label": `Remove ${shown.name}` });
   const item = element("li", {}, element("b", { lang: "" }, shown.name || "pasted cells"), ` ${shown.count} lines `, choice, " ", remove);

@@ -137,18 +137,15 @@ export function readGroups(sheet, roster) {
   return groups;
 }
 
-/** @type {(title: string, ours: string, others: (string | undefined)[]) => string} A title of the roster; where it has none, the first of other files' that is a name. */
-function titled(title, ours, others) {
-  const named = others.find((other) => other && isPrintable(other) && !looksLikeNumber(other));
-  return title === ours && named ? named : title;
-}
-
 /** @type {(roster: Roster, tasks: Counts | null, places: Counts | null, groups: Groups | null) => Roster} The roster with counts and groups. */
 export function withTakes(roster, tasks, places, groups) {
   const areSums = !tasks?.areRanges && !places?.areRanges;
   const [persons, objects] = [tasks, places].map((counts) => new Map(
     [...counts?.bounds || []].map(([number, own]) => [number, areSums ? { least: 0, most: own.most } : own])));
-  const titles = [titled(roster.titles[0], "person", [tasks?.title]), titled(roster.titles[1], "object", [places?.title, groups?.of]), roster.titles[2]];
+  // A title that the roster hasn't is the first of other files' that is a name.
+  const others = [["person", tasks?.title], ["object", places?.title, groups?.of], []];
+  const titles = roster.titles.map((title, k) => title !== others[k][0] ? title
+    : others[k].slice(1).find((other) => other && isPrintable(other) && !looksLikeNumber(other)) || title);
   return { ...roster, titles, takes: tasks || places ? { persons, objects, areSums } : null, groups: groups || roster.groups };
 }
 

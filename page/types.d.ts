@@ -54,6 +54,8 @@ type Roster = {
   /** Persons of the past alone. */
   gone: Set<number>,
 };
+/** What is named, with the roster's numbers, a key and a name of its own. */
+type Numbered<Own> = Omit<Own, "person" | "object"> & Spot & { key: number, name: string };
 /** A pair of an earlier plan by names, and its cost as it stands there. */
 type Named = { person: string, object: string, line: number, cost: string };
 /** An earlier plan, and its names that the roster didn't have. */

@@ -35,7 +35,7 @@ function partsIn(bytes) {
 async function unpacked(bytes, method, name) {
   try {
     const stream = new Blob([bytes]).stream();
-    return await new Response(method ? stream.pipeThrough(new /** @type {any} */ (globalThis).DecompressionStream("deflate-raw")) : stream).text();
+    return await new Response(method ? stream.pipeThrough(new DecompressionStream("deflate-raw")) : stream).text();
   } catch (fault) {
     refuse(0, 0, "no workbook", `its part '${name}' can't be unpacked`);
   }
