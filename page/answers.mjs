@@ -37,14 +37,13 @@ function tableOf(tables, kind) {
 
 /** @type {(tables: Table[], choices: Choices) => Read} The roster of tables with its counts and groups, and an earlier plan. */
 export function readTables(tables, choices) {
-  const table = tableOf(tables, "roster");
-  if (!table) throw new RosterFault("no file is a roster: choose what each is");
-  const first = within(table.name, () => rosterOf(table.sheet, choices));
   /** @type {<Result>(kind: string, read: (table: Table) => Result) => Result | null} */
   const ofKind = (kind, read) => {
     const own = tableOf(tables, kind);
     return own && within(own.name, () => read(own));
   };
+  const first = ofKind("roster", ({ sheet }) => rosterOf(sheet, choices));
+  if (!first) throw new RosterFault("no file is a roster: choose what each is");
   const tasks = ofKind("tasks", ({ sheet }) => readCounts(sheet, first, false));
   const places = ofKind("places", ({ sheet }) => readCounts(sheet, first, true));
   const roster = withTakes(first, tasks, places, ofKind("groups", ({ sheet }) => readGroups(sheet, first)));
@@ -85,12 +84,8 @@ function shownTables(tables) {
   });
 }
 
-/**
- * What the page shows of an answer: nothing of a plan where there is none.
- * @param {Table[]} tables
- * @param {Question} question
- * @param {Library} library
- */
+// What the page shows of an answer: nothing of a plan where there is none.
+/** @param {Table[]} tables @param {Question} question @param {Library} library */
 export function foundIn(tables, { choices, marks }, library) {
   const { roster, kept, fixed, lines } = withMarks(readTables(tables, choices), marks);
   const answer = answerOf(roster, { max: choices.max, fullest: choices.fullest, fixed, kept }, library);
@@ -111,8 +106,7 @@ export function foundIn(tables, { choices, marks }, library) {
 
 /** @type {(question: Question, load: () => Promise<Library>, report?: (progress: Progress) => void) => Promise<Reply>} The reply to a question. */
 export async function replyTo(question, load, report = () => {}) {
-  /** @type {Table[]} */
-  const tables = [];
+  const tables = /** @type {Table[]} */ ([]);
   try {
     report({ kind: "progress", text: "Reading .." });
     await tablesOf(question.files, question.choices.comma, tables);

@@ -74,8 +74,7 @@ function keyOfName(stem) {
 
 /** @type {(names: string[]) => string[]} Names of files for names, without ends: they differ also where a system ignores case. */
 function fileNames(names) {
-  /** @type {Set<string>} */
-  const taken = new Set();
+  const taken = /** @type {Set<string>} */ (new Set());
   return names.map((name) => {
     const bare = Array.from(name, (letter) => FORBIDDEN.test(letter) || !isPrintable(letter) ? "_" : letter).join("").replace(/^[ .]+|[ .]+$/g, "");
     const cut = new TextDecoder().decode(encoder.encode(bare).slice(0, MOST_OCTETS)).replace(/\ufffd+$/, "").replace(/[ .]+$/, "") || "_";
@@ -175,8 +174,7 @@ function packed(...numbers) {
 
 /** @type {(files: File[]) => Blob} Files in one zip archive, as they are. */
 export function zipOf(files) {
-  /** @type {Uint8Array[][]} */
-  const [parts, entries] = [[], []];
+  const [parts, entries] = /** @type {Uint8Array[][]} */ ([[], []]);
   let place = 0;
   for (const file of files) {
     const [own, bytes] = [file.name, file.text].map((text) => encoder.encode(text));

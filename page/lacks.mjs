@@ -22,7 +22,7 @@ function lacksOfSide(counted, ofColumns, library) {
   return shortParts(counted, ofColumns, (row) => reached.has(row), (column) => reached.has(rows.length + column));
 }
 
-// The shortages of rows and columns that were reached, in connected parts: each name with what limits it, names of the other side, which have numbers from 0, and row groups, whose numbers are below.
+// The shortages that were reached, in connected parts: names, and what limits each: other names, from 0, and row groups, below 0.
 /** @type {(counted: Counted, ofColumns: boolean, isRow: (row: number) => boolean, isColumn: (column: number) => boolean) => Lack[]} */
 function shortParts(counted, ofColumns, isRow, isColumn) {
   const { ofRows, ofColumns: columns } = counted;
@@ -73,13 +73,13 @@ export function lacksOf(counted, library) {
   return lacks;
 }
 
-// The plans that miss as little of the least counts as can be, summed up over both sides. What is short takes no more than its least count, and all that limits it; by the shortages' numbers, 1 for what is short and -1 for what limits it, these plans pay least.
+// The plans that miss as little of the least counts as can be, summed up over both sides. What is short takes no more than its least
+// count, and all that limits it; by the shortages' numbers, 1 for what is short and -1 for what limits it, these plans pay least.
 /** @type {(part: Part, lacks: Lack[]) => Part} */
 export function cutOf(part, lacks) {
-  /** @type {(bounds: Bounds[], side: boolean) => { numbers: number[], cut: Bounds[] }} */
-  const sideOf = (bounds, side) => {
-    const names = (/** @type {boolean} */ ofColumns) => new Set(lacks.filter((lack) => lack.ofColumns === ofColumns).flatMap((lack) => side ? lack.columns : lack.rows));
-    const [short, full] = [names(side), names(!side)];
+  const sideOf = (/** @type {Bounds[]} */ bounds, /** @type {boolean} */ side) => {
+    const [short, full] = [true, false].map((isShort) => new Set(
+      lacks.filter((lack) => (lack.ofColumns === side) === isShort).flatMap((lack) => side ? lack.columns : lack.rows)));
     return {
       numbers: bounds.map((_, k) => Number(short.has(k)) - Number(full.has(k))),
       cut: bounds.map(({ least, most }, k) => ({ least: full.has(k) ? most : short.has(k) ? 0 : least, most: short.has(k) ? least : most })),

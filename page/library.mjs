@@ -61,8 +61,7 @@ export class Library {
 
   /** @type {<Result>(work: (take: Take) => Result) => Result} Runs some work with blocks of the module's memory, which are given back after it. */
   within(work) {
-    /** @type {number[]} */
-    const blocks = [];
+    const blocks = /** @type {number[]} */ ([]);
     try {
       return work((values) => {
         const address = this.calls.malloc(values.byteLength || 16) >>> 0;

@@ -19,8 +19,7 @@ const ROWS_AT_ONCE = 100;
 
 /** @type {(widths: number[], room: number) => number[][]} Columns one after the other, in parts of at most so much room. */
 function filled(widths, room) {
-  /** @type {number[][]} */
-  const parts = [];
+  const parts = /** @type {number[][]} */ ([]);
   let width = Infinity;
   widths.forEach((own, column) => {
     if (width + own > room) {
@@ -78,7 +77,7 @@ function headOf({ roster: { objects }, short }, part, name) {
   return element("thead", {}, title, own);
 }
 
-// Draws the matrix of an answer, some rows at a time, so that the page answers meanwhile. It stops where the room is no more on the page.
+// Draws the matrix, some rows at a time, so that the page answers meanwhile. It stops where the room is no more on the page.
 /** @type {(found: Found, room: HTMLElement) => Promise<void>} */
 export async function drawMatrix(found, room) {
   const { roster: { objects, persons }, short } = found;

@@ -18,13 +18,15 @@ export function faceOf(part, answer) {
   return narrowed(part, spare, fixed(part.counted.rows, rows), fixed(part.counted.columns, columns));
 }
 
-// The part of the plans that keep the bounds, and of which no pair costs more than it must. Let `spare` be e = cost - row's number - column's number. A plan is in this part if in each row group it pays min(0, the least e): it takes exactly one where that is below 0, and only pairs whose e is that. A row that must take one of some groups is two rows here: one takes exactly one of each of these, the other what is left.
+// The part of the plans that keep the bounds, and of which no pair costs more than it must. Let `spare` be e = cost - row's number -
+// column's number. A plan is in this part if in each row group it pays min(0, the least e): it takes exactly one where that is below 0,
+// and only pairs whose e is that. A row that must take one of some groups is two rows here: one takes exactly one of each of these, the
+// other what is left.
 /** @type {(part: Part, spare: number[], rowBounds: Bounds[], columnBounds: Bounds[]) => Part} */
 export function narrowed({ counted, pairs, taken }, spare, rowBounds, columnBounds) {
   const { ofRows, ofColumns, groupOf, nGroups, costs } = counted;
   const keys = ofRows.map((_, pair) => keyOf(counted, pair));
-  /** @type {Map<number, number>} */
-  const least = new Map();
+  const least = /** @type {Map<number, number>} */ (new Map());
   keys.forEach((key, k) => { if (spare[k] < (least.get(key) || 0)) least.set(key, spare[k]); });
   const left = [...keys.keys()].filter((k) => spare[k] <= (least.get(keys[k]) || 0));
   const counts = countsOf(left.map((k) => keys[k]));

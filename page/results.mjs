@@ -73,13 +73,12 @@ export function legendOf(sheet) {
   const cells = sheet.persons.flatMap((person) => person.cells);
   const kinds = [...sheet.letters].flatMap(([kind, letter]) => [element("span", { class: `key ${colours.get(kind)}`, lang: "" }, letter), ` ${kind} \u00b7 `]);
   const notes = sheet.columns.filter(({ meaning }) => meaning && !sheet.letters.has(meaning)).map(({ title, meaning }) => `${title}: ${meaning}`);
-  /** @type {[string, boolean][]} */
   const marks = [
-    ["shaded: weekend", sheet.days.some(({ isWeekend }) => isWeekend)], [said("hatched"), cells.some(({ isOff }) => isOff)],
-    [said("framed"), cells.some(({ entries, gone }) => gone.length > 0 || entries.some(({ isNew }) => isNew))],
-    ["underlined: given", cells.some(({ entries }) => entries.some(({ isFixed }) => isFixed))],
-    [said("3/4"), sheet.kinds.some(({ staff }) => staff.some((own) => own !== null && own.wanted !== null))]];
-  return element("p", { class: "legend" }, ...kinds, [...notes, ...marks.filter(([, isThere]) => isThere).map(([text]) => text)].join(" \u00b7 "));
+    sheet.days.some(({ isWeekend }) => isWeekend) && "shaded: weekend", cells.some(({ isOff }) => isOff) && said("hatched"),
+    cells.some(({ entries, gone }) => gone.length || entries.some(({ isNew }) => isNew)) && said("framed"),
+    cells.some(({ entries }) => entries.some(({ isFixed }) => isFixed)) && "underlined: given",
+    sheet.kinds.some(({ staff }) => staff.some((own) => own && own.wanted !== null)) && said("3/4")];
+  return element("p", { class: "legend" }, ...kinds, [...notes, ...marks.filter(Boolean)].join(" \u00b7 "));
 }
 
 /** @type {(texts: string[]) => HTMLElement} */

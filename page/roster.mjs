@@ -14,6 +14,7 @@ const COLUMNS = 4;
 /**
  * @typedef {{ titles: string[], pairs: Pairs, groups?: Groups | null }} Read
  * @typedef {{ line: number, corner: string, days: string[], shifts: string[] }} Heads
+ * @typedef {(day: string, shift: string, line: number, columns: number[]) => number} NumberOf The number of an object
  */
 
 /** @type {(sheet: Sheet, choices: Choices) => Roster} The roster that a sheet holds; its form is taken from the text where it is ''. */
@@ -57,16 +58,14 @@ function refuseUnsure(sheet) {
 
 /** @type {(sheet: Sheet, costs: Costs) => Read} Reads lines, unless they might be a matrix as well: that is refused before any other fault. */
 function readSureLines(sheet, costs) {
-  /** @type {Read} */
-  let read;
   try {
-    read = readLines(sheet, costs);
+    const read = readLines(sheet, costs);
+    if (!areLines(read.pairs.list.map(({ person }) => person), read.pairs.objects.list)) refuseUnsure(sheet);
+    return read;
   } catch (fault) {
     refuseUnsure(sheet);
     throw fault;
   }
-  if (!areLines(read.pairs.list.map(({ person }) => person), read.pairs.objects.list)) refuseUnsure(sheet);
-  return read;
 }
 
 /** @type {(sheet: Sheet, costs: Costs) => Read} */
@@ -103,8 +102,6 @@ function readMatrix(sheet, costs) {
 function areDates(cells) {
   return datesOf([...new Set(cells)]).all !== null;
 }
-
-/** @typedef {(day: string, shift: string, line: number, columns: number[]) => number} NumberOf The number of an object, a new one where it is new */
 
 /** @type {(title: string, names: Names) => { groups: Groups, numberOf: NumberOf }} Objects by day and shift, as they come. */
 function objectsBy(title, names) {
@@ -158,8 +155,7 @@ function headsOf(sheet) {
   const shifts = below.slice(1, width);
   const hasWide = above.slice(2).some((cell, k) => !cell || cell === above[k + 1]);
   if (!shifts.length || !hasWide || !above[1] || !shifts.every(Boolean) || shifts.some(looksLikeNumber)) return null;
-  /** @type {string[]} */
-  const days = [];
+  const days = /** @type {string[]} */ ([]);
   above.slice(1).forEach((cell) => days.push(cell || days[days.length - 1]));
   return { line, corner: below[0] || above[0], days, shifts };
 }

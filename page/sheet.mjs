@@ -1,4 +1,4 @@
-// The cells of CSV and of pasted cells, and what is wrong in them; and a plan as CSV, a roster of lines that is read again. Lines and columns are counted from 1.
+// The cells of CSV and of pasted cells, and what is wrong in them; and a plan as CSV, a roster of lines that is read again.
 import { refuse, RosterFault, said } from "./faults.mjs";
 import { CONTROL, guarded, isPrintable, LINE_BREAKS, quoted, stripped, unguarded } from "./texts.mjs";
 
@@ -12,8 +12,7 @@ const MOST_IN_RECORD = 4194305;
 /** @type {(first: string) => string} What stands most between the cells of a first line; a comma where nothing does. */
 function separatorOf(first) {
   const outside = first.replace(/"[^"]*"/g, "");
-  /** @param {string} mark */
-  const count = (mark) => outside.split(mark).length;
+  const count = (/** @type {string} */ mark) => outside.split(mark).length;
   const most = [...SEPARATORS].reduce((best, mark) => count(mark) > count(best) ? mark : best);
   return outside.includes(most) ? most : ",";
 }
@@ -62,7 +61,7 @@ export class Sheet {
   static ofRows(rows, separator, first = 1) {
     const sheet = new Sheet("");
     sheet.separator = separator;
-    rows.forEach((cells, row) => sheet.add(row + first, cells.map((cell) => unguarded(stripped(cell)))));
+    rows.forEach((cells, row) => sheet.add(row + first, cells));
     return sheet;
   }
 
@@ -74,15 +73,16 @@ export class Sheet {
     while (at < text.length && this.fault === null) {
       const record = recordAt(text, at, this.separator, cellAt);
       if (record.fault) this.fault = new RosterFault(record.fault, line);
-      else this.add(line, record.cells.map((cell) => unguarded(stripped(cell))));
+      else this.add(line, record.cells);
       const end = text.startsWith("\r\n", record.end) ? record.end + 2 : record.end + 1;
       line += text.slice(at, record.end).includes('"') ? (text.slice(at, end).match(/\r\n?|\n/g) || []).length : 1;
       at = end;
     }
   }
 
-  /** @type {(line: number, cells: string[]) => void} */
-  add(line, cells) {
+  /** @type {(line: number, written: string[]) => void} */
+  add(line, written) {
+    const cells = written.map((cell) => unguarded(stripped(cell)));
     const isHint = this.hasHint && line === 1;
     if (cells.some((cell) => cell !== "") && !isHint) this.rows.push({ line, cells });
   }

@@ -8,10 +8,8 @@ const WORDS = {
   groups: "groups: nobody takes two of one", plan: "earlier plan", calendars: "calendars of an earlier plan",
   rules: "rules (the command's)", unused: "not used",
 };
-/**
- * @typedef {(table: Shown, changed: Partial<Given> | null) => void} Change Chooses a kind for a table, or other cells, which are taken when the
- *   plan is asked for again; or takes it away
- */
+// Chooses a kind for a table, or other cells, which are taken when the plan is asked for again; or takes it away.
+/** @typedef {(table: Shown, changed: Partial<Given> | null) => void} Change */
 
 /** @type {(shown: Shown, rows: string[][], change: Change) => HTMLElement} The cells of a table, each to be changed. */
 function editor(shown, rows, change) {

@@ -118,8 +118,7 @@ export function readGroups(sheet, roster) {
   if (kinds.length > 1) refuse(first, kinds[1] + 1, "kinds", kinds.length, quoted(KIND));
   const days = new Names("groups");
   const groups = groupsOf(days, title[1] && nameOf(title[1], first, 2), title[0]);
-  /** @type {Map<number, number>} */
-  const lines = new Map();
+  const lines = /** @type {Map<number, number>} */ (new Map());
   for (const { line, cells } of sheet.body(title.length)) {
     const object = known(roster.objectNumbers, "object", cells[0], line);
     const kind = kinds.length && cells[kinds[0]] ? nameOf(cells[kinds[0]], line, kinds[0] + 1) : "";

@@ -23,7 +23,7 @@ export function stripped(cell) {
   return cell.slice(begin, end);
 }
 
-// A cell of CSV as it is written: with an apostrophe in front where a spreadsheet would run it, and one more where apostrophes stand before what a spreadsheet would run.
+// A cell of CSV as it is written: with one apostrophe more where a spreadsheet would run it, or would run what apostrophes guard.
 /** @type {(cell: string) => string} */
 export function guarded(cell) {
   return IS_RUN.test(cell) ? `'${cell}` : cell;

@@ -105,8 +105,7 @@ function cellText(tag, inner, { texts, areDates, first, isStale, comma }, row, c
 
 /** @type {(name: string, xml: string, book: Book) => Grid} The rows of a sheet. */
 function gridOf(name, xml, book) {
-  /** @type {string[][]} */
-  const rows = [];
+  const rows = /** @type {string[][]} */ ([]);
   let [row, column, count] = [-1, -1, 0];
   for (const [whole, ofRow, tag, , inner = ""] of xml.matchAll(/<(?:\w+:)?row(\s[^>]*)?>|<(?:\w+:)?c(\s[^>]*?)?(\/>|>([\s\S]*?)<\/(?:\w+:)?c>)/g)) {
     if (/^<(?:\w+:)?row/.test(whole)) {
