@@ -94,7 +94,8 @@ export function foundIn(tables, { choices, marks }, library) {
   const sheet = plan && sheetOf(roster, plan, kept);
   // The page draws no matrix of more pairs, and their lists would stop it while they come.
   const shown = sheet || roster.pairs.length <= MOST_DRAWN ? roster : { ...roster, pairs: [] };
-  const sums = [counted(roster.persons.length, roster.titles[0]), counted(roster.objects.length, roster.titles[1]), counted(roster.pairs.length, "pair")];
+  const words = [...roster.titles.slice(0, 2), "pair"];
+  const sums = [roster.persons, roster.objects, roster.pairs].map((all, k) => counted(all.length, words[k]));
   return {
     kind: /** @type {const} */ ("found"), read: sums.join(", "), lines: firstLines(roster, choices.max, answer), rows: plan ? rowsOf(roster, plan) : [],
     left: plan ? leftOut(roster, plan) : [], notes: [...plan ? notesOf(roster, plan, kept) : [], ...lines, ...notesOn(roster, tables)],

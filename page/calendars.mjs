@@ -141,7 +141,8 @@ export function calendarsOf({ roster, plan, kept, calendars }, version) {
   const stems = fileNames(roster.persons);
   const files = roster.persons.map((person, number) => {
     const name = `${stems[number]}.ics`;
-    const own = eventsOf(roster, person, plan.pairs.filter((pair) => pair.person === number).map(({ object }) => object), all);
+    const objects = plan.pairs.filter((pair) => pair.person === number).map(({ object }) => object);
+    const own = eventsOf(roster, person, objects, all);
     const before = kept?.named.filter((pair) => pair.person === person);
     const old = calendars.get(name);
     const events = old || !before ? own

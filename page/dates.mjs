@@ -91,7 +91,7 @@ export function datesOf(names) {
   const anchors = dated.flatMap((day) => day === null ? [] : [day]).sort((one, other) => one - other);
   if (!anchors.length) return { all: null, why: names.length ? said("no year", names[0]) : said("there are none") };
   const days = own.map((one, k) => dated[k] ?? nearest(one, anchors) ?? NaN);
-  const odd = own.findIndex(({ weekdays }, k) => Number.isNaN(days[k]) || weekdays && !weekdays.has(weekdayOf(days[k])));
+  const odd = own.findIndex((one, k) => Number.isNaN(days[k]) || one.weekdays?.has(weekdayOf(days[k])) === false);
   if (odd < 0) return { all: days, why: "" };
   return { all: null, why: Number.isNaN(days[odd]) ? said("no day", own[odd].name)
     : said("other weekday", own[odd].name, DAY_NAMES[weekdayOf(days[odd])]) };

@@ -57,7 +57,8 @@ function cellsOf(roster, labels, plan, kept) {
     const had = own.filter((object) => before?.has(pairKey(roster, person, object)));
     const now = (pairs.get(person) || []).filter(({ object }) => own.includes(object));
     const entries = now.map(({ object, isFixed }) => ({
-      label: labels[object], object, isFixed: isFixed && !roster.past.has(object), isNew: before !== null && !had.includes(object) }));
+      label: labels[object], object, isFixed: isFixed && !roster.past.has(object),
+      isNew: kept !== null && !had.includes(object) }));
     const gone = had.filter((object) => !now.some((pair) => pair.object === object)).map((object) => labels[object]);
     return { entries, gone, isOff: !now.length && !own.some((object) => costs.has(pairKey(roster, person, object))) };
   };

@@ -42,13 +42,12 @@ export function namedPairs(sheet, roster) {
   if (personNumbers.has(title[0]) && objectNumbers.has(title[1])) refuse(first, 0, "pair for a title", title[0], title[1]);
   const change = title.indexOf(CHANGE, 3);
   const hasCosts = title.length > 2 && (!groups || title[2] !== groups.title);
-  const stays = [...sheet.body(title.length)].filter(({ cells }) => change < 0 || ![GOES, NOT_POSSIBLE].includes(cells[change]));
-  return stays.map(({ line, cells }) => {
+  const rows = [...sheet.body(title.length)];
+  return rows.filter(({ cells }) => ![GOES, NOT_POSSIBLE].includes(cells[change])).map(({ line, cells }) => {
     const [person, object] = [nameOf(cells[0], line, 1), nameOf(cells[1], line, 2)];
     return {
-      person: persons[personNumbers.get(person) ?? -1] ?? person, object: objects[objectNumbers.get(object) ?? -1] ?? object,
-      line, cost: hasCosts ? cells[2] : "",
-    };
+      person: persons[personNumbers.get(person) ?? -1] ?? person,
+      object: objects[objectNumbers.get(object) ?? -1] ?? object, line, cost: hasCosts ? cells[2] : "" };
   });
 }
 
@@ -74,7 +73,8 @@ function refuseOften(roster, named, item) {
     if (!again) continue;
     const [name, most] = [[roster.persons, roster.objects][column][again[side]], mostOf(again[side])];
     const often = most === 1 ? said("a second time") : said("more times", most);
-    throw new RosterFault(`${quoted(name)} ${often}${most ? `, after ${item} ${first.line}` : ""}`, again.line, column + 1);
+    const before = most ? `, after ${item} ${first.line}` : "";
+    throw new RosterFault(`${quoted(name)} ${often}${before}`, again.line, column + 1);
   }
 }
 
@@ -111,7 +111,8 @@ function withPersons(roster, names) {
   const persons = [...roster.persons, ...fresh];
   const gone = new Set(fresh.map((_, k) => roster.persons.length + k));
   const personNumbers = new Map([...roster.personNumbers, ...[...gone].map((number) => /** @type {const} */ ([persons[number], number]))]);
-  return withBounds({ ...roster, persons, personNumbers, gone }, [[...gone].map((number) => [number, { least: 0, most: 0 }]), []]);
+  const none = [...gone].map((number) => /** @type {[number, Bounds]} */ ([number, { least: 0, most: 0 }]));
+  return withBounds({ ...roster, persons, personNumbers, gone }, [none, []]);
 }
 
 /** @type {(roster: Roster, sides: [number, Bounds][][]) => Roster} The roster with these bounds of persons, and of objects, in place of those before. */
@@ -123,8 +124,9 @@ function withBounds(roster, [persons, objects]) {
 }
 
 /**
- * The roster with a past, which is before a group. An earlier plan's pairs there are allowed and given, at their cost in its file where the
- * roster forbids them. Who has more of them than it takes may have so many. No least count of the past is left.
+ * The roster with a past, which is before a group. An earlier plan's pairs there are allowed and given, at their cost
+ * in its file where the roster forbids them. Who has more of them than it takes may have so many. No least count of the
+ * past is left.
  * @type {(roster: Roster, groups: Groups, kept: OldPlan, name: string) => { roster: Roster, fixed: Pair[], lines: string[] }}
  */
 export function withPast(roster, groups, kept, name) {
@@ -138,7 +140,8 @@ export function withPast(roster, groups, kept, name) {
   const passing = [...usesOf(fixed)[0]].filter(([person, count]) => count > boundsOf(own, 0, person).most)
     .sort(([one], [other]) => one - other);
   const added = fixed.filter(({ isNew }) => isNew);
-  const changed = withBounds({ ...own, past, pairs: [...own.pairs, ...added], isMatrix: own.isMatrix && !added.length }, [
+  const isMatrix = own.isMatrix && !added.length;
+  const changed = withBounds({ ...own, past, pairs: [...own.pairs, ...added], isMatrix }, [
     passing.map(([person, most]) => [person, { ...boundsOf(own, 0, person), most }]),
     [...past].map((object) => [object, { ...boundsOf(own, 1, object), least: 0 }])]);
   refusePairsTwice(changed, kept.named, "line");

@@ -12,8 +12,7 @@ export function keyOf({ ofRows, ofColumns, groupOf, nGroups }, pair) {
 /** @type {(counted: Counted, plan: ArrayLike<number>) => { graph: Graph, begins: number[] }} The graph of changes of a plan with no count that is free, and the vertex that has the column of each pair. */
 export function graphOf(counted, plan) {
   const { rows, columns, ofRows, ofColumns, groupOf, nGroups } = counted;
-  /** @type {Graph} */
-  const graph = Array.from({ length: rows.length + columns.length + 1 }, () => []);
+  const graph = Array.from({ length: rows.length + columns.length + 1 }, () => /** @type {number[]} */ ([]));
   const keys = ofRows.map((_, pair) => keyOf(counted, pair));
   const taken = new Set(keys.filter((_, pair) => plan[pair]));
   const add = (/** @type {number} */ begin, /** @type {number} */ end, /** @type {boolean} */ isTurned) => (
@@ -34,8 +33,7 @@ export function graphOf(counted, plan) {
 
 /** @type {(graph: Graph) => Graph} The arrows, each in the other direction. */
 export function turned(graph) {
-  /** @type {Graph} */
-  const back = graph.map(() => []);
+  const back = graph.map(() => /** @type {number[]} */ ([]));
   graph.forEach((ends, begin) => ends.forEach((end) => back[end].push(begin)));
   return back;
 }

@@ -54,8 +54,7 @@ function lackOf(counted, ofColumns, names, limits) {
 /** @type {(links: Map<number, Set<number>>) => number[][]} The connected parts of names, by what they are linked to, in the order of the first ones. */
 function connected(links) {
   const [names, firsts] = [[...links.keys()], new Map()];
-  /** @type {number[][]} */
-  const graph = names.map(() => []);
+  const graph = names.map(() => /** @type {number[]} */ ([]));
   [...links.values()].forEach((ends, place) => ends.forEach((end) => {
     if (!firsts.has(end)) firsts.set(end, place);
     graph[place].push(firsts.get(end));
@@ -78,8 +77,8 @@ export function lacksOf(counted, library) {
 /** @type {(part: Part, lacks: Lack[]) => Part} */
 export function cutOf(part, lacks) {
   const sideOf = (/** @type {Bounds[]} */ bounds, /** @type {boolean} */ side) => {
-    const [short, full] = [true, false].map((isShort) => new Set(
-      lacks.filter((lack) => (lack.ofColumns === side) === isShort).flatMap((lack) => side ? lack.columns : lack.rows)));
+    const [short, full] = [side, !side].map((one) => (
+      new Set(lacks.filter(({ ofColumns }) => ofColumns === one).flatMap((lack) => side ? lack.columns : lack.rows))));
     return {
       numbers: bounds.map((_, k) => Number(short.has(k)) - Number(full.has(k))),
       cut: bounds.map(({ least, most }, k) => ({ least: full.has(k) ? most : short.has(k) ? 0 : least, most: short.has(k) ? least : most })),

@@ -11,8 +11,8 @@ const EXAMPLE = "nurse,early,late,night,office\nAda,2.50,4,,1\nBen,3.25,,1.75,2\
 // Spreadsheets read CSV as UTF-8 where it begins with this mark.
 const BOM = "\ufeff";
 const PASTED = "";
-const WALL_HEAD = `<meta charset="utf-8"><meta http-equiv="Content-Security-Policy" content="default-src 'none'; style-src \
-'unsafe-inline'"><meta name="viewport" content="width=device-width, initial-scale=1">`;
+const WALL_HEAD = `<meta charset="utf-8"><meta http-equiv="Content-Security-Policy" content="default-src 'none'; \
+style-src 'unsafe-inline'"><meta name="viewport" content="width=device-width, initial-scale=1">`;
 
 
 let run = /** @type {{ begin: number, clock: number } | null} */ (null);
@@ -85,7 +85,7 @@ function stop() {
 /** @type {() => Choices} What is chosen below the files. */
 function choices() {
   const { form, mark, sense, fullest, past } = Object.fromEntries(new FormData(byId("ask", HTMLFormElement)));
-  return { form: String(form), comma: mark === "comma", max: sense === "max", fullest: Boolean(fullest), past: String(past || "") };
+  return { form: String(form), comma: mark === "comma", max: sense === "max", fullest: !!fullest, past: String(past) };
 }
 
 /** Plans the files. */

@@ -70,7 +70,8 @@ function heading(scope, content, isShort) {
 
 /** @type {(found: Found, part: number[], name: string) => HTMLElement} The headings of a part, below a line that names it on paper, if there are several. */
 function headOf({ roster: { objects }, short }, part, name) {
-  const titles = part.map((object) => heading("col", element("span", {}, objects[object]), short.objects.includes(object)));
+  const isShort = new Set(short.objects);
+  const titles = part.map((object) => heading("col", element("span", {}, objects[object]), isShort.has(object)));
   const own = element("tr", {}, element("th", {}), ...titles);
   if (name === "") return element("thead", {}, own);
   const title = element("tr", { class: "part" }, element("th", { colspan: String(part.length + 1), lang: "en" }, name));

@@ -25,7 +25,8 @@ function countedOf(roster, { max, fixed }) {
   const groupOf = objects.map((_, object) => groups?.ofObjects.get(object) ?? nGroups + object);
   const [had, used] = usesOf(fixed);
   const rows = persons.map((_, person) => less(boundsOf(roster, 0, person), had.get(person)));
-  const columns = objects.map((_, object) => past.has(object) ? { least: 0, most: 0 } : less(boundsOf(roster, 1, object), used.get(object)));
+  const columns = objects.map((_, object) => less(boundsOf(roster, 1, object), used.get(object)));
+  past.forEach((object) => { columns[object] = { least: 0, most: 0 }; });
   if (!hasBounds(roster)) {
     const [first, second] = [rows, columns].map((side) => side.reduce((sum, { most }) => sum + most, 0));
     (first <= second ? rows : columns).forEach((own) => { own.least = own.most; });

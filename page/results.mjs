@@ -74,7 +74,8 @@ export function legendOf(sheet) {
   const kinds = [...sheet.letters].flatMap(([kind, letter]) => [element("span", { class: `key ${colours.get(kind)}`, lang: "" }, letter), ` ${kind} \u00b7 `]);
   const notes = sheet.columns.filter(({ meaning }) => meaning && !sheet.letters.has(meaning)).map(({ title, meaning }) => `${title}: ${meaning}`);
   const marks = [
-    sheet.days.some(({ isWeekend }) => isWeekend) && "shaded: weekend", cells.some(({ isOff }) => isOff) && said("hatched"),
+    sheet.days.some(({ isWeekend }) => isWeekend) && "shaded: weekend",
+    cells.some(({ isOff }) => isOff) && said("hatched"),
     cells.some(({ entries, gone }) => gone.length || entries.some(({ isNew }) => isNew)) && said("framed"),
     cells.some(({ entries }) => entries.some(({ isFixed }) => isFixed)) && "underlined: given",
     sheet.kinds.some(({ staff }) => staff.some((own) => own && own.wanted !== null)) && said("3/4")];
@@ -124,10 +125,11 @@ export function showResult(found, name, onCell) {
   const [person, object] = found.roster.titles;
   if (plan && sheet) {
     const grid = withCells(sheetTable(sheet, person), sheet, onCell);
-    answer.append(element("div", { class: "sheet" }, region("The plan", { class: "scroll" }, grid), legendOf(sheet)), ...found.left.flatMap(leftOver));
+    answer.append(element("div", { class: "sheet" }, region("The plan", { class: "scroll" }, grid), legendOf(sheet)));
   } else if (plan) {
-    answer.append(region("The plan", { class: "scroll" }, table(found.rows[0], found.rows.slice(1))), ...found.left.flatMap(leftOver));
+    answer.append(region("The plan", { class: "scroll" }, table(found.rows[0], found.rows.slice(1))));
   }
+  answer.append(...found.left.flatMap(leftOver));
   answer.append(...found.notes.map((note) => element("p", { class: "note" }, note)));
   if (sheet) answer.append(unfolding(`By ${object}`, listOf(lists.objects), false), unfolding(`By ${person}`, listOf(lists.persons), false));
   for (const id of ["copy", "save", "wall", "calendars", "keep"]) byId(id).hidden = !plan;

@@ -1,6 +1,6 @@
-// Rosters: persons, objects and costs by name, in lines of pairs or as a matrix. They are read as the command reads them. By days they are
-// lines of a person, a day, a shift and a cost, and matrices with two title rows, the days over their shifts: objects are then called by
-// shift and day, which are their kind and their group.
+// Rosters: persons, objects and costs by name, in lines of pairs or as a matrix, read as the command reads them. By days
+// they are lines of a person, a day, a shift and a cost, and matrices with two title rows, the days over their shifts:
+// objects are then called by shift and day, which are their kind and their group.
 import { datesOf } from "./dates.mjs";
 import { refuse, RosterFault, said } from "./faults.mjs";
 import { Names, Pairs } from "./names.mjs";
@@ -28,9 +28,9 @@ export function rosterOf(sheet, { form, comma }) {
   const { persons, objects } = pairs;
   const { decimals, units } = costs.scaled();
   return {
-    titles, persons: persons.list, objects: objects.list, personNumbers: persons.numbers, objectNumbers: objects.numbers,
-    pairs: pairs.list.map((pair, k) => ({ ...pair, cost: units[k] })), decimals, separator: sheet.separator, comma, isMatrix,
-    takes: null, groups, past: new Set(), gone: new Set(),
+    titles, persons: persons.list, objects: objects.list, decimals, separator: sheet.separator, comma, isMatrix, groups,
+    personNumbers: persons.numbers, objectNumbers: objects.numbers, takes: null, past: new Set(), gone: new Set(),
+    pairs: pairs.list.map((pair, k) => ({ ...pair, cost: units[k] })),
   };
 }
 

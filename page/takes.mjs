@@ -78,21 +78,18 @@ export function readCounts(sheet, roster, ofObjects) {
   return { bounds, areRanges, title: title[0] };
 }
 
-/** @type {(title: string[], word: string) => number[]} The columns after the first two that are titled so. */
-function columnsOf(title, word) {
-  return [...title.keys()].filter((place) => place > 1 && title[place].toLowerCase() === word);
-}
-
-/** @type {(title: string[], line: number) => number[]} Which columns have times, none where no title says so. */
-function columnsOfTimes(title, line) {
-  const places = [FROM, TO].map((word) => columnsOf(title, word));
-  if (!places.flat().length) return [];
+/** @type {(title: string[], line: number) => { times: number[], kind: number | undefined }} The columns of times, and of kinds. */
+function columnsIn(title, line) {
+  const [from, to, kinds] = [FROM, TO, KIND].map((word) => (
+    [...title.keys()].filter((place) => place > 1 && title[place].toLowerCase() === word)));
+  const times = [...from, ...to];
   [[FROM, TO], [TO, FROM]].forEach(([word, other], k) => {
-    const count = places[k].length;
-    if (count > 1) refuse(line, 0, "times", count, quoted(word), quoted(other));
-    if (!count) refuse(line, 0, "one time", quoted(other), quoted(word));
+    const { length } = [from, to][k];
+    if (length > 1) refuse(line, 0, "times", length, quoted(word), quoted(other));
+    if (!length && times.length) refuse(line, 0, "one time", quoted(other), quoted(word));
   });
-  return places.flat();
+  if (kinds.length > 1) refuse(line, kinds[1] + 1, "kinds", kinds.length, quoted(KIND));
+  return { times, kind: kinds[0] };
 }
 
 /** @type {(cell: string, line: number, column: number, most: number) => number} A time of day in minutes, at most so many. */
@@ -113,15 +110,13 @@ export function readGroups(sheet, roster) {
   const { line: first, cells: title } = sheet.title();
   if (title.length < 2) refuse(first, 0, "object and group");
   if (roster.objectNumbers.has(title[0])) refuse(first, 1, "object for a title", quoted(title[0]));
-  const times = columnsOfTimes(title, first);
-  const kinds = columnsOf(title, KIND);
-  if (kinds.length > 1) refuse(first, kinds[1] + 1, "kinds", kinds.length, quoted(KIND));
+  const { times, kind: place } = columnsIn(title, first);
   const days = new Names("groups");
   const groups = groupsOf(days, title[1] && nameOf(title[1], first, 2), title[0]);
   const lines = /** @type {Map<number, number>} */ (new Map());
   for (const { line, cells } of sheet.body(title.length)) {
     const object = known(roster.objectNumbers, "object", cells[0], line);
-    const kind = kinds.length && cells[kinds[0]] ? nameOf(cells[kinds[0]], line, kinds[0] + 1) : "";
+    const kind = place && cells[place] ? nameOf(cells[place], line, place + 1) : "";
     const [begin, end] = times.some((place) => cells[place])
       ? times.map((place, k) => minutesIn(cells[place], line, place + 1, k ? DAY : DAY - 1)) : [];
     const group = days.number(cells[1], line, 2);
