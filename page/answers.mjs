@@ -1,6 +1,6 @@
 // What the worker does with files: it reads them, plans the roster, and says all that the page shows.
 import { sheetOf } from "./days.mjs";
-import { costsOf, named, namedPairs, numbersOf, oldPlanOf, pairKey, withPast } from "./earlier.mjs";
+import { costsOf, namedPairs, numbersOf, oldPlanOf, pairKey, withPast } from "./earlier.mjs";
 import { itemOf, refuse, RosterFault, said, within } from "./faults.mjs";
 import { tablesOf } from "./files.mjs";
 import { usesOf } from "./gathered.mjs";
@@ -9,28 +9,13 @@ import { alike } from "./names.mjs";
 import { answerOf, firstLines, leftOut, listsOf, notesOf, rowsOf } from "./plan.mjs";
 import { rosterOf } from "./roster.mjs";
 import { counted } from "./sentences.mjs";
-import { forgotten, ofObject, ofPerson, readCounts, readGroups, withTakes } from "./takes.mjs";
+import { boundsOf, forgotten, readCounts, readGroups, withTakes } from "./takes.mjs";
 import { quoted } from "./texts.mjs";
 
 // So many notes on names; tables with more cells aren't sent to the page, and lists of more pairs aren't.
 const [MOST_NOTES, MOST_SHOWN_CELLS, MOST_PAIRS, MOST_DRAWN] = [20, 20000, 5000, 250000];
 
-/**
- * @typedef {import("./roster.mjs").Roster} Roster
- * @typedef {import("./files.mjs").Table} Table
- * @typedef {import("./earlier.mjs").OldPlan} OldPlan
- * @typedef {import("./plan.mjs").Plan} Plan
- * @typedef {{ person: string, object: string, isFixed: boolean }} Mark A pair that is to be in the plan, or must not be
- * @typedef {{ form: string, comma: boolean, max: boolean, fullest: boolean, past: string }} Choices
- * @typedef {{ files: import("./files.mjs").Given[], choices: Choices, marks: Mark[], module: WebAssembly.Module }} Question
- * @typedef {ReturnType<typeof shownTables>[number]} Shown A table as the page shows it, its rows where they aren't too many
- * @typedef {ReturnType<typeof foundIn>} Found What the page shows of an answer
- * @typedef {{ kind: "fault", text: string, file: string, line: number, column: number, tables: Shown[] }} Fault
- * @typedef {{ kind: "failure", text: string }} Failure
- * @typedef {{ kind: "progress", text: string }} Progress
- * @typedef {Found | Fault | Failure | Progress} Reply
- * @typedef {{ roster: Roster, kept: OldPlan | null, fixed: import("./earlier.mjs").Pair[], lines: string[] }} Read
- */
+/** @typedef {{ roster: Roster, kept: OldPlan | null, fixed: Pair[], lines: string[] }} Read */
 
 /** @type {(roster: Roster, tables: Table[]) => string[]} What is to be said of a roster as it was read. */
 function notesOn(roster, tables) {
@@ -52,48 +37,44 @@ function tableOf(tables, kind) {
 
 /** @type {(tables: Table[], choices: Choices) => Read} The roster of tables with its counts and groups, and an earlier plan. */
 export function readTables(tables, choices) {
-  const table = tableOf(tables, "roster");
-  if (!table) throw new RosterFault("no file is a roster: choose what each is");
-  const first = within(table.name, () => rosterOf(table.sheet, choices));
   /** @type {<Result>(kind: string, read: (table: Table) => Result) => Result | null} */
   const ofKind = (kind, read) => {
     const own = tableOf(tables, kind);
     return own && within(own.name, () => read(own));
   };
+  const first = ofKind("roster", ({ sheet }) => rosterOf(sheet, choices));
+  if (!first) throw new RosterFault("no file is a roster: choose what each is");
   const tasks = ofKind("tasks", ({ sheet }) => readCounts(sheet, first, false));
   const places = ofKind("places", ({ sheet }) => readCounts(sheet, first, true));
   const roster = withTakes(first, tasks, places, ofKind("groups", ({ sheet }) => readGroups(sheet, first)));
-  const lines = [places, tasks].flatMap((counts, k) => counts ? forgotten(roster, counts, k === 0, named) : []);
+  const lines = [places, tasks].flatMap((counts, k) => counts ? forgotten(roster, counts, k === 0) : []);
   const isRuled = roster.takes !== null || roster.groups !== null;
   const kept = ofKind("plan", ({ name, sheet }) => oldPlanOf(roster, namedPairs(sheet, roster), !isRuled, itemOf(name)));
   if (kept?.gone.length) lines.push(`the earlier plan has names that the roster hasn't: ${kept.gone.slice(0, MOST_NOTES).join(", ")}`);
   if (!kept || !roster.groups || !choices.past) return { roster, kept, fixed: [], lines };
   const past = withPast(roster, roster.groups, kept, choices.past);
-  return { ...past, lines: [...lines, ...past.lines] };
+  return { ...past, kept, lines: [...lines, ...past.lines] };
 }
 
 /** @type {(read: Read, marks: Mark[]) => Read} The roster without pairs that must not be, and the pairs that are to be in the plan. */
 function withMarks({ roster, kept, fixed, lines }, marks) {
   const numbered = numbersOf(roster, marks).filter(({ object }) => !roster.past.has(object));
   const barred = new Set(numbered.filter(({ isFixed }) => !isFixed).map(({ key }) => key));
-  const left = [...roster.costs.keys()].filter((k) => !barred.has(pairKey(roster, roster.ofPersons[k], roster.ofObjects[k])));
   const costs = costsOf(roster);
   const own = numbered.filter(({ isFixed, key }) => isFixed && costs.has(key));
   const all = [...fixed, ...own.map(({ person, object, key }) => ({ person, object, cost: costs.get(key) ?? 0 }))];
   const [had, used] = usesOf(all);
   for (const { person, object, name } of own) {
-    const [count, most] = [had.get(person) || 0, ofPerson(roster, person).most];
-    const [uses, room] = [used.get(object) || 0, ofObject(roster, object).most];
+    const [count, most] = [had.get(person) || 0, boundsOf(roster, 0, person).most];
+    const [uses, room] = [used.get(object) || 0, boundsOf(roster, 1, object).most];
     if (count > most) refuse(0, 0, "most with the past", name, roster.persons[person], count, most);
     if (uses > room) throw new RosterFault(`with ${name} ${roster.objects[object]} has ${uses}, where ${room} is the most`);
   }
-  if (!barred.size) return { roster, kept, fixed: all, lines };
-  const [ofPersons, ofObjects, ownCosts] = [roster.ofPersons, roster.ofObjects, roster.costs].map((list) => left.map((k) => list[k]));
-  const changed = { ...roster, ofPersons, ofObjects, costs: ownCosts };
-  return { roster: changed, kept: kept && { ...oldPlanOf(changed, kept.named, false), gone: kept.gone }, fixed: all, lines };
+  const pairs = roster.pairs.filter(({ person, object }) => !barred.has(pairKey(roster, person, object)));
+  return { roster: { ...roster, pairs }, kept, fixed: all, lines };
 }
 
-/** @param {Table[]} tables Those of which the page shows the cells, if they aren't too many. */
+/** @type {(tables: Table[]) => Shown[]} Tables as the page shows them. */
 function shownTables(tables) {
   return tables.map(({ name, kind, place, isChosen, sheet }) => {
     const width = sheet.rows.reduce((most, { cells }) => Math.max(most, cells.length), 0);
@@ -103,21 +84,18 @@ function shownTables(tables) {
   });
 }
 
-/**
- * What the page shows of an answer: nothing of a plan where there is none.
- * @param {Table[]} tables
- * @param {Question} question
- * @param {import("./library.mjs").Library} library
- */
-function foundIn(tables, { choices, marks }, library) {
+// What the page shows of an answer: nothing of a plan where there is none.
+/** @param {Table[]} tables @param {Question} question @param {Library} library */
+export function foundIn(tables, { choices, marks }, library) {
   const { roster, kept, fixed, lines } = withMarks(readTables(tables, choices), marks);
   const answer = answerOf(roster, { max: choices.max, fullest: choices.fullest, fixed, kept }, library);
   const { plan } = answer;
   const calendars = tableOf(tables, "calendars");
   const sheet = plan && sheetOf(roster, plan, kept);
   // The page draws no matrix of more pairs, and their lists would stop it while they come.
-  const shown = sheet || roster.costs.length <= MOST_DRAWN ? roster : { ...roster, ofPersons: [], ofObjects: [], costs: [] };
-  const sums = [counted(roster.persons.length, roster.titles[0]), counted(roster.objects.length, roster.titles[1]), counted(roster.costs.length, "pair")];
+  const shown = sheet || roster.pairs.length <= MOST_DRAWN ? roster : { ...roster, pairs: [] };
+  const words = [...roster.titles.slice(0, 2), "pair"];
+  const sums = [roster.persons, roster.objects, roster.pairs].map((all, k) => counted(all.length, words[k]));
   return {
     kind: /** @type {const} */ ("found"), read: sums.join(", "), lines: firstLines(roster, choices.max, answer), rows: plan ? rowsOf(roster, plan) : [],
     left: plan ? leftOut(roster, plan) : [], notes: [...plan ? notesOf(roster, plan, kept) : [], ...lines, ...notesOn(roster, tables)],
@@ -127,10 +105,9 @@ function foundIn(tables, { choices, marks }, library) {
   };
 }
 
-/** @type {(question: Question, load: () => Promise<import("./library.mjs").Library>, report?: (progress: Progress) => void) => Promise<Reply>} The reply to a question. */
+/** @type {(question: Question, load: () => Promise<Library>, report?: (progress: Progress) => void) => Promise<Reply>} The reply to a question. */
 export async function replyTo(question, load, report = () => {}) {
-  /** @type {Table[]} */
-  const tables = [];
+  const tables = /** @type {Table[]} */ ([]);
   try {
     report({ kind: "progress", text: "Reading .." });
     await tablesOf(question.files, question.choices.comma, tables);

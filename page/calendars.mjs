@@ -13,13 +13,12 @@ const MOST_OCTETS = 200;
 const MINUTES = 24 * 60;
 const encoder = new TextEncoder();
 /**
- * @typedef {import("./roster.mjs").Roster} Roster
- * @typedef {{ name: string, bytes: Uint8Array }} File
+ * @typedef {{ name: string, text: string }} File
  * @typedef {{ sequence: number, events: Map<string, string[]>, live: Set<string> }} Older Its number among the versions, the lines of its
  *   events by their UIDs, without those that say which version it is, and the UIDs of those that weren't cancelled
  */
 
-/** @type {(bytes: Uint8Array) => Uint8Array} The sum SHA-1 of bytes. */
+/** @type {(bytes: Uint8Array) => string} The sum SHA-1 of bytes, in hexadecimal digits. */
 function sha1(bytes) {
   const view = new DataView(new ArrayBuffer(Math.ceil((bytes.length + 9) / 64) * 64));
   [...bytes, 0x80].forEach((byte, k) => view.setUint8(k, byte));
@@ -37,32 +36,22 @@ function sha1(bytes) {
     });
     sum = [a, b, c, d, e].map((own, k) => sum[k] + own | 0);
   }
-  const found = new DataView(new ArrayBuffer(20));
-  sum.forEach((word, k) => found.setInt32(4 * k, word));
-  return new Uint8Array(found.buffer);
+  return sum.map((word) => (word >>> 0).toString(16).padStart(8, "0")).join("");
 }
 
 /** @type {(person: string, object: string, day: number) => string} The UUID of an event, by its sum. */
 function uidOf(person, object, day) {
-  const found = sha1(Uint8Array.from([...NAMESPACE, ...encoder.encode(`${person}\n${object}\n${isoOf(day)}`)])).slice(0, 16);
-  found[6] = found[6] & 15 | 0x50;
-  found[8] = found[8] & 63 | 128;
-  const digits = Array.from(found, (byte) => byte.toString(16).padStart(2, "0")).join("");
-  return digits.replace(/^(.{8})(.{4})(.{4})(.{4})/, "$1-$2-$3-$4-");
+  const digits = sha1(Uint8Array.from([...NAMESPACE, ...encoder.encode(`${person}\n${object}\n${isoOf(day)}`)]));
+  const variant = (Number.parseInt(digits[16], 16) & 3 | 8).toString(16);
+  return digits.replace(/^(.{8})(.{4}).(.{3}).(.{3})(.{12}).*/, `$1-$2-5$3-${variant}$4-$5`);
 }
 
 /** @type {(line: string) => string[]} A line in parts of at most 75 octets; each but the first begins with a blank. */
 function folded(line) {
   const parts = [""];
-  let size = 0;
   for (const letter of line) {
-    const own = encoder.encode(letter).length;
-    if (size + own > WIDEST) {
-      parts.push(" ");
-      size = 1;
-    }
+    if (encoder.encode(parts[parts.length - 1] + letter).length > WIDEST) parts.push(" ");
     parts[parts.length - 1] += letter;
-    size += own;
   }
   return parts;
 }
@@ -72,12 +61,10 @@ function escapedText(text) {
   return text.replace(/[\\;,]/g, "\\$&").replace(/\n/g, "\\n");
 }
 
-/** @type {(day: number, minutes?: number) => string} A day, or a time of it, as calendars write it. */
-function stampOf(day, minutes = -1) {
-  const own = isoOf(day + Math.floor(Math.max(0, minutes) / MINUTES)).replace(/-/g, "");
-  if (minutes < 0) return own;
-  const rest = minutes % MINUTES;
-  return `${own}T${String(Math.floor(rest / 60)).padStart(2, "0")}${String(rest % 60).padStart(2, "0")}00`;
+/** @type {(day: number, minutes?: number) => string} A time of a day, or of one after it, as calendars write it: 20270301T063000. */
+function stampOf(day, minutes = 0) {
+  const time = new Date(minutes % MINUTES * 60000).toISOString().slice(11, 19);
+  return `${isoOf(day + Math.floor(minutes / MINUTES))}T${time}`.replace(/[-:]/g, "");
 }
 
 /** @type {(stem: string) => string} The letters by which systems that ignore case compare names. */
@@ -87,8 +74,7 @@ function keyOfName(stem) {
 
 /** @type {(names: string[]) => string[]} Names of files for names, without ends: they differ also where a system ignores case. */
 function fileNames(names) {
-  /** @type {Set<string>} */
-  const taken = new Set();
+  const taken = /** @type {Set<string>} */ (new Set());
   return names.map((name) => {
     const bare = Array.from(name, (letter) => FORBIDDEN.test(letter) || !isPrintable(letter) ? "_" : letter).join("").replace(/^[ .]+|[ .]+$/g, "");
     const cut = new TextDecoder().decode(encoder.encode(bare).slice(0, MOST_OCTETS)).replace(/\ufffd+$/, "").replace(/[ .]+$/, "") || "_";
@@ -111,9 +97,9 @@ function eventsOf(roster, person, objects, days) {
   return new Map(events.map(({ object, day, times }) => {
     const uid = uidOf(person, roster.objects[object], day);
     return [uid, [
-      "BEGIN:VEVENT", `UID:${uid}`, `DTSTAMP:${stampOf(day, 0)}Z`,
+      "BEGIN:VEVENT", `UID:${uid}`, `DTSTAMP:${stampOf(day)}Z`,
       ...times ? [`DTSTART:${stampOf(day, times.begin)}`, `DTEND:${stampOf(day, times.end)}`]
-        : [`DTSTART;VALUE=DATE:${stampOf(day)}`, `DTEND;VALUE=DATE:${stampOf(day + 1)}`],
+        : [day, day + 1].map((one, k) => `${k ? "DTEND" : "DTSTART"};VALUE=DATE:${stampOf(one).split("T")[0]}`),
       `SUMMARY:${escapedText(labels[object])}`, "END:VEVENT"]];
   }));
 }
@@ -131,12 +117,9 @@ function olderOf(text) {
   };
 }
 
-/**
- * @type {(own: Map<string, string[]>, older: Older | null) => string[]}
- *   A person's events; what the older calendar has and the plan has no more is cancelled, in a version one above.
- */
+// A person's events; what the older calendar has and the plan has no more is cancelled, in a version one above.
+/** @type {(own: Map<string, string[]>, older: Older) => string[]} */
 function versioned(own, older) {
-  if (!older) return [...own.values()].flat();
   const isSame = older.live.size === own.size
     && [...own].every(([uid, lines]) => older.live.has(uid) && String(older.events.get(uid)) === String(lines));
   const sequence = older.sequence + Number(!isSame);
@@ -147,7 +130,7 @@ function versioned(own, older) {
 }
 
 /**
- * @type {(found: import("./answers.mjs").Found, version: string) => { files: File[], why: string }}
+ * @type {(found: Found, version: string) => { files: File[], why: string }}
  *   A calendar for each person, which cancels what its older one has, or else the earlier plan; why there is none where
  *   groups are no dates.
  */
@@ -158,18 +141,19 @@ export function calendarsOf({ roster, plan, kept, calendars }, version) {
   const stems = fileNames(roster.persons);
   const files = roster.persons.map((person, number) => {
     const name = `${stems[number]}.ics`;
+    const objects = plan.pairs.filter((pair) => pair.person === number).map(({ object }) => object);
+    const own = eventsOf(roster, person, objects, all);
     const before = kept?.named.filter((pair) => pair.person === person);
-    const events = before && eventsOf(roster, person, before.flatMap(({ object }) => roster.objectNumbers.get(object) ?? []), all);
     const old = calendars.get(name);
-    const older = old ? olderOf(old) : events ? { sequence: 0, events, live: new Set(events.keys()) } : null;
-    const own = plan.pairs.filter((pair) => pair.person === number).map(({ object }) => object);
-    const lines = versioned(eventsOf(roster, person, own, all), older);
+    const events = old || !before ? own
+      : eventsOf(roster, person, before.flatMap(({ object }) => roster.objectNumbers.get(object) ?? []), all);
+    const lines = versioned(own, old && olderOf(old) || { sequence: 0, events, live: new Set(events.keys()) });
     // A calendar needs a component: this one says that no time is taken.
-    const none = ["BEGIN:VFREEBUSY", `UID:${uidOf(person, "", first)}`, `DTSTAMP:${stampOf(first, 0)}Z`, "END:VFREEBUSY"];
+    const none = ["BEGIN:VFREEBUSY", `UID:${uidOf(person, "", first)}`, `DTSTAMP:${stampOf(first)}Z`, "END:VFREEBUSY"];
     const whole = [
       "BEGIN:VCALENDAR", "VERSION:2.0", `PRODID:-//Nushbaret//Nushbaret ${version}//EN`, "CALSCALE:GREGORIAN",
       `X-WR-CALNAME:${escapedText(person)}`, ...lines.length ? lines : none, "END:VCALENDAR"];
-    return { name, bytes: encoder.encode(whole.flatMap(folded).map((line) => `${line}\r\n`).join("")) };
+    return { name, text: whole.flatMap(folded).map((line) => `${line}\r\n`).join("") };
   });
   return { files, why: "" };
 }
@@ -191,11 +175,10 @@ function packed(...numbers) {
 
 /** @type {(files: File[]) => Blob} Files in one zip archive, as they are. */
 export function zipOf(files) {
-  /** @type {Uint8Array[][]} */
-  const [parts, entries] = [[], []];
+  const [parts, entries] = /** @type {Uint8Array[][]} */ ([[], []]);
   let place = 0;
-  for (const { name, bytes } of files) {
-    const own = encoder.encode(name);
+  for (const file of files) {
+    const [own, bytes] = [file.name, file.text].map((text) => encoder.encode(text));
     // Version 2.0, names in UTF-8, no method, the first day of 1980; the sum and both sizes; the length of the name.
     const common = packed(
       [2, 20], [2, 0x800], [2, 0], [2, 0], [2, 0x21], [4, crc32(bytes)], [4, bytes.length], [4, bytes.length], [4, own.length]);

@@ -1,6 +1,6 @@
 // Names that are dates with a year, such as 2027-03-01, 01.03.2027 or, where another has the year, Mo 01.03. A day is a number, that
 // of days since 1970.
-import { said, SHARED } from "./faults.mjs";
+import { said } from "./faults.mjs";
 import { bare } from "./texts.mjs";
 
 const WORD = "\\p{L}{2,}";
@@ -15,11 +15,8 @@ const MARCH = "mar";
 const MILLISECONDS = 86400000;
 const [FIRST, LAST, HALF_A_YEAR] = [-354285, 2932891, 183];
 
-/**
- * @typedef {{ name: string, year: number, month: number, day: number, weekdays: Set<number> | null }} Written A name read as a date; year
- *   0 where it has none, and the days of the week that its words may mean
- * @typedef {{ all: number[] | null, why: string }} Dates
- */
+// A name read as a date: year 0 where it has none, and the days of the week that its words may mean.
+/** @typedef {{ name: string, year: number, month: number, day: number, weekdays: Set<number> | null }} Written */
 
 /** @type {(day: number) => number} A day of the week, from Monday on. */
 export function weekdayOf(day) {
@@ -82,7 +79,7 @@ function nearest(own, anchors) {
   return apart(days[0]) <= HALF_A_YEAR ? days[0] : null;
 }
 
-/** @type {(names: string[]) => Dates} The days of names, if each is a date and any has a year. */
+/** @type {(names: string[]) => { all: number[] | null, why: string }} The days of names, if each is a date and any has a year. */
 export function datesOf(names) {
   const all = names.map(written);
   const none = all.findIndex((own) => own === null);
@@ -93,15 +90,11 @@ export function datesOf(names) {
   if (wrong) return { all: null, why: said("no day", wrong.name) };
   const anchors = dated.flatMap((day) => day === null ? [] : [day]).sort((one, other) => one - other);
   if (!anchors.length) return { all: null, why: names.length ? said("no year", names[0]) : said("there are none") };
-  const days = [];
-  for (const [k, one] of own.entries()) {
-    const day = dated[k] ?? nearest(one, anchors);
-    if (day === null) return { all: null, why: said("no day", one.name) };
-    const weekday = weekdayOf(day);
-    if (one.weekdays && !one.weekdays.has(weekday)) return { all: null, why: said("other weekday", one.name, DAY_NAMES[weekday]) };
-    days.push(day);
-  }
-  return { all: days, why: "" };
+  const days = own.map((one, k) => dated[k] ?? nearest(one, anchors) ?? NaN);
+  const odd = own.findIndex((one, k) => Number.isNaN(days[k]) || one.weekdays?.has(weekdayOf(days[k])) === false);
+  if (odd < 0) return { all: days, why: "" };
+  return { all: null, why: Number.isNaN(days[odd]) ? said("no day", own[odd].name)
+    : said("other weekday", own[odd].name, DAY_NAMES[weekdayOf(days[odd])]) };
 }
 
 /** @type {(name: string) => string[]} All common ways to write a name that is a date with a year alone; of any other name itself. */

@@ -1,31 +1,15 @@
 // A plan as one sheet: who has what on which day, by letters, what each has in all, and each day's staff of how many.
 import { DAY_NAMES, datesOf, isoOf, weekdayOf, weekendsAmong } from "./dates.mjs";
-import { costsOf, orderOf, pairKey } from "./earlier.mjs";
+import { costsOf, numbersOf, orderOf, pairKey } from "./earlier.mjs";
 import { said } from "./faults.mjs";
-import { countsOf, gathered, usesOf } from "./gathered.mjs";
+import { countsOf, gathered, sumOf, usesOf } from "./gathered.mjs";
 import { shown } from "./numbers.mjs";
-import { hasBounds, ofObject, withoutGroup } from "./takes.mjs";
+import { boundsOf, hasBounds, withoutGroup } from "./takes.mjs";
 
 // So many days, kinds and persons fit on a sheet.
 const [MOST_DAYS, MOST_KINDS, MOST_ROWS] = [62, 12, 400];
 const ALPHABET = "ABCDEFGHIJKLMNOPQRSTUVWXYZ";
 const SATURDAY = 5;
-/**
- * @typedef {import("./roster.mjs").Roster} Roster
- * @typedef {import("./plan.mjs").Plan} Plan
- * @typedef {{ name: string, group: number, isWeekend: boolean, when: number | null, isPast: boolean }} Day
- * @typedef {{ label: string, object: number, isFixed: boolean, isNew: boolean }} Entry
- * @typedef {{ entries: Entry[], gone: string[], isOff: boolean }} Cell What a person has on a day, what it had in an earlier plan and has no more,
- *   and whether nothing is allowed
- * @typedef {{ had: number, wanted: number | null }} Staff
- * @typedef {object} DaySheet
- * @property {Day[]} days
- * @property {Map<string, string>} letters
- * @property {{ name: string, cells: Cell[], sums: string[] }[]} persons
- * @property {{ title: string, meaning: string }[]} columns
- * @property {{ kind: string, staff: (Staff | null)[] }[]} kinds
- */
-
 /** @type {(roster: Roster) => string[]} The names of objects, without the name of their group where the rest still differs. */
 export function labelsOf({ objects, groups }) {
   if (!groups) return objects;
@@ -49,11 +33,9 @@ function daysOf(roster, names) {
 
 /** @type {(kinds: string[]) => Map<string, string>} A letter for each kind, or the fewest first letters by which all differ. */
 function lettersOf(kinds) {
-  for (const count of [1, 2, 3]) {
-    const short = kinds.map((kind) => Array.from(kind).slice(0, count).join("").trim());
-    if (new Set(short).size === kinds.length && short.every(Boolean)) return new Map(kinds.map((kind, k) => [kind, short[k]]));
-  }
-  return new Map(kinds.map((kind, k) => [kind, ALPHABET[k]]));
+  const firsts = [1, 2, 3].map((count) => kinds.map((kind) => Array.from(kind).slice(0, count).join("").trim()));
+  const short = firsts.find((own) => new Set(own).size === kinds.length && own.every(Boolean)) || ALPHABET;
+  return new Map(kinds.map((kind, k) => [kind, short[k]]));
 }
 
 /** @type {(days: Day[], cells: Cell[]) => number} How many weekends have a shift: days of weekends side by side are one. */
@@ -66,7 +48,23 @@ function weekendsIn(days, cells) {
   return count;
 }
 
-/** @type {(roster: Roster, plan: Plan, kept: import("./earlier.mjs").OldPlan | null) => DaySheet | null} The sheet of a plan; null where there are no groups, or too many days or kinds. */
+// What a person has on a day with these objects.
+/** @type {(roster: Roster, labels: string[], plan: Plan, kept: OldPlan | null) => (person: number, own: number[]) => Cell} */
+function cellsOf(roster, labels, plan, kept) {
+  const [costs, pairs] = [costsOf(roster), gathered(plan.pairs, ({ person }) => person)];
+  const before = kept && new Set(numbersOf(roster, kept.named).map(({ key }) => key));
+  return (person, own) => {
+    const had = own.filter((object) => before?.has(pairKey(roster, person, object)));
+    const now = (pairs.get(person) || []).filter(({ object }) => own.includes(object));
+    const entries = now.map(({ object, isFixed }) => ({
+      label: labels[object], object, isFixed: isFixed && !roster.past.has(object),
+      isNew: kept !== null && !had.includes(object) }));
+    const gone = had.filter((object) => !now.some((pair) => pair.object === object)).map((object) => labels[object]);
+    return { entries, gone, isOff: !now.length && !own.some((object) => costs.has(pairKey(roster, person, object))) };
+  };
+}
+
+/** @type {(roster: Roster, plan: Plan, kept: OldPlan | null) => DaySheet | null} The sheet of a plan; null where there are no groups, or too many days or kinds. */
 export function sheetOf(roster, plan, kept) {
   const { groups, persons, objects } = roster;
   if (!groups) return null;
@@ -77,9 +75,8 @@ export function sheetOf(roster, plan, kept) {
   const days = daysOf(roster, groups.names);
   const ofDays = gathered(order, (object) => groups.ofObjects.get(object));
   const ofPersons = gathered(plan.pairs, ({ person }) => person);
-  const known = { costs: costsOf(roster), before: kept && new Set(kept.named.map(({ person, object }) => `${person}\n${object}`)) };
-  const cells = persons.map((_, person) => days.map(({ group }) => (
-    dayCell(roster, labels, known, { person, pairs: ofPersons.get(person) || [], own: ofDays.get(group) || [] }))));
+  const cellOf = cellsOf(roster, labels, plan, kept);
+  const cells = persons.map((_, person) => days.map(({ group }) => cellOf(person, ofDays.get(group) || [])));
   const letters = lettersOf(kinds);
   const ofKinds = kinds.length > 1 && kinds.length <= 4 ? kinds : [];
   const hasWeekends = days.some(({ isWeekend }) => isWeekend);
@@ -88,7 +85,7 @@ export function sheetOf(roster, plan, kept) {
     ...hasWeekends ? [{ title: "we", meaning: said("weekends") }] : [], { title: roster.titles[2], meaning: "" }];
   const rows = persons.map((name, person) => {
     const own = cells[person].flatMap(({ entries }) => entries);
-    const cost = (ofPersons.get(person) || []).reduce((sum, pair) => sum + BigInt(pair.cost), 0n);
+    const cost = sumOf(ofPersons.get(person) || []);
     return { name, cells: cells[person], sums: [
       String(own.length), ...ofKinds.map((kind) => String(own.filter(({ label }) => label === kind).length)),
       ...hasWeekends ? [String(weekendsIn(days, cells[person]))] : [], shown(roster, cost)] };
@@ -97,25 +94,9 @@ export function sheetOf(roster, plan, kept) {
   const staff = kinds.map((kind) => ({ kind, staff: days.map(({ group }) => {
     const object = (ofDays.get(group) || []).find((one) => labels[one] === kind);
     if (object === undefined) return null;
-    return { had: used.get(object) || 0, wanted: hasBounds(roster) ? ofObject(roster, object).least : null };
+    return { had: used.get(object) || 0, wanted: hasBounds(roster) ? boundsOf(roster, 1, object).least : null };
   }) }));
   return { days, letters, persons: rows, columns, kinds: staff };
-}
-
-/**
- * @type {(
- *   roster: Roster, labels: string[], known: { costs: Map<number, number>, before: Set<string> | null },
- *   spot: { person: number, pairs: Plan["pairs"], own: number[] }
- * ) => Cell} What a person with these pairs has on a day, whose objects are its own.
- */
-function dayCell(roster, labels, { costs, before }, { person, pairs, own }) {
-  const had = (/** @type {number} */ object) => before !== null && before.has(`${roster.persons[person]}\n${roster.objects[object]}`);
-  const entries = pairs.filter((pair) => own.includes(pair.object)).map(({ object, isFixed }) => ({
-    label: labels[object], object, isFixed: isFixed && !roster.past.has(object), isNew: before !== null && !had(object),
-  }));
-  const gone = own.filter((object) => had(object) && !entries.some((entry) => entry.object === object));
-  const isOff = !entries.length && !own.some((object) => costs.has(pairKey(roster, person, object)));
-  return { entries, gone: gone.map((object) => labels[object]), isOff };
 }
 
 /** @type {(day: Day) => string[]} A day in few letters: the day of the week and of the month, where it is a date. */

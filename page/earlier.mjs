@@ -6,32 +6,20 @@ import { hintOf } from "./names.mjs";
 import { Costs, shown } from "./numbers.mjs";
 import { counted } from "./sentences.mjs";
 import { nameOf } from "./sheet.mjs";
-import { ofObject, ofPerson } from "./takes.mjs";
+import { boundsOf } from "./takes.mjs";
 import { firstOf, joined, quoted } from "./texts.mjs";
 
 const [CHANGE, GOES, NOT_POSSIBLE] = ["change", "goes", "not possible"];
+export const SIDES = /** @type {["person", "object"]} */ (["person", "object"]);
 const MOST_SHOWN = 20;
-/**
- * @typedef {import("./roster.mjs").Roster} Roster
- * @typedef {import("./library.mjs").Bounds} Bounds
- * @typedef {{ person: string, object: string, line: number, cost: string }} Named
- * @typedef {{ person: number, object: number, cost: number }} Pair
- * @typedef {{ named: Named[], known: Map<number, Pair>, gone: string[], forbidden: Set<number> }} OldPlan All its pairs by names; by their keys
- *   those that the roster allows, and those of known names that it forbids; and the names that the roster doesn't have
- * @typedef {{ roster: Roster, kept: OldPlan, fixed: Pair[], lines: string[] }} Past
- */
 
 /** @type {(roster: Roster, person: number, object: number) => number} A number for a pair. */
 export function pairKey({ objects }, person, object) {
   return person * objects.length + object;
 }
 
-/**
- * @template {{ person: string, object: string }} Own
- * @param {Roster} roster
- * @param {Own[]} pairs
- * @returns Those whose names the roster has, with their numbers and their key.
- */
+// The pairs whose names the roster has.
+/** @type {<Own extends { person: string, object: string }>(roster: Roster, pairs: Own[]) => Numbered<Own>[]} */
 export function numbersOf(roster, pairs) {
   return pairs.flatMap((pair) => {
     const [person, object] = [roster.personNumbers.get(pair.person), roster.objectNumbers.get(pair.object)];
@@ -43,15 +31,10 @@ export function numbersOf(roster, pairs) {
 
 /** @type {(roster: Roster) => Map<number, number>} The cost of each pair that is allowed, by its key. */
 export function costsOf(roster) {
-  return new Map(roster.costs.map((cost, k) => [pairKey(roster, roster.ofPersons[k], roster.ofObjects[k]), cost]));
+  return new Map(roster.pairs.map(({ person, object, cost }) => [pairKey(roster, person, object), cost]));
 }
 
-/** @type {(numbers: number[], word: string, names: string[]) => string} How many there are, and the first of their names. */
-export function named(numbers, word, names) {
-  return `${counted(numbers.length, word)} (${firstOf(numbers.map((number) => names[number]), MOST_SHOWN)})`;
-}
-
-/** @type {(sheet: import("./sheet.mjs").Sheet, roster: Roster) => Named[]} The pairs of a plan in lines, by names. */
+/** @type {(sheet: Sheet, roster: Roster) => Named[]} The pairs of a plan in lines, by names. */
 export function namedPairs(sheet, roster) {
   const { line: first, cells: title } = sheet.title();
   if (title.length < 2) refuse(first, 0, "person and object");
@@ -59,48 +42,52 @@ export function namedPairs(sheet, roster) {
   if (personNumbers.has(title[0]) && objectNumbers.has(title[1])) refuse(first, 0, "pair for a title", title[0], title[1]);
   const change = title.indexOf(CHANGE, 3);
   const hasCosts = title.length > 2 && (!groups || title[2] !== groups.title);
-  return [...sheet.body(title.length)].filter(({ cells }) => change < 0 || ![GOES, NOT_POSSIBLE].includes(cells[change])).map(({ line, cells }) => {
+  const rows = [...sheet.body(title.length)];
+  return rows.filter(({ cells }) => ![GOES, NOT_POSSIBLE].includes(cells[change])).map(({ line, cells }) => {
     const [person, object] = [nameOf(cells[0], line, 1), nameOf(cells[1], line, 2)];
     return {
-      person: persons[personNumbers.get(person) ?? -1] ?? person, object: objects[objectNumbers.get(object) ?? -1] ?? object, line,
-      cost: hasCosts ? cells[2] : "",
-    };
+      person: persons[personNumbers.get(person) ?? -1] ?? person,
+      object: objects[objectNumbers.get(object) ?? -1] ?? object, line, cost: hasCosts ? cells[2] : "" };
   });
 }
 
-/** @type {(roster: Roster, numbered: { person: number, object: number, line: number }[], item: string) => void} Refuses a name that stands more often than it may. */
-function refuseOften(roster, numbered, item) {
-  for (const [column, side] of /** @type {["person", "object"]} */ (["person", "object"]).entries()) {
-    const all = [...gathered(numbered, (pair) => pair[side])].map(([number, own]) => (
-      { number, lines: own.map(({ line }) => line), most: (column ? ofObject(roster, number) : ofPerson(roster, number)).most }));
-    const often = all.filter(({ lines, most }) => lines.length > most).sort((one, other) => one.lines[one.most] - other.lines[other.most]);
-    for (const { number, lines, most } of often) {
-      const name = quoted((column ? roster.objects : roster.persons)[number]);
-      const text = `${name} ${most === 1 ? said("a second time") : said("more times", most)}${most ? `, after ${item} ${lines[0]}` : ""}`;
-      throw new RosterFault(text, lines[most], column + 1);
-    }
+// The first item whose key stands more often than it may, after the first item of its key; none where none does.
+/** @type {<Item>(items: Item[], keyOf: (item: Item) => number, mostOf: (key: number) => number) => Item[]} */
+function firstBeyond(items, keyOf, mostOf) {
+  const all = gathered(items, keyOf);
+  const again = items.find((item) => all.get(keyOf(item))?.[mostOf(keyOf(item))] === item);
+  return again ? [...(all.get(keyOf(again)) || []).slice(0, 1), again] : [];
+}
+
+/** @type {(roster: Roster, named: Named[], item: string) => void} Refuses a pair of a plan that stands there twice. */
+function refusePairsTwice(roster, named, item) {
+  const [first, again] = firstBeyond(numbersOf(roster, named), ({ key }) => key, () => 1);
+  if (again) refuse(again.line, 0, "pair twice", first.name, item, first.line);
+}
+
+/** @type {(roster: Roster, named: Named[], item: string) => void} Refuses a name that stands more often than it may. */
+function refuseOften(roster, named, item) {
+  for (const [column, side] of SIDES.entries()) {
+    const mostOf = (/** @type {number} */ number) => boundsOf(roster, column, number).most;
+    const [first, again] = firstBeyond(numbersOf(roster, named), (pair) => pair[side], mostOf);
+    if (!again) continue;
+    const [name, most] = [[roster.persons, roster.objects][column][again[side]], mostOf(again[side])];
+    const often = most === 1 ? said("a second time") : said("more times", most);
+    const before = most ? `, after ${item} ${first.line}` : "";
+    throw new RosterFault(`${quoted(name)} ${often}${before}`, again.line, column + 1);
   }
 }
 
-/** @type {(roster: Roster, named: Named[], byCounts: boolean, item?: string) => OldPlan} An earlier plan as a roster has it now. */
-export function oldPlanOf(roster, named, byCounts, item = "line") {
-  const those = numbersOf(roster, named);
-  if (byCounts) refuseOften(roster, those, item);
-  const [twice] = [...gathered(those, ({ key }) => key).values()].filter(([, again]) => again)
-    .sort(([, one], [, other]) => one.line - other.line);
-  if (twice) refuse(twice[1].line, 0, "pair twice", twice[0].name, item, twice[0].line);
-  const costs = costsOf(roster);
-  const known = those.flatMap(({ person, object, key }) => {
-    const cost = costs.get(key);
-    return cost === undefined ? [] : [/** @type {[number, Pair]} */ ([key, { person, object, cost }])];
-  });
+/** @type {(roster: Roster, named: Named[], byCounts: boolean, item: string) => OldPlan} An earlier plan of a roster. */
+export function oldPlanOf(roster, named, byCounts, item) {
+  if (byCounts) refuseOften(roster, named, item);
+  refusePairsTwice(roster, named, item);
   const gone = named.flatMap(({ person, object }) => [
     ...roster.personNumbers.has(person) ? [] : [person], ...roster.objectNumbers.has(object) ? [] : [object]]);
-  const forbidden = those.map(({ key }) => key).filter((key) => !costs.has(key));
-  return { named, known: new Map(known), gone: [...new Set(gone)], forbidden: new Set(forbidden) };
+  return { named, gone: [...new Set(gone)] };
 }
 
-/** @type {(groups: import("./takes.mjs").Groups, name: string) => number[]} The groups before one: by date where all are dates, and else in the order of their file. */
+/** @type {(groups: Groups, name: string) => number[]} The groups before one: by date, and else in the order of their file. */
 function groupsBefore({ title, names }, name) {
   const days = datesOf([...names, name]).all;
   if (days) return [...names.keys()].filter((group) => days[group] < days[names.length]);
@@ -121,22 +108,26 @@ function costInFile(roster, { cost, line }) {
 /** @type {(roster: Roster, names: string[]) => Roster} The roster with persons that it doesn't have, who take none. */
 function withPersons(roster, names) {
   const fresh = [...new Set(names)].filter((name) => !roster.personNumbers.has(name));
-  /** @type {[string, number][]} */
-  const numbers = fresh.map((name, k) => [name, roster.persons.length + k]);
-  const gone = new Set(numbers.map(([, number]) => number));
-  const own = { ...roster, persons: [...roster.persons, ...fresh], personNumbers: new Map([...roster.personNumbers, ...numbers]), gone };
-  return { ...own, takes: takesWith(roster, new Map([...gone].map((number) => [number, { least: 0, most: 0 }])), new Map()) };
+  const persons = [...roster.persons, ...fresh];
+  const gone = new Set(fresh.map((_, k) => roster.persons.length + k));
+  const personNumbers = new Map([...roster.personNumbers, ...[...gone].map((number) => /** @type {const} */ ([persons[number], number]))]);
+  const none = [...gone].map((number) => /** @type {[number, Bounds]} */ ([number, { least: 0, most: 0 }]));
+  return withBounds({ ...roster, persons, personNumbers, gone }, [none, []]);
 }
 
-/** @type {(roster: Roster, persons: Map<number, Bounds>, objects: Map<number, Bounds>) => import("./takes.mjs").Takes} What names take, with these in place of what they took. */
-function takesWith({ takes }, persons, objects) {
-  const areSums = takes === null || takes.areSums;
-  return { persons: new Map([...takes?.persons || [], ...persons]), objects: new Map([...takes?.objects || [], ...objects]), areSums };
+/** @type {(roster: Roster, sides: [number, Bounds][][]) => Roster} The roster with these bounds of persons, and of objects, in place of those before. */
+function withBounds(roster, [persons, objects]) {
+  const { takes } = roster;
+  return { ...roster, takes: {
+    persons: new Map([...takes?.persons || [], ...persons]), objects: new Map([...takes?.objects || [], ...objects]),
+    areSums: takes === null || takes.areSums } };
 }
 
 /**
- * @type {(roster: Roster, groups: import("./takes.mjs").Groups, kept: OldPlan, name: string) => Past}
- *   The roster and the plan with a past, which is before a group. The plan's pairs there are allowed and given, at their cost in its file where the roster forbids them. Who has more of them than it takes may have so many. No least count of the past is left.
+ * The roster with a past, which is before a group. An earlier plan's pairs there are allowed and given, at their cost
+ * in its file where the roster forbids them. Who has more of them than it takes may have so many. No least count of the
+ * past is left.
+ * @type {(roster: Roster, groups: Groups, kept: OldPlan, name: string) => { roster: Roster, fixed: Pair[], lines: string[] }}
  */
 export function withPast(roster, groups, kept, name) {
   const earlier = groupsBefore(groups, name);
@@ -144,82 +135,71 @@ export function withPast(roster, groups, kept, name) {
   const ofPast = kept.named.filter(({ object }) => past.has(roster.objectNumbers.get(object) ?? -1));
   const own = withPersons(roster, ofPast.map(({ person }) => person));
   const costs = costsOf(own);
-  const pairs = ofPast.map((pair) => {
-    const [person, object] = [own.personNumbers.get(pair.person) ?? 0, own.objectNumbers.get(pair.object) ?? 0];
-    const cost = costs.get(pairKey(own, person, object));
-    return { person, object, cost: cost ?? costInFile(own, pair), isNew: cost === undefined };
-  });
-  const [had] = usesOf(pairs);
-  const passing = [...had].filter(([person, count]) => count > ofPerson(own, person).most).sort(([one], [other]) => one - other);
-  const added = pairs.filter(({ isNew }) => isNew);
-  const takes = takesWith(
-    own, new Map(passing.map(([person, most]) => [person, { ...ofPerson(own, person), most }])),
-    new Map([...past].map((object) => [object, { ...ofObject(own, object), least: 0 }])));
-  /** @type {Roster} */
-  const changed = {
-    ...own, past, ofPersons: [...own.ofPersons, ...added.map(({ person }) => person)], ofObjects: [...own.ofObjects, ...added.map(({ object }) => object)],
-    costs: [...own.costs, ...added.map(({ cost }) => cost)], isMatrix: own.isMatrix && !added.length, takes,
-  };
-  const lines = pastLines(own, groups, { earlier, name, count: pairs.length, added, passing: passing.filter(([person]) => !own.gone.has(person)) });
-  return { roster: changed, kept: { ...oldPlanOf(changed, kept.named, false), gone: kept.gone }, fixed: pairs, lines };
+  const fixed = numbersOf(own, ofPast).map(({ person, object, key }, k) => (
+    { person, object, cost: costs.get(key) ?? costInFile(own, ofPast[k]), isNew: !costs.has(key) }));
+  const passing = [...usesOf(fixed)[0]].filter(([person, count]) => count > boundsOf(own, 0, person).most)
+    .sort(([one], [other]) => one - other);
+  const added = fixed.filter(({ isNew }) => isNew);
+  const isMatrix = own.isMatrix && !added.length;
+  const changed = withBounds({ ...own, past, pairs: [...own.pairs, ...added], isMatrix }, [
+    passing.map(([person, most]) => [person, { ...boundsOf(own, 0, person), most }]),
+    [...past].map((object) => [object, { ...boundsOf(own, 1, object), least: 0 }])]);
+  refusePairsTwice(changed, kept.named, "line");
+  if (!earlier.length) return { roster: changed, fixed, lines: [said("none before", groups.title, name)] };
+  const names = firstOf(earlier.map((group) => groups.names[group]), MOST_SHOWN);
+  const which = said("before", counted(earlier.length, groups.title), name, names);
+  const stay = said(fixed.length === 1 ? "stays" : "stay", counted(fixed.length, "pair"), which);
+  return { roster: changed, fixed, lines: [stay, ...pastLines(own, added, passing)] };
 }
 
-/**
- * @type {(roster: Roster, groups: import("./takes.mjs").Groups, past: { earlier: number[], name: string, count: number, added: Pair[], passing: [number, number][] }) => string[]}
- *   What is said of the past.
- */
-function pastLines(roster, groups, { earlier, name, count, added, passing }) {
-  if (!earlier.length) return [said("none before", groups.title, name)];
-  const which = said("before", counted(earlier.length, groups.title), name, firstOf(earlier.map((group) => groups.names[group]), MOST_SHOWN));
-  const forbidden = [...new Set(added.map(({ person }) => person))].map((person) => {
-    const own = added.filter((pair) => pair.person === person).map((pair) => `${roster.objects[pair.object]}, ${shown(roster, pair.cost)}`);
+/** @type {(roster: Roster, added: Pair[], passing: [number, number][]) => string[]} What of the past is against the roster. */
+function pastLines(roster, added, passing) {
+  const forbidden = [...gathered(added, ({ person }) => person)].map(([person, pairs]) => {
+    const own = pairs.map(({ object, cost }) => `${roster.objects[object]}, ${shown(roster, cost)}`);
     return said("kept though forbidden", roster.persons[person], own.join("; "));
   });
-  const more = passing.map(([person, had]) => (
-    said("past beyond most", roster.persons[person], counted(had, roster.titles[1]), ofPerson(roster, person).most, had)));
-  return [said(count === 1 ? "stays" : "stay", counted(count, "pair"), which), ...forbidden, ...more];
+  const more = passing.filter(([person]) => !roster.gone.has(person)).map(([person, had]) => (
+    said("past beyond most", roster.persons[person], counted(had, roster.titles[1]), boundsOf(roster, 0, person).most, had)));
+  return [...forbidden, ...more];
 }
 
-/** @type {(way: "come" | "go", those: Pair[], what: string) => string[]} What comes, or goes. */
+/** @type {(way: "come" | "go", those: Spot[], what: string) => string[]} What comes, or goes. */
 function moved(way, those, what) {
   return those.length ? [said(those.length === 1 ? `${way} alone` : way, what)] : [];
 }
 
-/**
- * @type {(roster: Roster, pairs: Pair[], kept: OldPlan) => { comes: Pair[], goes: Pair[], lines: string[] }}
- *   What changes from an earlier plan: how many pairs, whose, and what can't be any more.
- */
+// What changes from an earlier plan: how many pairs, whose, and what can't be any more.
+/** @type {(roster: Roster, pairs: Spot[], kept: OldPlan) => { comes: Spot[], goes: Spot[], lines: string[] }} */
 export function changesOf(roster, pairs, kept) {
+  const costs = costsOf(roster);
   const now = new Set(pairs.map(({ person, object }) => pairKey(roster, person, object)));
   const [past] = usesOf(pairs.filter(({ object }) => roster.past.has(object)));
-  const isFull = (/** @type {number} */ person, /** @type {number} */ object) => (
-    ofPerson(roster, person).most <= (past.get(person) || 0) || ofObject(roster, object).most === 0);
-  const left = [...kept.known].filter(([key]) => !now.has(key)).map(([, pair]) => pair).sort((one, other) => one.person - other.person || one.object - other.object);
-  const goes = left.filter(({ person, object }) => !isFull(person, object));
-  const comes = pairs.filter(({ person, object }) => !kept.known.has(pairKey(roster, person, object)));
-  const names = (/** @type {Pair[]} */ those) => joined(those.map(({ object }) => roster.objects[object]));
-  const persons = [...new Set([...goes, ...comes].map(({ person }) => person))].sort(rising);
+  const isFull = (/** @type {Spot} */ { person, object }) => (
+    boundsOf(roster, 0, person).most <= (past.get(person) || 0) || boundsOf(roster, 1, object).most === 0);
+  const allowed = numbersOf(roster, kept.named).filter(({ key }) => costs.has(key));
+  const goes = allowed.filter((pair) => !now.has(pair.key) && !isFull(pair)).sort((one, other) => one.key - other.key);
+  const stays = new Set(allowed.map(({ key }) => key));
+  const comes = pairs.filter(({ person, object }) => !stays.has(pairKey(roster, person, object)));
+  const names = (/** @type {Spot[]} */ those) => joined(those.map(({ object }) => roster.objects[object]));
   const gone = comes.length ? String(goes.length) : counted(goes.length, "pair");
   const counts = [...moved("come", comes, counted(comes.length, "pair")), ...moved("go", goes, gone)];
-  const own = persons.map((number) => {
-    const [old, fresh] = [goes, comes].map((those) => those.filter(({ person }) => person === number));
+  const own = [...new Set([...goes, ...comes].map(({ person }) => person))].sort(rising).map((number) => {
+    const [old, fresh] = [goes, comes].map((/** @type {Spot[]} */ those) => those.filter(({ person }) => person === number));
     return `${roster.persons[number]}: ${[...moved("go", old, names(old)), ...moved("come", fresh, names(fresh))].join("; ")}`;
   });
-  const lost = kept.named.flatMap(({ person, object }) => {
-    const [one, other] = [roster.personNumbers.get(person), roster.objectNumbers.get(object)];
-    if (one === undefined || other === undefined) return [{ person, object, why: "gone" }];
-    const key = pairKey(roster, one, other);
-    const why = kept.gone.includes(person) ? "gone" : isFull(one, other) ? "takes none" : kept.forbidden.has(key) ? "forbidden" : "";
-    return now.has(key) || !why ? [] : [{ person, object, why }];
+  const lost = kept.named.flatMap((pair) => {
+    const [found] = numbersOf(roster, [pair]);
+    const why = !found || kept.gone.includes(pair.person) ? "gone" : isFull(found) ? "takes none" : "forbidden";
+    return found && (now.has(found.key) || why === "forbidden" && costs.has(found.key)) ? [] : [{ ...pair, why }];
   });
-  const impossible = [...gathered(lost, ({ person, why }) => `${person}\n${why}`).values()].map((own) => (
-    `${own[0].person}: ${joined(own.map(({ object }) => object))} ${NOT_POSSIBLE} now (${own[0].why})`));
+  const impossible = [...gathered(lost, ({ person, why }) => `${person}\n${why}`).values()].map((all) => (
+    `${all[0].person}: ${joined(all.map(({ object }) => object))} ${NOT_POSSIBLE} now (${all[0].why})`));
   return { comes, goes, lines: [counts.join(", ") || said("no change"), ...own, ...impossible] };
 }
 
 /** @type {(roster: Roster) => number[]} The objects in the order of groups and of the roster, then those in none. */
 export function orderOf({ objects, groups }) {
-  const held = groups ? [...groups.ofObjects.keys()].sort((one, other) => (groups.ofObjects.get(one) ?? 0) - (groups.ofObjects.get(other) ?? 0)) : [];
-  const own = new Set(held);
-  return [...held, ...[...objects.keys()].filter((object) => !own.has(object))];
+  const groupOf = (/** @type {number} */ object) => groups?.ofObjects.get(object) ?? objects.length;
+  const all = [...new Set([...groups?.ofObjects.keys() || [], ...objects.keys()])];
+  return all.sort((one, other) => groupOf(one) - groupOf(other));
 }

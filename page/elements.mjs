@@ -1,7 +1,7 @@
 // Elements of the page. All text is set as text, so that no name is read as HTML.
 
-/** @type {<Kind extends HTMLElement>(id: string, kind: new () => Kind) => Kind} The element of the page with this id, of this kind. */
-export function byId(id, kind) {
+/** @type {<Kind extends HTMLElement = HTMLElement>(id: string, kind?: new () => Kind) => Kind} The element with this id. */
+export function byId(id, kind = /** @type {any} */ (HTMLElement)) {
   const found = document.getElementById(id);
   if (!(found instanceof kind)) throw new Error(`the page has no ${id}`);
   return found;
@@ -20,6 +20,11 @@ export function button(text, work, attributes = {}) {
   const made = element("button", { type: "button", ...attributes }, text);
   made.addEventListener("click", work);
   return made;
+}
+
+/** @type {(name: string, attributes: Record<string, string>, ...content: Node[]) => HTMLElement} A part that scrolls by itself, also by keys. */
+export function region(name, attributes, ...content) {
+  return element("div", { tabindex: "0", role: "region", "aria-label": name, ...attributes }, ...content);
 }
 
 /** @type {(titles: string[], rows: string[][]) => HTMLElement} A table: titles, and a row for each line. Cells are of no language that we know. */

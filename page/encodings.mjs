@@ -1,5 +1,5 @@
 // The text of a file's bytes: by its BOM, as UTF-8, or as western text of Windows.
-import { RosterFault, said, SHARED } from "./faults.mjs";
+import { RosterFault, said } from "./faults.mjs";
 
 const SAVE = said("save");
 const WESTERN = "windows-1252";
@@ -22,15 +22,11 @@ export function beginsWith(bytes, begin) {
   return begin.every((byte, place) => bytes[place] === byte);
 }
 
-/**
- * Says which encoding a text with NUL bytes is likely in. UTF-16 has one for each letter of English; `place`: the first NUL byte.
- * @type {(bytes: Uint8Array, place: number) => void}
- */
+/** @type {(bytes: Uint8Array, place: number) => never} Refuses NUL bytes, the first at a place. UTF-16 has one for each letter of English. */
 function refuseNuls(bytes, place) {
   const sample = bytes.subarray(0, SAMPLE);
-  /** @param {number} side */
-  const count = (side) => sample.filter((byte, k) => byte === 0 && k % 2 === side).length;
-  const [least, most] = [count(0), count(1)].sort((one, other) => one - other);
+  const counts = [0, 1].map((side) => sample.filter((byte, k) => byte === 0 && k % 2 === side).length);
+  const [least, most] = counts.sort((one, other) => one - other);
   if (most >= Math.max(4, sample.length / 16, 8 * least)) {
     throw new RosterFault(`${said("UTF-16")}: ${SAVE}`);
   }
@@ -56,15 +52,11 @@ export function decoded(bytes) {
     return { text: new TextDecoder(marked?.encoding, { fatal: true }).decode(bytes), isGuess: false };
   } catch (fault) {
     if (marked) throw new RosterFault(`${said("no encoding", marked.name)}: ${SAVE}`);
-    return { text: western(bytes), isGuess: true };
   }
-}
-
-/** @type {(bytes: Uint8Array) => string} Bytes as western text of Windows; refused at the first byte that none has, or else at the first letter around a quote. */
-function western(bytes) {
+  // Refused at the first byte that no western text has, or else at the first letter around a quote.
   const text = new TextDecoder(WESTERN).decode(bytes);
   const odd = text.search(NOT_WESTERN);
   const place = odd < 0 ? text.search(QUOTE_IN_WORD) : odd;
-  if (place < 0) return text;
+  if (place < 0) return { text, isGuess: true };
   throw new RosterFault(`bytes that are no UTF-8 and no western text in Windows-1252: ${SAVE}`, lineOf(bytes, place));
 }

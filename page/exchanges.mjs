@@ -1,11 +1,8 @@
 // How plans by counts differ. In a graph of rows, columns and row groups an arrow leads from a row to a column that it could take, and
 // back where it has it; one more vertex is where rows and columns that may take more, or less, begin and end.
 
-/**
- * @typedef {import("./library.mjs").Counted} Counted
- * @typedef {number[][]} Graph The ends of the arrows from each vertex: rows come first, then columns, the one of free counts, and a vertex for
- *   each row group of a group that was given
- */
+// The ends of the arrows from each vertex: rows, columns, the one of free counts, and the row groups of groups that were given.
+/** @typedef {number[][]} Graph */
 
 /** @type {(counted: Counted, pair: number) => number} A number for the row group of a pair. */
 export function keyOf({ ofRows, ofColumns, groupOf, nGroups }, pair) {
@@ -15,14 +12,12 @@ export function keyOf({ ofRows, ofColumns, groupOf, nGroups }, pair) {
 /** @type {(counted: Counted, plan: ArrayLike<number>) => { graph: Graph, begins: number[] }} The graph of changes of a plan with no count that is free, and the vertex that has the column of each pair. */
 export function graphOf(counted, plan) {
   const { rows, columns, ofRows, ofColumns, groupOf, nGroups } = counted;
-  /** @type {Graph} */
-  const graph = Array.from({ length: rows.length + columns.length + 1 }, () => []);
+  const graph = Array.from({ length: rows.length + columns.length + 1 }, () => /** @type {number[]} */ ([]));
   const keys = ofRows.map((_, pair) => keyOf(counted, pair));
   const taken = new Set(keys.filter((_, pair) => plan[pair]));
   const add = (/** @type {number} */ begin, /** @type {number} */ end, /** @type {boolean} */ isTurned) => (
     isTurned ? graph[end].push(begin) : graph[begin].push(end));
-  /** @type {Map<number, number>} */
-  const groups = new Map();
+  const groups = /** @type {Map<number, number>} */ (new Map());
   const begins = keys.map((key, pair) => {
     const isGiven = groupOf[ofColumns[pair]] < nGroups;
     if (isGiven && !groups.has(key)) {
@@ -38,8 +33,7 @@ export function graphOf(counted, plan) {
 
 /** @type {(graph: Graph) => Graph} The arrows, each in the other direction. */
 export function turned(graph) {
-  /** @type {Graph} */
-  const back = graph.map(() => []);
+  const back = graph.map(() => /** @type {number[]} */ ([]));
   graph.forEach((ends, begin) => ends.forEach((end) => back[end].push(begin)));
   return back;
 }

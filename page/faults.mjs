@@ -1,7 +1,4 @@
-// What is wrong in a roster, and where; words and texts of faults that the command says too, with which the page is put together.
-
-/** @type {{ weekdays: string[], day_names: string, with_s: string, western: Record<string, string>, texts: Record<string, string> }} */
-export const SHARED = /** @type {any} */ (globalThis).SHARED;
+// What is wrong in a roster, and where, in texts that the command says too.
 
 /** @type {(name: string, ...values: (string | number)[]) => string} A text that both say, with values in its gaps. */
 export function said(name, ...values) {

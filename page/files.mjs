@@ -1,24 +1,18 @@
 // Files that are known by their titles: a roster, what places and persons take, groups, an earlier plan and rules.
-import { areDailyLines } from "./daily.mjs";
 import { beginsWith, decoded, ZIP } from "./encodings.mjs";
 import { isJson, RosterFault, said } from "./faults.mjs";
 import { sheetOfJson } from "./json.mjs";
 import { looksLikeNumber } from "./numbers.mjs";
+import { areDailyLines } from "./roster.mjs";
 import { Sheet } from "./sheet.mjs";
 import { calendarsIn, gridsOf } from "./workbook.mjs";
 
 // More bytes would need more memory than browsers give.
 const MOST_BYTES = 2 ** 25;
 const UNUSED = "unused";
-export const KINDS = ["roster", "places", "tasks", "groups", "plan", "calendars", "rules", UNUSED];
+const KINDS = ["roster", "places", "tasks", "groups", "plan", "calendars", "rules", UNUSED];
 const COUNT_TITLES = /^(?:(?:at )?(?:least|most)|wanted|price|min(?:imum)?|max(?:imum)?|count|number|how many)$/;
 const RULE = /^rules?$/;
-
-/**
- * @typedef {{ name: string, kind: string, source?: string | ArrayBuffer, rows?: string[][], separator?: string }} Given A file, or what was made of it
- *   in the page; its kind where somebody chose it
- * @typedef {{ name: string, kind: string, sheet: Sheet, isGuess: boolean, isChosen: boolean, place: number }} Table `place` is that of its file
- */
 
 /** @type {(given: Given[], comma: boolean, tables?: Table[]) => Promise<Table[]>} The tables of files, also of those that can't be read, of which the first is refused at the end. */
 export async function tablesOf(given, comma, tables = []) {

@@ -21,7 +21,12 @@ export function countsOf(items) {
   return new Map([...gathered(items, (item) => item)].map(([item, own]) => [item, own.length]));
 }
 
-/** @type {(pairs: { person: number, object: number }[]) => Map<number, number>[]} How many each person has, and each object. */
+/** @type {(pairs: Pair[]) => bigint} What some pairs cost. */
+export function sumOf(pairs) {
+  return pairs.reduce((sum, { cost }) => sum + BigInt(cost), 0n);
+}
+
+/** @type {(pairs: Spot[]) => Map<number, number>[]} How many each person has, and each object. */
 export function usesOf(pairs) {
   return [countsOf(pairs.map(({ person }) => person)), countsOf(pairs.map(({ object }) => object))];
 }

@@ -4,15 +4,6 @@ import { graphOf, keyOf, strongParts, turned } from "./exchanges.mjs";
 import { countsOf, gathered, rising } from "./gathered.mjs";
 import { narrowed } from "./narrowed.mjs";
 
-/**
- * Least counts that can't be met: these rows (or columns) must have `wanted`, and can have no more than `had`: as many as the columns (or
- * rows) take at most, and one for each row group in `once`.
- * @typedef {{ ofColumns: boolean, rows: number[], columns: number[], once: { row: number, group: number }[], wanted: number, had: number }} Lack
- * @typedef {import("./library.mjs").Counted} Counted
- * @typedef {import("./library.mjs").Bounds} Bounds
- * @typedef {import("./library.mjs").Library} Library
- */
-
 /** @type {(counted: Counted, ofColumns: boolean, library: Library) => Lack[]} What is short of the least counts of one side. */
 function lacksOfSide(counted, ofColumns, library) {
   const sides = [counted.rows, counted.columns];
@@ -31,10 +22,8 @@ function lacksOfSide(counted, ofColumns, library) {
   return shortParts(counted, ofColumns, (row) => reached.has(row), (column) => reached.has(rows.length + column));
 }
 
-/**
- * @type {(counted: Counted, ofColumns: boolean, isRow: (row: number) => boolean, isColumn: (column: number) => boolean) => Lack[]}
- *   The shortages of rows and columns that were reached, in connected parts: each name with what limits it, names of the other side, which have numbers from 0, and row groups, whose numbers are below.
- */
+// The shortages that were reached, in connected parts: names, and what limits each: other names, from 0, and row groups, below 0.
+/** @type {(counted: Counted, ofColumns: boolean, isRow: (row: number) => boolean, isColumn: (column: number) => boolean) => Lack[]} */
 function shortParts(counted, ofColumns, isRow, isColumn) {
   const { ofRows, ofColumns: columns } = counted;
   const keys = ofRows.map((_, pair) => -1 - keyOf(counted, pair));
@@ -65,8 +54,7 @@ function lackOf(counted, ofColumns, names, limits) {
 /** @type {(links: Map<number, Set<number>>) => number[][]} The connected parts of names, by what they are linked to, in the order of the first ones. */
 function connected(links) {
   const [names, firsts] = [[...links.keys()], new Map()];
-  /** @type {number[][]} */
-  const graph = names.map(() => []);
+  const graph = names.map(() => /** @type {number[]} */ ([]));
   [...links.values()].forEach((ends, place) => ends.forEach((end) => {
     if (!firsts.has(end)) firsts.set(end, place);
     graph[place].push(firsts.get(end));
@@ -84,15 +72,13 @@ export function lacksOf(counted, library) {
   return lacks;
 }
 
-/**
- * @type {(part: import("./narrowed.mjs").Part, lacks: Lack[]) => import("./narrowed.mjs").Part}
- *   The plans that miss as little of the least counts as can be, summed up over both sides. What is short takes no more than its least count, and all that limits it; by the shortages' numbers, 1 for what is short and -1 for what limits it, these plans pay least.
- */
+// The plans that miss as little of the least counts as can be, summed up over both sides. What is short takes no more than its least
+// count, and all that limits it; by the shortages' numbers, 1 for what is short and -1 for what limits it, these plans pay least.
+/** @type {(part: Part, lacks: Lack[]) => Part} */
 export function cutOf(part, lacks) {
-  /** @type {(bounds: Bounds[], side: boolean) => { numbers: number[], cut: Bounds[] }} */
-  const sideOf = (bounds, side) => {
-    const names = (/** @type {boolean} */ ofColumns) => new Set(lacks.filter((lack) => lack.ofColumns === ofColumns).flatMap((lack) => side ? lack.columns : lack.rows));
-    const [short, full] = [names(side), names(!side)];
+  const sideOf = (/** @type {Bounds[]} */ bounds, /** @type {boolean} */ side) => {
+    const [short, full] = [side, !side].map((one) => (
+      new Set(lacks.filter(({ ofColumns }) => ofColumns === one).flatMap((lack) => side ? lack.columns : lack.rows))));
     return {
       numbers: bounds.map((_, k) => Number(short.has(k)) - Number(full.has(k))),
       cut: bounds.map(({ least, most }, k) => ({ least: full.has(k) ? most : short.has(k) ? 0 : least, most: short.has(k) ? least : most })),

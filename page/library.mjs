@@ -13,13 +13,6 @@ const WORDS_OF_RECORD = 8;
 const GREATEST_NUMBER = 2n ** 51n;
 
 /**
- * Pairs that may be made, by rising rows, none twice, and their costs, whose sum is to be least; how many columns each row takes, and how
- * many rows each column; and the group of each column, of which a row takes one at most. All numbers are from 0. Groups that were given
- * are below `nGroups`; a column k in none is alone in the group `nGroups` + k.
- * @typedef {{ least: number, most: number }} Bounds
- * @typedef {{ rows: Bounds[], columns: Bounds[], groupOf: number[], nGroups: number, ofRows: number[], ofColumns: number[], costs: number[] }} Counted
- * @typedef {{ code: string, plan: Uint8Array, rows: bigint[], columns: bigint[] }} Answer A byte for each pair, and numbers of rows and
- *   columns that prove the plan best
  * @typedef {{ address: number, count: bigint }} Block
  * @typedef {Uint8Array | Uint32Array | BigInt64Array} List
  * @typedef {(values: List) => Block} Take
@@ -68,8 +61,7 @@ export class Library {
 
   /** @type {<Result>(work: (take: Take) => Result) => Result} Runs some work with blocks of the module's memory, which are given back after it. */
   within(work) {
-    /** @type {number[]} */
-    const blocks = [];
+    const blocks = /** @type {number[]} */ ([]);
     try {
       return work((values) => {
         const address = this.calls.malloc(values.byteLength || 16) >>> 0;
@@ -81,11 +73,6 @@ export class Library {
     } finally {
       blocks.forEach((block) => this.calls.free(block));
     }
-  }
-
-  /** @type {(block: Block) => bigint[]} Words of 64 bits that a call wrote. */
-  words(block) {
-    return Array.from(new BigInt64Array(this.memory.buffer, block.address, Number(block.count)));
   }
 
   /** @type {(block: Block) => Uint8Array} Bytes that a call wrote. */
@@ -107,19 +94,19 @@ export class Library {
         code = CODES[this.calls.nushbaret_counts_from(0, ...words, BUDGET, record.address, info.address)];
         if (code === "STOPPED") this.look(this.bytes(plan).reduce((sum, chosen) => sum + chosen, 0));
       }
-      return { code, plan: this.bytes(plan), rows: this.words(rows), columns: this.words(columns) };
+      const [ofRows, ofColumns] = [rows, columns].map(({ address, count }) => (
+        Array.from(new BigInt64Array(this.memory.buffer, address, Number(count)))));
+      return { code, plan: this.bytes(plan), rows: ofRows, columns: ofColumns };
     });
   }
 
-  /**
-   * @type {(counted: Counted, ofColumns: boolean, rows: number[], columns: number[]) => boolean}
-   *   Whether the proved checker takes a shortage: of marked columns if `ofColumns` is true, and else of marked rows.
-   */
+  // Whether the proved checker takes a shortage: of marked columns if `ofColumns` is true, and else of marked rows.
+  /** @type {(counted: Counted, ofColumns: boolean, rows: number[], columns: number[]) => boolean} */
   isShort(counted, ofColumns, rows, columns) {
-    /** @type {(count: number, own: number[]) => Uint8Array} */
-    const marked = (count, own) => own.reduce((marks, number) => marks.fill(1, number, number + 1), new Uint8Array(count));
+    const marked = (/** @type {Bounds[]} */ bounds, /** @type {number[]} */ own) => (
+      own.reduce((marks, number) => marks.fill(1, number, number + 1), new Uint8Array(bounds.length)));
     return this.within((take) => {
-      const marks = wordsOf(take(marked(counted.rows.length, rows)), take(marked(counted.columns.length, columns)));
+      const marks = wordsOf(take(marked(counted.rows, rows)), take(marked(counted.columns, columns)));
       const [lists, info] = [wordsOf(...given(counted, take)), take(new BigInt64Array(WORDS_OF_INFO))];
       const code = this.calls.nushbaret_check_shortage(0, ...lists, ofColumns ? 2 : 1, ...marks, info.address);
       return CODES[code] === (ofColumns ? "COLUMNS_LACK" : "ROWS_LACK");

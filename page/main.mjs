@@ -11,31 +11,22 @@ const EXAMPLE = "nurse,early,late,night,office\nAda,2.50,4,,1\nBen,3.25,,1.75,2\
 // Spreadsheets read CSV as UTF-8 where it begins with this mark.
 const BOM = "\ufeff";
 const PASTED = "";
-const [KEPT, KEPT_CALENDARS] = ["the kept plan", "the kept plan's calendars"];
+const WALL_HEAD = `<meta charset="utf-8"><meta http-equiv="Content-Security-Policy" content="default-src 'none'; \
+style-src 'unsafe-inline'"><meta name="viewport" content="width=device-width, initial-scale=1">`;
 
-/**
- * @typedef {import("./answers.mjs").Reply} Reply
- * @typedef {import("./answers.mjs").Found} Found
- * @typedef {import("./answers.mjs").Shown} Shown
- * @typedef {import("./files.mjs").Given} Given
- */
 
-/** @type {{ begin: number, clock: number } | null} */
-let run = null;
-/** @type {Worker | null} Answers one question after the other, until one is stopped: what it has run once runs faster. */
-let worker = null;
-/** @type {Given[]} The files, the last one that was given last. */
-let files = [];
-/** @type {Shown[]} */
-let tables = [];
-/** @type {import("./answers.mjs").Mark[]} */
-let marks = [];
-/** @type {Found | null} */
-let found = null;
+let run = /** @type {{ begin: number, clock: number } | null} */ (null);
+// Answers one question after the other, until one is stopped: what it has run once runs faster.
+let worker = /** @type {Worker | null} */ (null);
+// The last one that was given last.
+let files = /** @type {Given[]} */ ([]);
+let tables = /** @type {Shown[]} */ ([]);
+let marks = /** @type {Mark[]} */ ([]);
+let found = /** @type {Found | null} */ (null);
 
 /** @type {(id: string, text: string) => void} */
 function put(id, text) {
-  byId(id, HTMLElement).textContent = text;
+  byId(id).textContent = text;
 }
 
 /** @type {(time: number) => string} A time in milliseconds. */
@@ -45,9 +36,8 @@ function seconds(time) {
 
 /** The module, which the page holds packed, as text: compiled once for all workers. */
 async function compiledModule() {
-  const text = atob((byId("module", HTMLElement).textContent || "").trim());
-  const packed = new Blob([Uint8Array.from(text, (letter) => letter.charCodeAt(0))]);
-  const stream = packed.stream().pipeThrough(new /** @type {any} */ (globalThis).DecompressionStream("gzip"));
+  const packed = Uint8Array.from(atob(byId("module", HTMLScriptElement).text.trim()), (letter) => letter.charCodeAt(0));
+  const stream = new Blob([packed]).stream().pipeThrough(new DecompressionStream("gzip"));
   return WebAssembly.compile(await new Response(stream).arrayBuffer());
 }
 const compiled = compiledModule();
@@ -56,8 +46,7 @@ compiled.catch(() => {});
 
 /** A worker of the script that the page holds as text. */
 function newWorker() {
-  const source = byId("worker", HTMLElement).textContent || "";
-  const place = URL.createObjectURL(new Blob([source], { type: "text/javascript" }));
+  const place = URL.createObjectURL(new Blob([byId("worker", HTMLScriptElement).text], { type: "text/javascript" }));
   const made = new Worker(place);
   URL.revokeObjectURL(place);
   made.addEventListener("message", (event) => take(event.data));
@@ -83,23 +72,20 @@ function end() {
   const time = performance.now() - run.begin;
   run = null;
   put("clock", "");
-  for (const id of ["stop", "progress"]) byId(id, HTMLElement).hidden = true;
+  for (const id of ["stop", "progress"]) byId(id).hidden = true;
   return time;
 }
 
 function stop() {
   stopWorker();
   if (run) put("status", `Stopped after ${seconds(end())}.`);
-  byId("plan", HTMLElement).focus();
+  byId("plan").focus();
 }
 
-/** @type {() => import("./answers.mjs").Choices} What is chosen below the files. */
+/** @type {() => Choices} What is chosen below the files. */
 function choices() {
-  const chosen = new FormData(byId("ask", HTMLFormElement));
-  return {
-    form: String(chosen.get("form")), comma: chosen.get("mark") === "comma", max: chosen.get("sense") === "max",
-    fullest: chosen.get("fullest") !== null, past: String(chosen.get("past") || ""),
-  };
+  const { form, mark, sense, fullest, past } = Object.fromEntries(new FormData(byId("ask", HTMLFormElement)));
+  return { form: String(form), comma: mark === "comma", max: sense === "max", fullest: !!fullest, past: String(past) };
 }
 
 /** Plans the files. */
@@ -114,7 +100,7 @@ async function plan() {
   const begin = performance.now();
   const clock = window.setInterval(() => put("clock", seconds(performance.now() - begin)), 500);
   const own = run = { begin, clock };
-  for (const id of ["stop", "progress"]) byId(id, HTMLElement).hidden = false;
+  for (const id of ["stop", "progress"]) byId(id).hidden = false;
   try {
     const module = await compiled;
     if (run !== own) return;
@@ -125,9 +111,8 @@ async function plan() {
   }
 }
 
-/** @type {(fault: import("./answers.mjs").Fault | import("./answers.mjs").Failure) => string} Where a fault is: its file where there are several, line and column. */
+/** @type {(fault: Fault) => string} Where a fault is: its file where there are several, line and column. */
 function placeOf(fault) {
-  if (fault.kind === "failure") return "";
   const [file, line] = [files.length > 1 ? fault.file : "", fault.line ? `${itemOf(fault.file)} ${fault.line}` : ""];
   const parts = [file, line, line && fault.column ? `column ${fault.column}` : ""].filter(Boolean);
   return parts.length ? `${parts.join(", ").replace(/^[lp]/, (letter) => file ? letter : letter.toUpperCase())}: ` : "";
@@ -142,7 +127,7 @@ function take(reply) {
   const time = seconds(end());
   if (reply.kind !== "failure") {
     tables = reply.tables;
-    showTables(tables, ON_TABLES);
+    showTables(tables, change);
   }
   if (reply.kind === "found") {
     found = reply;
@@ -150,42 +135,32 @@ function take(reply) {
     showPast(reply);
     showMarks();
     put("status", `${reply.read}. Planned in ${time}.`);
-    byId("result-title", HTMLElement).focus();
+    byId("result-title").focus();
   } else {
     put("status", "");
-    put("fault", placeOf(reply) + reply.text);
+    put("fault", (reply.kind === "fault" ? placeOf(reply) : "") + reply.text);
   }
-  document.documentElement.dataset.done = String(Number(document.documentElement.dataset.done || "0") + 1);
+  const { dataset } = document.documentElement;
+  dataset.done = String(Number(dataset.done || "0") + 1);
 }
 
-/** @type {(table: Shown, changed: (own: Given) => Given[]) => void} Changes a table; those of its file become files of their own. */
+/** @type {import("./tables.mjs").Change} Those of its file become files of their own. */
 function change(table, changed) {
   const { place } = table;
   const own = tables.filter((other) => other.place === place);
+  if (changed?.rows) table.rows = changed.rows;
   const given = own.map(({ name, kind, rows, separator }) => (
     own.length === 1 && !rows ? files[place] : { name, kind, rows: rows || [], separator }));
-  files.splice(place, 1, ...given.flatMap((one, k) => own[k] === table ? changed(one) : [one]));
+  files.splice(place, 1, ...given.flatMap((one, k) => own[k] !== table ? [one] : changed ? [{ ...one, ...changed }] : []));
   tables.filter((other) => other.place > place).forEach((other) => { other.place += own.length - 1; });
   own.forEach((other, k) => { other.place += k; });
-}
-
-/** @type {(table: Shown, changed: (own: Given) => Given[]) => void} */
-function changeAndPlan(table, changed) {
-  change(table, changed);
+  if (changed?.rows) {
+    put("status", "Cells have changed: plan again.");
+    return;
+  }
   if (table.name === PASTED) byId("text", HTMLTextAreaElement).value = "";
   plan();
 }
-
-/** @type {import("./tables.mjs").Works} New cells are taken when the plan is asked for again. */
-const ON_TABLES = {
-  onKind: (table, kind) => changeAndPlan(table, (own) => [{ ...own, kind }]),
-  onRemove: (table) => changeAndPlan(table, () => []),
-  onRows: (table, rows) => {
-    table.rows = rows;
-    change(table, (own) => [own]);
-    put("status", "Cells have changed: plan again.");
-  },
-};
 
 /** @type {(chosen: File[]) => Promise<void>} Takes files, each in place of one of its name, and plans. */
 async function takeFiles(chosen) {
@@ -212,7 +187,7 @@ function takeText(text) {
 /** @type {(event: DragEvent) => void} */
 function drop(event) {
   event.preventDefault();
-  byId("drop", HTMLElement).classList.remove("over");
+  byId("drop").classList.remove("over");
   const data = event.dataTransfer;
   if (data?.files.length) takeFiles([...data.files]);
   else if (data) {
@@ -231,65 +206,63 @@ function rosterName() {
 function showPast({ roster }) {
   const room = byId("past", HTMLSelectElement);
   const [had, names] = [room.value, ["", ...roster.groups ? roster.groups.names : []]];
-  room.replaceChildren(...names.map((name) => element("option", { value: name }, name || "nothing is past")));
+  room.replaceChildren(...names.map((name) => new Option(name || "nothing is past", name)));
   room.value = names.includes(had) ? had : "";
-  byId("past-room", HTMLElement).hidden = names.length < 2 || !tables.some(({ kind }) => kind === "plan");
+  byId("past-room").hidden = names.length < 2 || !tables.some(({ kind }) => kind === "plan");
 }
 
 /** The pairs that were chosen, each with a button that takes the choice back. */
 function showMarks() {
-  byId("marks", HTMLElement).replaceChildren(...marks.map((mark) => {
+  byId("marks").replaceChildren(...marks.map((mark) => {
     const text = `${mark.isFixed ? "given" : "not"}: ${mark.person}, ${mark.object}`;
     return button(`${text} \u00d7`, () => decide([mark], null), { "aria-label": `Take back ${text}` });
   }));
 }
 
-/** @type {(those: import("./answers.mjs").Mark[], mark: import("./answers.mjs").Mark | null) => void} Takes choices back, makes one, and plans again. */
+/** @type {(those: Mark[], mark: Mark | null) => void} Takes choices back, makes one, and plans again. */
 function decide(those, mark) {
-  const isSame = (/** @type {import("./answers.mjs").Mark} */ one) => those.some(({ person, object }) => person === one.person && object === one.object);
-  marks = [...marks.filter((one) => !isSame(one)), ...mark ? [mark] : []];
+  const isThere = (/** @type {Mark} */ own) => those.some(({ person, object }) => person === own.person && object === own.object);
+  marks = [...marks.filter((own) => !isThere(own)), ...mark ? [mark] : []];
   plan();
 }
 
-/** @type {(row: number, column: number) => void} Asks what a person is to have on a day: each of its objects may be given, or forbidden. */
+/** @type {(row: number, column: number) => void} Asks what a person is to have on a day, and what not. */
 function choose(row, column) {
-  if (!found || !found.sheet || found.sheet.days[column].isPast) return;
+  if (!found?.sheet || found.sheet.days[column].isPast) return;
   const { roster, sheet } = found;
-  const [person, day] = [roster.persons[row], sheet.days[column]];
-  const costs = costsOf(roster);
+  const [person, day, costs] = [roster.persons[row], sheet.days[column], costsOf(roster)];
   const isOpen = (/** @type {number} */ object) => costs.has(pairKey(roster, row, object))
     || marks.some((mark) => mark.person === person && mark.object === roster.objects[object]);
-  const own = [...roster.groups?.ofObjects || []].filter(([object, group]) => group === day.group && isOpen(object)).map(([object]) => roster.objects[object]);
+  const own = [...roster.groups?.ofObjects || []].filter(([object, group]) => group === day.group && isOpen(object));
+  const all = own.map(([object]) => ({ person, object: roster.objects[object], isFixed: true }));
   const room = byId("choice", HTMLDialogElement);
-  const all = own.map((object) => ({ person, object, isFixed: true }));
   const act = (/** @type {string} */ text, /** @type {() => void} */ work) => button(text, () => {
     room.close();
     work();
   });
   const buttons = all.flatMap((mark) => [
-    act(`Give ${mark.object}`, () => decide(all, mark)), act(`Not ${mark.object}`, () => decide([mark], { ...mark, isFixed: false }))]);
+    act(`Give ${mark.object}`, () => decide(all, mark)),
+    act(`Not ${mark.object}`, () => decide([mark], { ...mark, isFixed: false }))]);
   room.replaceChildren(
-    element("h2", {}, element("span", { lang: "" }, `${person}, ${day.name}`)), element("p", { class: "pairs" }, ...own.length ? buttons : ["Nothing is possible here."]),
+    element("h2", {}, element("span", { lang: "" }, `${person}, ${day.name}`)),
+    element("p", { class: "pairs" }, ...all.length ? buttons : ["Nothing is possible here."]),
     element("p", {}, act("As the plan chooses", () => decide(all, null)), " ", act("Leave it", () => {})));
   room.showModal();
 }
 
-/** The plan is from now on the earlier one, from which as little changes as can be, and so are its calendars. */
-function keep() {
-  if (!found) return;
-  const calendars = calendarsNow().files.map(({ name, bytes }) => [name, new TextDecoder().decode(bytes)]);
+/** @type {(found: Found) => void} The plan is from now on the earlier one, and so are its calendars. */
+function keep(found) {
+  const { rows, roster: { separator } } = found;
+  const calendars = calendarsOf(found, byId("version").innerText).files.map(({ name, text }) => [name, text]);
   const old = new Set(tables.filter(({ kind }) => ["plan", "calendars"].includes(kind)).map(({ place }) => place));
-  const others = files.filter((_, place) => !old.has(place));
-  const { separator } = found.roster;
-  files = [...others, { name: KEPT, kind: "plan", rows: found.rows, separator }];
-  if (calendars.length) files.push({ name: KEPT_CALENDARS, kind: "calendars", rows: calendars, separator });
+  files = [...files.filter((_, place) => !old.has(place)), { name: "the kept plan", kind: "plan", rows, separator }];
+  if (calendars.length) files.push({ name: "the kept plan's calendars", kind: "calendars", rows: calendars, separator });
   plan();
 }
 
-function copy() {
-  const { rows } = /** @type {Found} */ (found);
-  /** @param {ClipboardEvent} event */
-  const fill = (event) => {
+/** @type {(found: Found) => void} */
+function copy({ rows }) {
+  const fill = (/** @type {ClipboardEvent} */ event) => {
     event.clipboardData?.setData("text/plain", csvOf(rows, "\t"));
     event.preventDefault();
   };
@@ -299,63 +272,64 @@ function copy() {
   put("status", isDone ? "The plan is copied; paste it into a spreadsheet." : "The browser refused to copy: mark the table and copy it.");
 }
 
-/** @type {(blob: Blob, name: string) => void} */
-function saveAs(blob, name) {
+/** @type {(end: string, blob: Blob) => void} Saves a file whose name is the roster's and an end. */
+function saveAs(end, blob) {
   const place = URL.createObjectURL(blob);
-  element("a", { href: place, download: name }).click();
+  element("a", { href: place, download: rosterName() + end }).click();
   setTimeout(() => URL.revokeObjectURL(place), 60000);
 }
 
-function save() {
-  const { rows, roster } = /** @type {Found} */ (found);
-  saveAs(new Blob([BOM + csvOf(rows, roster.separator)], { type: "text/csv" }), `${rosterName()}-plan.csv`);
+/** @type {(found: Found) => void} */
+function save({ rows, roster }) {
+  saveAs("-plan.csv", new Blob([BOM + csvOf(rows, roster.separator)], { type: "text/csv" }));
 }
 
-/** A page of the plan alone, without costs and scripts, for the wall. */
-function saveWall() {
-  const { sheet, lists, roster, rows } = /** @type {Found} */ (found);
+/** @type {(found: Found) => void} A page of the plan alone, without costs and scripts, for the wall. */
+function saveWall({ sheet, lists, roster, rows }) {
   const [titles, ...pairs] = rows.map((cells) => cells.slice(0, 2));
-  const content = sheet ? [element("div", { class: "sheet" }, sheetTable(sheet, roster.titles[0], true), legendOf(sheet, true)),
+  // The last column has costs.
+  const own = sheet && { ...sheet, columns: sheet.columns.slice(0, -1) };
+  const content = own ? [element("div", { class: "sheet" }, sheetTable(own, roster.titles[0]), legendOf(own)),
     element("h2", {}, `By ${roster.titles[1]}`), listOf(lists.objects)] : [table(titles, pairs)];
-  const style = element("style", {}, document.querySelector("style")?.textContent || "");
-  const policy = element("meta", { "http-equiv": "Content-Security-Policy", content: "default-src 'none'; style-src 'unsafe-inline'" });
-  const page = element("html", { lang: "en" }, element("head", {}, element("meta", { charset: "utf-8" }), policy,
-    element("meta", { name: "viewport", content: "width=device-width, initial-scale=1" }), element("title", {}, rosterName()), style),
-  element("body", {}, element("h1", { lang: "" }, rosterName()), ...content));
-  saveAs(new Blob([`<!DOCTYPE html>\n${page.outerHTML}\n`], { type: "text/html" }), `${rosterName()}-wall.html`);
+  const parts = [
+    element("title", {}, rosterName()), document.querySelector("style"),
+    element("body", {}, element("h1", { lang: "" }, rosterName()), ...content)].map((part) => part?.outerHTML);
+  const text = `<!DOCTYPE html>\n<html lang="en"><head>${WALL_HEAD}${parts[0]}${parts[1]}</head>${parts[2]}</html>\n`;
+  saveAs("-wall.html", new Blob([text], { type: "text/html" }));
 }
 
-function calendarsNow() {
-  return calendarsOf(/** @type {Found} */ (found), byId("version", HTMLElement).textContent || "");
-}
-
-function saveCalendars() {
-  const { files: calendars, why } = calendarsNow();
-  if (calendars.length) saveAs(zipOf(calendars), `${rosterName()}-calendars.zip`);
+/** @type {(found: Found) => void} */
+function saveCalendars(found) {
+  const { files: calendars, why } = calendarsOf(found, byId("version").innerText);
+  if (calendars.length) saveAs("-calendars.zip", zipOf(calendars));
   else put("status", `No calendars: ${why}.`);
 }
 
+function clear() {
+  [files, tables, marks] = [[], [], []];
+  takeText("");
+  byId("file", HTMLInputElement).value = "";
+  showTables([], change);
+  showMarks();
+  plan();
+  put("fault", "");
+}
+
+function example() {
+  clear();
+  takeText(EXAMPLE);
+  plan();
+}
+
 function begin() {
-  byId("ask", HTMLFormElement).addEventListener("submit", (event) => {
+  byId("ask").addEventListener("submit", (event) => {
     event.preventDefault();
     plan();
   });
-  const clear = () => {
-    [files, tables, marks] = [[], [], []];
-    takeText("");
-    byId("file", HTMLInputElement).value = "";
-    showTables([], ON_TABLES);
-    showMarks();
-    plan();
-    put("fault", "");
-  };
-  const example = () => {
-    clear();
-    takeText(EXAMPLE);
-    plan();
-  };
-  const works = { stop, copy, save, wall: saveWall, calendars: saveCalendars, keep, print: () => window.print(), clear, example };
-  for (const [id, work] of Object.entries(works)) byId(id, HTMLElement).addEventListener("click", work);
+  const works = { stop, clear, example, print: () => window.print() };
+  for (const [id, work] of Object.entries(works)) byId(id).addEventListener("click", work);
+  const worksOnPlan = { copy, save, wall: saveWall, calendars: saveCalendars, keep };
+  for (const [id, work] of Object.entries(worksOnPlan)) byId(id).addEventListener("click", () => found && work(found));
   const text = byId("text", HTMLTextAreaElement);
   text.addEventListener("input", () => takeText(text.value));
   text.addEventListener("paste", () => setTimeout(plan));
@@ -363,12 +337,12 @@ function begin() {
   // So that a file that was chosen before counts as a change.
   input.addEventListener("click", () => { input.value = ""; });
   input.addEventListener("change", () => { if (input.files?.length) takeFiles([...input.files]); });
-  for (const id of ["past", "fullest"]) byId(id, HTMLElement).addEventListener("change", plan);
+  for (const id of ["past", "fullest"]) byId(id).addEventListener("change", plan);
   document.addEventListener("dragover", (event) => {
     event.preventDefault();
-    byId("drop", HTMLElement).classList.add("over");
+    byId("drop").classList.add("over");
   });
-  document.addEventListener("dragleave", () => byId("drop", HTMLElement).classList.remove("over"));
+  document.addEventListener("dragleave", () => byId("drop").classList.remove("over"));
   document.addEventListener("drop", drop);
 }
 

@@ -17,15 +17,9 @@ const MOST_HEADING_HEIGHT = 120;
 // So many rows are drawn before the page answers again.
 const ROWS_AT_ONCE = 100;
 
-/**
- * @typedef {import("./answers.mjs").Found} Found
- * @typedef {{ found: Found, costs: Map<number, number>, least: number, greatest: number, who: Set<number>, what: Set<number>, chosen: Set<number> }} Drawing
- */
-
 /** @type {(widths: number[], room: number) => number[][]} Columns one after the other, in parts of at most so much room. */
 function filled(widths, room) {
-  /** @type {number[][]} */
-  const parts = [];
+  const parts = /** @type {number[][]} */ ([]);
   let width = Infinity;
   widths.forEach((own, column) => {
     if (width + own > room) {
@@ -38,11 +32,17 @@ function filled(widths, room) {
   return parts;
 }
 
-/** @type {(drawing: Drawing) => number[][]} As many columns at a time as fit on a sheet next to the names of persons, in parts of about one width. */
-function partsOf({ found: { roster }, least, greatest }) {
+/** @type {(roster: Roster) => number[]} The least cost and the greatest. */
+function rangeOf({ pairs }) {
+  const costs = pairs.map(({ cost }) => cost);
+  return [Math.min, Math.max].map((of) => costs.reduce((one, other) => of(one, other), costs[0] ?? 0));
+}
+
+/** @type {(roster: Roster) => number[][]} As many columns at a time as fit on a sheet next to the names of persons, in parts of about one width. */
+function partsOf(roster) {
   const names = roster.persons.reduce((most, name) => Math.max(most, name.length), 0);
   const room = SHEET_WIDTH - MARGIN - Math.min(LETTER * names, MOST_NAME_WIDTH);
-  const cost = MARGIN + LETTER * Math.max(shown(roster, least).length, shown(roster, greatest).length);
+  const cost = MARGIN + LETTER * Math.max(...rangeOf(roster).map((own) => shown(roster, own).length));
   const widths = roster.objects.map((name) => Math.max(cost, LINE * Math.ceil(LETTER * name.length / MOST_HEADING_HEIGHT) + 4));
   const parts = filled(widths, room);
   const sum = widths.reduce((one, other) => one + other, 0);
@@ -50,22 +50,17 @@ function partsOf({ found: { roster }, least, greatest }) {
   return even.length === parts.length ? even : parts;
 }
 
-/** @type {(found: Found) => Drawing} */
-function drawingOf(found) {
-  const { roster, short } = found;
-  const least = roster.costs.reduce((one, other) => Math.min(one, other), roster.costs[0] ?? 0);
-  const greatest = roster.costs.reduce((one, other) => Math.max(one, other), roster.costs[0] ?? 0);
-  const chosen = new Set((found.plan?.pairs || []).map(({ person, object }) => pairKey(roster, person, object)));
-  return { found, costs: costsOf(roster), least, greatest, who: new Set(short.persons), what: new Set(short.objects), chosen };
-}
-
-/** @type {(drawing: Drawing, person: number, object: number) => HTMLElement} */
-function cell(drawing, person, object) {
-  const { found: { roster }, costs, least, greatest, chosen } = drawing;
-  const cost = costs.get(pairKey(roster, person, object));
-  if (cost === undefined) return element("td", { class: "none" });
-  const level = Math.floor((cost - least) * SHADES / (greatest - least + 1));
-  return element("td", { class: chosen.has(pairKey(roster, person, object)) ? `s${level} own` : `s${level}` }, shown(roster, cost));
+/** @type {(found: Found) => (person: number, object: number) => HTMLElement} The cell of a person and an object. */
+function costCells({ roster, plan }) {
+  const [costs, [least, greatest]] = [costsOf(roster), rangeOf(roster)];
+  const chosen = new Set(plan?.pairs.map(({ person, object }) => pairKey(roster, person, object)));
+  return (person, object) => {
+    const key = pairKey(roster, person, object);
+    const cost = costs.get(key);
+    if (cost === undefined) return element("td", { class: "none" });
+    const level = Math.floor((cost - least) * SHADES / (greatest - least + 1));
+    return element("td", { class: chosen.has(key) ? `s${level} own` : `s${level}` }, shown(roster, cost));
+  };
 }
 
 /** @type {(scope: "row" | "col", content: string | Node, isShort: boolean) => HTMLElement} */
@@ -73,35 +68,32 @@ function heading(scope, content, isShort) {
   return element("th", isShort ? { scope, class: "short" } : { scope }, content);
 }
 
-/** @type {(drawing: Drawing, part: number[], name: string) => HTMLElement} The headings of a part, below a line that names it on paper, if there are several. */
-function headOf(drawing, part, name) {
-  const { objects } = drawing.found.roster;
-  const titles = part.map((object) => heading("col", element("span", {}, objects[object]), drawing.what.has(object)));
+/** @type {(found: Found, part: number[], name: string) => HTMLElement} The headings of a part, below a line that names it on paper, if there are several. */
+function headOf({ roster: { objects }, short }, part, name) {
+  const isShort = new Set(short.objects);
+  const titles = part.map((object) => heading("col", element("span", {}, objects[object]), isShort.has(object)));
   const own = element("tr", {}, element("th", {}), ...titles);
   if (name === "") return element("thead", {}, own);
   const title = element("tr", { class: "part" }, element("th", { colspan: String(part.length + 1), lang: "en" }, name));
   return element("thead", {}, title, own);
 }
 
-/**
- * Draws the matrix of an answer, some rows at a time, so that the page answers meanwhile. It stops where `isWanted` says so.
- * @type {(found: Found, room: HTMLElement, isWanted: () => boolean) => Promise<void>}
- */
-export async function drawMatrix(found, room, isWanted) {
-  const drawing = drawingOf(found);
-  const { objects, persons } = found.roster;
-  const parts = partsOf(drawing);
+// Draws the matrix, some rows at a time, so that the page answers meanwhile. It stops where the room is no more on the page.
+/** @type {(found: Found, room: HTMLElement) => Promise<void>} */
+export async function drawMatrix(found, room) {
+  const { roster: { objects, persons }, short } = found;
+  const [parts, cellOf] = [partsOf(found.roster), costCells(found)];
   // All is laid out once, at the end.
   const tables = [];
   for (const [place, part] of parts.entries()) {
     const name = `${objects[part[0]]} to ${objects[part[part.length - 1]]} (part ${place + 1} of ${parts.length})`;
     const body = element("tbody", {});
-    for (let person = 0; person < persons.length && isWanted(); person++) {
+    for (let person = 0; person < persons.length && room.isConnected; person++) {
       if (person % ROWS_AT_ONCE === 0) await new Promise((done) => setTimeout(done));
-      const cells = part.map((object) => cell(drawing, person, object));
-      body.append(element("tr", {}, heading("row", persons[person], drawing.who.has(person)), ...cells));
+      const cells = part.map((object) => cellOf(person, object));
+      body.append(element("tr", {}, heading("row", persons[person], short.persons.includes(person)), ...cells));
     }
-    tables.push(element("table", {}, headOf(drawing, part, parts.length > 1 ? name : ""), body));
+    tables.push(element("table", {}, headOf(found, part, parts.length > 1 ? name : ""), body));
   }
-  if (isWanted()) room.append(...tables);
+  room.append(...tables);
 }

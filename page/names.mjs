@@ -8,13 +8,12 @@ import { bare, quoted } from "./texts.mjs";
 
 /** The names of one side, numbered from 0 as they come. */
 export class Names {
+  list = /** @type {string[]} */ ([]);
+  numbers = /** @type {Map<string, number>} */ (new Map());
+
   /** @param {string} kind */
   constructor(kind) {
     this.kind = kind;
-    /** @type {string[]} */
-    this.list = [];
-    /** @type {Map<string, number>} */
-    this.numbers = new Map();
   }
 
   /** @type {(cell: string, line: number, column: number) => number} The number of a name, a new one where it is new. */
@@ -48,32 +47,30 @@ export class Names {
 
 /** The pairs of a roster and their costs, as they are read. */
 export class Pairs {
-  /** @param {import("./numbers.mjs").Costs} costs */
+  persons = new Names("persons");
+  objects = new Names("objects");
+  list = /** @type {Spot[]} */ ([]);
+  lines = /** @type {Map<number, number>} */ (new Map());
+
+  /** @param {Costs} costs */
   constructor(costs) {
     this.costs = costs;
-    this.persons = new Names("persons");
-    this.objects = new Names("objects");
-    /** @type {number[]} */
-    this.ofPersons = [];
-    /** @type {number[]} */
-    this.ofObjects = [];
-    /** @type {Map<number, number>} */
-    this.lines = new Map();
   }
 
   /** @type {(person: number, object: number, cell: string, line: number, column: number) => void} */
   take(person, object, cell, line, column) {
     this.costs.take(cell, line, column);
-    this.ofPersons.push(person);
-    this.ofObjects.push(object);
+    this.list.push({ person, object });
   }
 
-  /** @type {(person: number, object: number, names: string[], line: number) => void} Refuses a pair that a line before has. */
-  refuseTwice(person, object, names, line) {
+  // Takes a pair that no line before has.
+  /** @type {(person: number, object: number, names: string[], cell: string, line: number, column: number) => void} */
+  takeOnce(person, object, names, cell, line, column) {
     const key = person * MOST_PERSONS + object;
     const before = this.lines.get(key);
     if (before !== undefined) refuse(line, 0, "pair twice", names.join(", "), "line", before);
     this.lines.set(key, line);
+    this.take(person, object, cell, line, column);
   }
 
   /** @type {(cells: string[], objects: number[], line: number) => void} Takes a row of a matrix: a person, and its costs. */

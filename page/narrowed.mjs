@@ -3,19 +3,12 @@ import { keyOf } from "./exchanges.mjs";
 import { countsOf } from "./gathered.mjs";
 import { exact } from "./library.mjs";
 
-/**
- * @typedef {import("./library.mjs").Counted} Counted
- * @typedef {import("./library.mjs").Bounds} Bounds
- * @typedef {{ counted: Counted, places: number[], taken: number[] }} Part A problem whose plans, with the pairs that are taken, are plans of a
- *   greater one; `places` are the greater one's of its pairs
- */
-
 /** @type {(bounds: Bounds, count?: number) => Bounds} What a count leaves next to what is taken. */
 export function less({ least, most }, count = 0) {
   return { least: Math.max(0, least - count), most: most - count };
 }
 
-/** @type {(part: Part, answer: import("./library.mjs").Answer) => Part} The part of all best plans, by the numbers that prove one best: a count is the one that its number stands for. */
+/** @type {(part: Part, answer: Answer) => Part} The part of all best plans, by the numbers that prove one best: a count is the one that its number stands for. */
 export function faceOf(part, answer) {
   const { ofRows, ofColumns, costs } = part.counted;
   const [rows, columns] = [exact(answer.rows), exact(answer.columns)];
@@ -25,15 +18,15 @@ export function faceOf(part, answer) {
   return narrowed(part, spare, fixed(part.counted.rows, rows), fixed(part.counted.columns, columns));
 }
 
-/**
- * @type {(part: Part, spare: number[], rowBounds: Bounds[], columnBounds: Bounds[]) => Part}
- *   The part of the plans that keep the bounds, and of which no pair costs more than it must. Let `spare` be e = cost - row's number - column's number. A plan is in this part if in each row group it pays min(0, the least e): it takes exactly one where that is below 0, and only pairs whose e is that. A row that must take one of some groups is two rows here: one takes exactly one of each of these, the other what is left.
- */
-export function narrowed({ counted, places, taken }, spare, rowBounds, columnBounds) {
+// The part of the plans that keep the bounds, and of which no pair costs more than it must. Let `spare` be e = cost - row's number -
+// column's number. A plan is in this part if in each row group it pays min(0, the least e): it takes exactly one where that is below 0,
+// and only pairs whose e is that. A row that must take one of some groups is two rows here: one takes exactly one of each of these, the
+// other what is left.
+/** @type {(part: Part, spare: number[], rowBounds: Bounds[], columnBounds: Bounds[]) => Part} */
+export function narrowed({ counted, pairs, taken }, spare, rowBounds, columnBounds) {
   const { ofRows, ofColumns, groupOf, nGroups, costs } = counted;
   const keys = ofRows.map((_, pair) => keyOf(counted, pair));
-  /** @type {Map<number, number>} */
-  const least = new Map();
+  const least = /** @type {Map<number, number>} */ (new Map());
   keys.forEach((key, k) => { if (spare[k] < (least.get(key) || 0)) least.set(key, spare[k]); });
   const left = [...keys.keys()].filter((k) => spare[k] <= (least.get(keys[k]) || 0));
   const counts = countsOf(left.map((k) => keys[k]));
@@ -53,5 +46,5 @@ export function narrowed({ counted, places, taken }, spare, rowBounds, columnBou
     groupOf: [...columns].map(([column, number]) => groupOf[column] < nGroups ? groupOf[column] : nGroups + number),
     ofRows: open.map((k) => rows.get(rowOf(k)) ?? 0), ofColumns: open.map((k) => columns.get(ofColumns[k]) ?? 0), costs: open.map((k) => costs[k]),
   };
-  return { counted: part, places: open.map((k) => places[k]), taken: [...taken, ...alone.map((k) => places[k])] };
+  return { counted: part, pairs: open.map((k) => pairs[k]), taken: [...taken, ...alone.map((k) => pairs[k])] };
 }

@@ -19,17 +19,17 @@ export function shown({ decimals, comma }, units) {
 
 /** Costs as they are read, with as many places as they have until it is known how many are used. */
 export class Costs {
+  // In millionths.
+  costs = /** @type {bigint[]} */ ([]);
+  places = 0;
+  greatest = { size: 0n, line: 0, column: 0 };
+
   /** @param {boolean} comma Whether costs are written with a decimal comma */
   constructor(comma) {
     this.comma = comma;
     const point = comma ? "," : "\\.";
     // Sign, whole part, decimal places and a power of ten; at least one digit.
     this.number = new RegExp(`^([+-]?)(?=${point}?[0-9])([0-9]*)(?:${point}([0-9]*))?(?:[eE]([+-]?[0-9]{1,2}))?$`);
-    // In millionths.
-    /** @type {bigint[]} */
-    this.costs = [];
-    this.places = 0;
-    this.greatest = { size: 0n, line: 0, column: 0 };
   }
 
   /** @type {(cell: string, line: number, column: number) => void} Takes a cell, or refuses it. */

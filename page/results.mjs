@@ -1,32 +1,17 @@
 // The answer on the page: the cost, the plan as one sheet and as lists, who is left over or short, and the matrix.
 import { shortDay } from "./days.mjs";
-import { button, byId, element, table } from "./elements.mjs";
+import { button, byId, element, region, table } from "./elements.mjs";
 import { said } from "./faults.mjs";
 import { drawMatrix, MOST_AT_ONCE, MOST_CELLS } from "./matrix.mjs";
 
 // So many kinds have a colour of their own. What is printed: the height of a sheet for rows, and of a row at most.
 const [COLOURS, HEIGHT, ROW] = [6, 600, 17];
-/**
- * @typedef {import("./answers.mjs").Found} Found
- * @typedef {import("./days.mjs").DaySheet} DaySheet
- * @typedef {import("./days.mjs").Cell} Cell
- */
-
-/** Which answer is on the page: drawing stops where it is another. */
-let current = 0;
 
 /** Takes the answer off the page. */
 export function clearResult() {
-  current++;
-  byId("result", HTMLElement).hidden = true;
-  byId("answer", HTMLElement).replaceChildren();
-  byId("matrix", HTMLElement).replaceChildren();
-  delete byId("matrix", HTMLElement).dataset.drawn;
-}
-
-/** @type {(name: string, inner: HTMLElement) => HTMLElement} A part that scrolls by itself, also by keys. */
-function scrolling(name, inner) {
-  return element("div", { class: "scroll", tabindex: "0", role: "region", "aria-label": name }, inner);
+  byId("result").hidden = true;
+  for (const id of ["answer", "matrix"]) byId(id).replaceChildren();
+  delete byId("matrix").dataset.drawn;
 }
 
 /** @type {(title: string, content: HTMLElement, isOpen: boolean) => HTMLElement} A line that unfolds. */
@@ -34,7 +19,7 @@ function unfolding(title, content, isOpen) {
   return element("details", isOpen ? { open: "" } : {}, element("summary", {}, title), content);
 }
 
-/** @type {(left: import("./plan.mjs").Left) => HTMLElement[]} Who and what is left over: a line that unfolds; on paper, where nothing can, the names. */
+/** @type {(left: Left) => HTMLElement[]} Who and what is left over: a line that unfolds; on paper, where nothing can, the names. */
 function leftOver({ how, count, names }) {
   const title = `${how}: ${count}`;
   return [unfolding(title, element("p", { lang: "" }, names), true), element("p", { class: "paper" }, `${title}: ${names}`)];
@@ -45,7 +30,7 @@ function coloursOf({ letters }) {
   return new Map([...letters.keys()].map((kind, k) => [kind, k < COLOURS ? `k${k}` : ""]));
 }
 
-/** @type {(sheet: DaySheet, cell: Cell, day: import("./days.mjs").Day, colours: Map<string, string>) => HTMLElement} */
+/** @type {(sheet: DaySheet, cell: Cell, day: Day, colours: Map<string, string>) => HTMLElement} */
 function cellElement({ letters }, { entries, gone, isOff }, day, colours) {
   const isChanged = gone.length > 0 || entries.some(({ isNew }) => isNew);
   const marks = [
@@ -59,44 +44,42 @@ function cellElement({ letters }, { entries, gone, isOff }, day, colours) {
   return made;
 }
 
-/** @type {(sheet: DaySheet, title: string, isPlanOnly: boolean) => HTMLElement} Nurses by days, what each has in all, and each day's staff. */
-export function sheetTable(sheet, title, isPlanOnly) {
+/** @type {(sheet: DaySheet, title: string) => HTMLElement} Nurses by days, what each has in all, and each day's staff. */
+export function sheetTable(sheet, title) {
   const colours = coloursOf(sheet);
-  const columns = isPlanOnly ? sheet.columns.slice(0, -1) : sheet.columns;
   const head = element("tr", {}, element("th", { scope: "col" }, title), ...sheet.days.map((day) => {
     const [first, second] = shortDay(day);
     const inner = second ? element("abbr", { title: day.name }, element("span", { lang: "en" }, first), element("br", {}), second) : element("span", { class: "up" }, first);
     return element("th", { scope: "col", class: day.isWeekend ? "weekend" : "" }, inner);
-  }), ...columns.map((column) => element("th", { scope: "col", class: "sum" }, column.title)));
+  }), ...sheet.columns.map((column) => element("th", { scope: "col", class: "sum" }, column.title)));
   const rows = sheet.persons.map(({ name, cells, sums }) => element(
     "tr", {}, element("th", { scope: "row" }, name), ...cells.map((cell, k) => cellElement(sheet, cell, sheet.days[k], colours)),
-    ...columns.map((_, k) => element("td", { class: "sum" }, sums[k]))));
+    ...sheet.columns.map((_, k) => element("td", { class: "sum" }, sums[k]))));
   const staff = sheet.kinds.map(({ kind, staff: own }, place) => element(
     "tr", place ? {} : { class: "first" }, element("th", { scope: "row" }, kind), ...own.map((cell, k) => {
       const isShort = cell && cell.wanted !== null && cell.had < cell.wanted;
       const marks = [cell ? "staff" : "", sheet.days[k].isWeekend ? "weekend" : "", isShort ? "short" : ""].filter(Boolean).join(" ");
       return element("td", { class: marks }, cell ? `${cell.had}${cell.wanted === null ? "" : `/${cell.wanted}`}` : "");
-    }), element("td", { class: "rest", colspan: String(columns.length) })));
+    }), element("td", { class: "rest", colspan: String(sheet.columns.length) })));
   const made = element("table", { class: "month", lang: "" }, element("thead", {}, head), element("tbody", {}, ...rows, ...staff));
   made.style.setProperty("--days", String(sheet.days.length));
   made.style.setProperty("--row", `${Math.min(ROW, HEIGHT / (rows.length + staff.length + 2)).toFixed(1)}px`);
   return made;
 }
 
-/** @type {(sheet: DaySheet, isPlanOnly: boolean) => HTMLElement} What letters and marks mean. */
-export function legendOf(sheet, isPlanOnly) {
+/** @type {(sheet: DaySheet) => HTMLElement} What letters and marks mean. */
+export function legendOf(sheet) {
   const colours = coloursOf(sheet);
   const cells = sheet.persons.flatMap((person) => person.cells);
   const kinds = [...sheet.letters].flatMap(([kind, letter]) => [element("span", { class: `key ${colours.get(kind)}`, lang: "" }, letter), ` ${kind} \u00b7 `]);
-  const columns = isPlanOnly ? sheet.columns.slice(0, -1) : sheet.columns;
-  const notes = columns.filter(({ meaning }) => meaning && !sheet.letters.has(meaning)).map(({ title, meaning }) => `${title}: ${meaning}`);
-  /** @type {[string, boolean][]} */
+  const notes = sheet.columns.filter(({ meaning }) => meaning && !sheet.letters.has(meaning)).map(({ title, meaning }) => `${title}: ${meaning}`);
   const marks = [
-    ["shaded: weekend", sheet.days.some(({ isWeekend }) => isWeekend)], [said("hatched"), cells.some(({ isOff }) => isOff)],
-    [said("framed"), cells.some(({ entries, gone }) => gone.length > 0 || entries.some(({ isNew }) => isNew))],
-    ["underlined: given", cells.some(({ entries }) => entries.some(({ isFixed }) => isFixed))],
-    [said("3/4"), sheet.kinds.some(({ staff }) => staff.some((own) => own !== null && own.wanted !== null))]];
-  return element("p", { class: "legend" }, ...kinds, [...notes, ...marks.filter(([, isThere]) => isThere).map(([text]) => text)].join(" \u00b7 "));
+    sheet.days.some(({ isWeekend }) => isWeekend) && "shaded: weekend",
+    cells.some(({ isOff }) => isOff) && said("hatched"),
+    cells.some(({ entries, gone }) => gone.length || entries.some(({ isNew }) => isNew)) && said("framed"),
+    cells.some(({ entries }) => entries.some(({ isFixed }) => isFixed)) && "underlined: given",
+    sheet.kinds.some(({ staff }) => staff.some((own) => own && own.wanted !== null)) && said("3/4")];
+  return element("p", { class: "legend" }, ...kinds, [...notes, ...marks.filter(Boolean)].join(" \u00b7 "));
 }
 
 /** @type {(texts: string[]) => HTMLElement} */
@@ -134,47 +117,45 @@ function withCells(made, sheet, onCell) {
 /** @type {(found: Found, name: string, onCell: (person: number, day: number) => void) => void} Puts an answer on the page; the roster's name is for paper. */
 export function showResult(found, name, onCell) {
   clearResult();
-  byId("name", HTMLElement).textContent = name;
+  byId("name").textContent = name;
   const { sheet, lists, plan } = found;
-  const [answer, cost] = [byId("answer", HTMLElement), found.lines.length - 1];
-  byId("result-title", HTMLElement).textContent = plan ? found.lines[cost] : "There is no plan for all";
+  const [answer, cost] = [byId("answer"), found.lines.length - 1];
+  byId("result-title").textContent = plan ? found.lines[cost] : "There is no plan for all";
   answer.append(...found.lines.slice(0, plan ? cost : cost + 1).map((line) => element("p", { class: "short" }, line)));
   const [person, object] = found.roster.titles;
   if (plan && sheet) {
-    const grid = withCells(sheetTable(sheet, person, false), sheet, onCell);
-    answer.append(element("div", { class: "sheet" }, scrolling("The plan", grid), legendOf(sheet, false)), ...found.left.flatMap(leftOver));
+    const grid = withCells(sheetTable(sheet, person), sheet, onCell);
+    answer.append(element("div", { class: "sheet" }, region("The plan", { class: "scroll" }, grid), legendOf(sheet)));
   } else if (plan) {
-    answer.append(scrolling("The plan", table(found.rows[0], found.rows.slice(1))), ...found.left.flatMap(leftOver));
+    answer.append(region("The plan", { class: "scroll" }, table(found.rows[0], found.rows.slice(1))));
   }
+  answer.append(...found.left.flatMap(leftOver));
   answer.append(...found.notes.map((note) => element("p", { class: "note" }, note)));
   if (sheet) answer.append(unfolding(`By ${object}`, listOf(lists.objects), false), unfolding(`By ${person}`, listOf(lists.persons), false));
-  for (const id of ["copy", "save", "wall", "calendars", "keep"]) byId(id, HTMLElement).hidden = !plan;
-  byId("calendars", HTMLElement).hidden = !sheet || sheet.days[0].when === null;
-  byId("result", HTMLElement).hidden = false;
+  for (const id of ["copy", "save", "wall", "calendars", "keep"]) byId(id).hidden = !plan;
+  byId("calendars").hidden = !sheet || sheet.days[0].when === null;
+  byId("result").hidden = false;
   // On paper the sheet of days stands alone.
-  byId("matrix", HTMLElement).classList.toggle("screen", sheet !== null);
+  byId("matrix").classList.toggle("screen", sheet !== null);
   showMatrix(found);
 }
 
 /** @type {(found: Found) => void} Draws the matrix, a great one on request alone. */
 function showMatrix(found) {
   const count = found.roster.persons.length * found.roster.objects.length;
-  const room = byId("matrix", HTMLElement);
+  const room = byId("matrix");
+  const draw = async () => {
+    const inner = region("The costs of all pairs", { class: "matrix", lang: "" });
+    const key = found.rows.length ? "; the plan's are outlined" : "; who is short is marked";
+    room.replaceChildren(inner, element("p", {}, `Stronger colours cost more, hatched cells are forbidden${key}.`));
+    await drawMatrix(found, inner);
+    if (inner.isConnected) room.dataset.drawn = "yes";
+  };
   if (count > MOST_CELLS) {
     room.append(element("p", { class: "screen" }, `The matrix has more than ${MOST_CELLS} cells and isn't drawn.`));
   } else if (count > MOST_AT_ONCE) {
-    room.append(button(`Draw the matrix of ${count} cells`, () => drawInto(found, room), { class: "screen" }));
+    room.append(button(`Draw the matrix of ${count} cells`, draw, { class: "screen" }));
   } else {
-    drawInto(found, room);
+    draw();
   }
-}
-
-/** @type {(found: Found, room: HTMLElement) => Promise<void>} */
-async function drawInto(found, room) {
-  const own = current;
-  const inner = element("div", { class: "matrix", lang: "", tabindex: "0", role: "region", "aria-label": "The costs of all pairs" });
-  const key = found.rows.length ? "; the plan's are outlined" : "; who is short is marked";
-  room.replaceChildren(inner, element("p", {}, `Stronger colours cost more, hatched cells are forbidden${key}.`));
-  await drawMatrix(found, inner, () => own === current);
-  if (own === current) room.dataset.drawn = "yes";
 }

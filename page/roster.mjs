@@ -1,43 +1,23 @@
-// Rosters: persons, objects and costs by name, in lines of pairs or as a matrix. They are read as the command reads them.
-import { areDailyLines, headsOf, readDailyLines, readDailyMatrix } from "./daily.mjs";
+// Rosters: persons, objects and costs by name, in lines of pairs or as a matrix, read as the command reads them. By days
+// they are lines of a person, a day, a shift and a cost, and matrices with two title rows, the days over their shifts:
+// objects are then called by shift and day, which are their kind and their group.
+import { datesOf } from "./dates.mjs";
 import { refuse, RosterFault, said } from "./faults.mjs";
-import { Pairs } from "./names.mjs";
+import { Names, Pairs } from "./names.mjs";
 import { Costs, looksLikeNumber } from "./numbers.mjs";
 import { nameOf } from "./sheet.mjs";
+import { groupsOf } from "./takes.mjs";
 import { quoted } from "./texts.mjs";
 
 const TITLES = ["person", "object", "cost"];
-
+const COLUMNS = 4;
 /**
- * A problem by names. Pair k is of `persons[ofPersons[k]]` and `objects[ofObjects[k]]`, no pair twice; `costs[k]` is in units of
- * 10^-decimals. `titles` are the words for a person, an object and a cost.
- * @typedef {object} Roster
- * @property {string[]} titles
- * @property {string[]} persons
- * @property {string[]} objects
- * @property {number[]} ofPersons
- * @property {number[]} ofObjects
- * @property {number[]} costs
- * @property {number} decimals
- * @property {string} separator
- * @property {boolean} comma
- * @property {boolean} isMatrix
- * @property {Map<string, number>} personNumbers
- * @property {Map<string, number>} objectNumbers
- * @property {import("./takes.mjs").Takes | null} takes How many names take; where there is none each takes one at most, and the fewer ones one
- * @property {import("./takes.mjs").Groups | null} groups
- * @property {Set<number>} past Objects of which nothing is planned
- * @property {Set<number>} gone Persons of the past alone
+ * @typedef {{ titles: string[], pairs: Pairs, groups?: Groups | null }} Read
+ * @typedef {{ line: number, corner: string, days: string[], shifts: string[] }} Heads
+ * @typedef {(day: string, shift: string, line: number, columns: number[]) => number} NumberOf The number of an object
  */
 
-/**
- * What the reader says of a roster: `form` is 'lines', 'matrix' or '', which takes the form from the text.
- * @typedef {{ form: string, comma: boolean }} Reading
- * @typedef {import("./sheet.mjs").Sheet} Sheet
- * @typedef {{ titles: string[], pairs: Pairs, groups?: import("./takes.mjs").Groups | null }} Read
- */
-
-/** @type {(sheet: Sheet, reading: Reading) => Roster} The roster that a sheet holds. */
+/** @type {(sheet: Sheet, choices: Choices) => Roster} The roster that a sheet holds; its form is taken from the text where it is ''. */
 export function rosterOf(sheet, { form, comma }) {
   const costs = new Costs(comma);
   const isDaily = form !== "matrix" && areDailyLines(sheet);
@@ -45,11 +25,12 @@ export function rosterOf(sheet, { form, comma }) {
   const heads = isMatrix ? headsOf(sheet) : null;
   const read = isDaily ? readDailyLines : isMatrix ? readMatrix : form ? readLines : readSureLines;
   const { titles, pairs, groups = null } = heads ? readDailyMatrix(sheet, costs, heads) : read(sheet, costs);
-  const { persons, objects, ofPersons, ofObjects } = pairs;
+  const { persons, objects } = pairs;
   const { decimals, units } = costs.scaled();
   return {
-    titles, persons: persons.list, objects: objects.list, personNumbers: persons.numbers, objectNumbers: objects.numbers, ofPersons, ofObjects,
-    costs: units, decimals, separator: sheet.separator, comma, isMatrix, takes: null, groups, past: new Set(), gone: new Set(),
+    titles, persons: persons.list, objects: objects.list, decimals, separator: sheet.separator, comma, isMatrix, groups,
+    personNumbers: persons.numbers, objectNumbers: objects.numbers, takes: null, past: new Set(), gone: new Set(),
+    pairs: pairs.list.map((pair, k) => ({ ...pair, cost: units[k] })),
   };
 }
 
@@ -59,10 +40,8 @@ function mayBeLines(sheet) {
   return cells.length === 3 && cells[0] !== "";
 }
 
-/**
- * Whether three columns are lines: the second has words alone, or numbers alone and a person stands twice.
- * @type {(persons: (string | number)[], objects: string[]) => boolean}
- */
+// Whether three columns are lines: the second has words alone, or numbers alone and a person stands twice.
+/** @type {(persons: (string | number)[], objects: string[]) => boolean} */
 function areLines(persons, objects) {
   const numbers = objects.some((cell) => cell === "" || looksLikeNumber(cell));
   const words = objects.some((cell) => cell !== "" && !looksLikeNumber(cell));
@@ -79,16 +58,14 @@ function refuseUnsure(sheet) {
 
 /** @type {(sheet: Sheet, costs: Costs) => Read} Reads lines, unless they might be a matrix as well: that is refused before any other fault. */
 function readSureLines(sheet, costs) {
-  /** @type {Read} */
-  let read;
   try {
-    read = readLines(sheet, costs);
+    const read = readLines(sheet, costs);
+    if (!areLines(read.pairs.list.map(({ person }) => person), read.pairs.objects.list)) refuseUnsure(sheet);
+    return read;
   } catch (fault) {
     refuseUnsure(sheet);
     throw fault;
   }
-  if (!areLines(read.pairs.ofPersons, read.pairs.objects.list)) refuseUnsure(sheet);
-  return read;
 }
 
 /** @type {(sheet: Sheet, costs: Costs) => Read} */
@@ -103,10 +80,9 @@ function readLines(sheet, costs) {
   const pairs = new Pairs(costs);
   for (const { line, cells } of sheet.body(3)) {
     const [person, object] = [pairs.persons.number(cells[0], line, 1), pairs.objects.number(cells[1], line, 2)];
-    pairs.refuseTwice(person, object, cells.slice(0, 2), line);
-    pairs.take(person, object, cells[2], line, 3);
+    pairs.takeOnce(person, object, cells.slice(0, 2), cells[2], line, 3);
   }
-  if (!pairs.ofPersons.length) refuse(first, 0, "no line");
+  if (!pairs.list.length) refuse(first, 0, "no line");
   return { titles, pairs };
 }
 
@@ -120,4 +96,83 @@ function readMatrix(sheet, costs) {
   for (const { line, cells } of sheet.body(title.length)) pairs.takeRow(cells, objects, line);
   if (!pairs.persons.list.length) refuse(first, 0, "no line");
   return { titles: [title[0] === "" ? TITLES[0] : nameOf(title[0], first, 1), TITLES[1], TITLES[2]], pairs };
+}
+
+/** @type {(cells: string[]) => boolean} */
+function areDates(cells) {
+  return datesOf([...new Set(cells)]).all !== null;
+}
+
+/** @type {(title: string, names: Names) => { groups: Groups, numberOf: NumberOf }} Objects by day and shift, as they come. */
+function objectsBy(title, names) {
+  const days = new Names("days");
+  const groups = groupsOf(days, title);
+  return { groups, numberOf: (day, shift, line, columns) => {
+    const [group, kind] = [days.number(day, line, columns[0]), nameOf(shift, line, columns[1])];
+    const number = names.number(`${kind} ${groups.names[group]}`, line, columns[1]);
+    groups.ofObjects.set(number, group);
+    groups.kinds.set(number, kind);
+    return number;
+  } };
+}
+
+/** @type {(sheet: Sheet) => boolean} Whether a sheet has lines of a person, a day, a shift and a cost. */
+export function areDailyLines(sheet) {
+  const { cells: title } = sheet.title();
+  if (title.length !== COLUMNS || !title.slice(0, 3).every(Boolean)) return false;
+  const rows = [...sheet.records()].map(({ cells }) => cells);
+  if (!rows.length || rows.some((cells) => cells.length < COLUMNS || !cells[1] || !cells[2])) return false;
+  const columns = [1, 2].map((column) => rows.map((cells) => cells[column]));
+  const numbers = columns.map((cells) => cells.some(looksLikeNumber));
+  const areFit = !numbers.every(Boolean) && columns.every((cells, k) => !numbers[k] || areDates(cells));
+  return areFit && rows.some((cells) => looksLikeNumber(cells[3]));
+}
+
+/** @type {(sheet: Sheet, costs: Costs) => Read} Reads lines; the day stands third where dates stand there alone. */
+function readDailyLines(sheet, costs) {
+  const { cells: title } = sheet.title();
+  const rows = [...sheet.body(COLUMNS)];
+  const [seconds, thirds] = [1, 2].map((column) => areDates(rows.map(({ cells }) => cells[column])));
+  const day = thirds && !seconds ? 2 : 1;
+  const titles = title.map((cell, place) => nameOf(cell, 1, place + 1));
+  const pairs = new Pairs(costs);
+  const { groups, numberOf } = objectsBy(titles[day], pairs.objects);
+  for (const { line, cells } of rows) {
+    const person = pairs.persons.number(cells[0], line, 1);
+    const object = numberOf(cells[day], cells[3 - day], line, [day + 1, 4 - day]);
+    pairs.takeOnce(person, object, [cells[0], pairs.objects.list[object]], cells[3], line, 4);
+  }
+  return { titles: [titles[0], titles[3 - day], titles[3]], pairs, groups };
+}
+
+/** @type {(sheet: Sheet) => Heads | null} The two title rows of a matrix; null where it has none. */
+function headsOf(sheet) {
+  if (sheet.rows.length < 2) return null;
+  const { line, cells: below } = sheet.rows[1];
+  let width = below.length;
+  while (width && !below[width - 1]) width--;
+  const above = Array.from({ length: width }, (_, k) => sheet.rows[0].cells[k] || "");
+  const shifts = below.slice(1, width);
+  const hasWide = above.slice(2).some((cell, k) => !cell || cell === above[k + 1]);
+  if (!shifts.length || !hasWide || !above[1] || !shifts.every(Boolean) || shifts.some(looksLikeNumber)) return null;
+  const days = /** @type {string[]} */ ([]);
+  above.slice(1).forEach((cell) => days.push(cell || days[days.length - 1]));
+  return { line, corner: below[0] || above[0], days, shifts };
+}
+
+/** @type {(sheet: Sheet, costs: Costs, heads: Heads) => Read} Reads a matrix with two title rows. */
+function readDailyMatrix(sheet, costs, heads) {
+  const pairs = new Pairs(costs);
+  const { groups, numberOf } = objectsBy("day", pairs.objects);
+  const columns = heads.shifts.map((shift, k) => {
+    const number = numberOf(heads.days[k], shift, heads.line, [k + 2, k + 2]);
+    if (number < k) refuse(heads.line, k + 2, "shift twice", quoted(shift), quoted(heads.days[k]));
+    return number;
+  });
+  for (const { line, cells } of [...sheet.records()].slice(1)) {
+    if (cells.slice(columns.length + 1).some(Boolean)) refuse(line, 0, "cells of two titles", cells.length, columns.length + 1);
+    pairs.takeRow(cells, columns, line);
+  }
+  if (!pairs.persons.list.length) refuse(heads.line, 0, "no line after two");
+  return { titles: [heads.corner ? nameOf(heads.corner, heads.line, 1) : "person", "shift", "cost"], pairs, groups };
 }

@@ -1,4 +1,4 @@
-// The cells of CSV and of pasted cells, and what is wrong in them; and a plan as CSV, a roster of lines that is read again. Lines and columns are counted from 1.
+// The cells of CSV and of pasted cells, and what is wrong in them; and a plan as CSV, a roster of lines that is read again.
 import { refuse, RosterFault, said } from "./faults.mjs";
 import { CONTROL, guarded, isPrintable, LINE_BREAKS, quoted, stripped, unguarded } from "./texts.mjs";
 
@@ -7,21 +7,18 @@ const MOST_LETTERS = 131072;
 // A person, and its costs for as many objects as the command takes.
 const MOST_IN_RECORD = 4194305;
 
-/**
- * @typedef {{ line: number, cells: string[] }} Row
- * @typedef {{ cells: string[], end: number, fault: string }} Record A record, where the text after it begins, and what is wrong in it
- */
+/** @typedef {{ line: number, cells: string[] }} Row */
 
 /** @type {(first: string) => string} What stands most between the cells of a first line; a comma where nothing does. */
 function separatorOf(first) {
   const outside = first.replace(/"[^"]*"/g, "");
-  /** @param {string} mark */
-  const count = (mark) => outside.split(mark).length;
+  const count = (/** @type {string} */ mark) => outside.split(mark).length;
   const most = [...SEPARATORS].reduce((best, mark) => count(mark) > count(best) ? mark : best);
   return outside.includes(most) ? most : ",";
 }
 
-/** @type {(text: string, begin: number, separator: string, cellAt: RegExp) => Record} The record that begins at a place of a text. The end of its line isn't read. */
+// The record that begins at a place of a text, where the text after it begins, and what is wrong in it.
+/** @type {(text: string, begin: number, separator: string, cellAt: RegExp) => { cells: string[], end: number, fault: string }} */
 function recordAt(text, begin, separator, cellAt) {
   const cells = [];
   cellAt.lastIndex = begin;
@@ -45,6 +42,11 @@ function isLong(text) {
 
 /** The records of a text that aren't empty, with `;`, TAB or `,` between cells, the one that its first line has most of. */
 export class Sheet {
+  rows = /** @type {Row[]} */ ([]);
+  fault = /** @type {RosterFault | null} */ (null);
+  // Lines that are one merged cell of a workbook.
+  merged = /** @type {Set<number>} */ (new Set());
+
   /** @param {string} text */
   constructor(text) {
     const first = text.replace(/^[\r\n]+/, "").split(/[\r\n]/, 1)[0];
@@ -52,12 +54,6 @@ export class Sheet {
     this.hasHint = /^"?sep=.?"?$/i.test(first);
     const hinted = first.replace(/^"+|"+$/g, "").slice(4);
     this.separator = this.hasHint && hinted !== "" && SEPARATORS.includes(hinted) ? hinted : separatorOf(first);
-    /** @type {Row[]} */
-    this.rows = [];
-    /** @type {RosterFault | null} */
-    this.fault = null;
-    // Lines that are one merged cell of a workbook.
-    this.merged = new Set();
     this.read(text);
   }
 
@@ -65,7 +61,7 @@ export class Sheet {
   static ofRows(rows, separator, first = 1) {
     const sheet = new Sheet("");
     sheet.separator = separator;
-    rows.forEach((cells, row) => sheet.add(row + first, cells.map((cell) => unguarded(stripped(cell)))));
+    rows.forEach((cells, row) => sheet.add(row + first, cells));
     return sheet;
   }
 
@@ -77,15 +73,16 @@ export class Sheet {
     while (at < text.length && this.fault === null) {
       const record = recordAt(text, at, this.separator, cellAt);
       if (record.fault) this.fault = new RosterFault(record.fault, line);
-      else this.add(line, record.cells.map((cell) => unguarded(stripped(cell))));
+      else this.add(line, record.cells);
       const end = text.startsWith("\r\n", record.end) ? record.end + 2 : record.end + 1;
       line += text.slice(at, record.end).includes('"') ? (text.slice(at, end).match(/\r\n?|\n/g) || []).length : 1;
       at = end;
     }
   }
 
-  /** @type {(line: number, cells: string[]) => void} */
-  add(line, cells) {
+  /** @type {(line: number, written: string[]) => void} */
+  add(line, written) {
+    const cells = written.map((cell) => unguarded(stripped(cell)));
     const isHint = this.hasHint && line === 1;
     if (cells.some((cell) => cell !== "") && !isHint) this.rows.push({ line, cells });
   }
@@ -118,10 +115,8 @@ export class Sheet {
   }
 }
 
-/**
- * A cell as a name, with a blank for each line break; letters with accents are one name however they are written.
- * @type {(cell: string, line: number, column: number) => string}
- */
+// A cell as a name, with a blank for each line break; letters with accents are one name however they are written.
+/** @type {(cell: string, line: number, column: number) => string} */
 export function nameOf(cell, line, column) {
   const name = isPrintable(cell) ? cell : cell.replace(LINE_BREAKS, " ");
   if (name === "") refuse(line, column, "no name");
@@ -130,10 +125,8 @@ export function nameOf(cell, line, column) {
   return name.normalize("NFC");
 }
 
-/**
- * Rows as CSV, whose cells no spreadsheet runs. Readers take the separator from the title line, so no other may seem to be there.
- * @type {(rows: string[][], separator: string) => string}
- */
+// Rows as CSV, whose cells no spreadsheet runs. Readers take the separator from the title line, so no other may seem to be there.
+/** @type {(rows: string[][], separator: string) => string} */
 export function csvOf(rows, separator) {
   const isUnsure = rows[0].some((title) => [...SEPARATORS].some((mark) => title.includes(mark)));
   const cellOf = (/** @type {string} */ cell, /** @type {number} */ line) => (

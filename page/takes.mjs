@@ -3,35 +3,20 @@ import { refuse, RosterFault, said } from "./faults.mjs";
 import { MOST_PERSONS } from "./library.mjs";
 import { hintOf, Names } from "./names.mjs";
 import { looksLikeNumber } from "./numbers.mjs";
+import { named } from "./sentences.mjs";
 import { nameOf } from "./sheet.mjs";
 import { isPrintable, quoted } from "./texts.mjs";
 
 const [DAY, FROM, TO, KIND] = [24 * 60, "from", "to", "kind"];
 const PRICED = ["wanted", "price"];
-/**
- * @typedef {import("./library.mjs").Bounds} Bounds
- * @typedef {import("./roster.mjs").Roster} Roster
- * @typedef {import("./sheet.mjs").Sheet} Sheet
- * @typedef {{ bounds: Map<number, Bounds>, areRanges: boolean, title: string }} Counts How many names take, and whether any line has two numbers
- * @typedef {{ begin: number, end: number }} Times Minutes after midnight
- * @typedef {{ persons: Map<number, Bounds>, objects: Map<number, Bounds>, areSums: boolean }} Takes What isn't named takes at most one; an
- *   object exactly one, unless `areSums`: then the side whose sum is smaller takes all
- * @typedef {object} Groups Groups of objects of which nobody takes two
- * @property {string} title
- * @property {string[]} names
- * @property {Map<number, number>} ofObjects The group of each object that is in one
- * @property {Map<number, Times>} times
- * @property {Map<number, string>} kinds
- * @property {string} of What the objects are titled in their file
- */
+/** @typedef {{ bounds: Map<number, Bounds>, areRanges: boolean, title: string }} Counts Whether any line has two numbers */
 
-/** @type {(roster: Roster, cell: string, line: number, column: number, isPerson: boolean) => number} The number of a person or an object that the roster must have. */
-export function known(roster, cell, line, column, isPerson) {
-  const name = nameOf(cell, line, column);
-  const numbers = isPerson ? roster.personNumbers : roster.objectNumbers;
+/** @type {(numbers: Map<string, number>, word: string, cell: string, line: number) => number} The number of a name that the roster must have. */
+function known(numbers, word, cell, line) {
+  const name = nameOf(cell, line, 1);
   const found = numbers.get(name);
   if (found !== undefined) return found;
-  throw new RosterFault(said("unknown", isPerson ? "person" : "object", quoted(name)) + hintOf(name, numbers.keys()), line, column);
+  throw new RosterFault(said("unknown", word, quoted(name)) + hintOf(name, numbers.keys()), line, 1);
 }
 
 /** @type {(cell: string, line: number, column: number) => number} */
@@ -74,44 +59,37 @@ export function readCounts(sheet, roster, ofObjects) {
   if (ofObjects && title.slice(1).some((cell) => PRICED.includes(cell.toLowerCase()))) refuse(0, 0, "wanted");
   const limit = (ofObjects ? roster.persons : roster.objects).length;
   const team = ofObjects ? title.length : firstTeam(sheet, title.length);
-  const kinds = new Set(ofObjects ? roster.groups?.kinds.values() : []);
-  /** @type {Map<number, Bounds>} */
-  const bounds = new Map();
-  /** @type {Map<string, Bounds>} */
-  const ofKinds = new Map();
+  const [numbers, word] = ofObjects ? [roster.objectNumbers, "object"] : [roster.personNumbers, "person"];
+  const kinds = new Map(ofObjects ? roster.groups?.kinds : []);
+  const isKind = new Set(kinds.values());
+  /** @type {Map<any, Bounds>} By the numbers of names, and by kinds. */
+  const all = new Map();
   let areRanges = false;
-  for (const { line, cells: all } of sheet.records()) {
-    const cells = countCells(all, title.length, team, line);
-    const isKind = kinds.has(cells[0]) && !roster.objectNumbers.has(cells[0]) && !ofKinds.has(cells[0]);
-    const number = isKind ? -1 : known(roster, cells[0], line, 1, !ofObjects);
-    if (bounds.has(number)) refuse(line, 1, "name twice", quoted(cells[0]));
-    const own = boundsIn(cells.slice(1), limit, line);
-    if (isKind) ofKinds.set(cells[0], own);
-    else bounds.set(number, own);
+  for (const { line, cells: whole } of sheet.records()) {
+    const cells = countCells(whole, title.length, team, line);
+    const [name] = cells;
+    const key = isKind.has(name) && !numbers.has(name) && !all.has(name) ? name : known(numbers, word, name, line);
+    if (all.has(key)) refuse(line, 1, "name twice", quoted(name));
+    all.set(key, boundsIn(cells.slice(1), limit, line));
     areRanges = areRanges || cells.length === 3;
   }
-  roster.groups?.kinds.forEach((kind, number) => {
-    const own = ofKinds.get(kind);
-    if (own && !bounds.has(number)) bounds.set(number, own);
-  });
+  kinds.forEach((kind, number) => all.set(number, all.get(number) || /** @type {Bounds} */ (all.get(kind))));
+  const bounds = new Map([...all].filter(([key, own]) => typeof key === "number" && own));
   return { bounds, areRanges, title: title[0] };
 }
 
-/** @type {(title: string[], word: string) => number[]} The columns after the first two that are titled so. */
-function columnsOf(title, word) {
-  return [...title.keys()].filter((place) => place > 1 && title[place].toLowerCase() === word);
-}
-
-/** @type {(title: string[], line: number) => number[]} Which columns have times, none where no title says so. */
-function columnsOfTimes(title, line) {
-  const places = [FROM, TO].map((word) => columnsOf(title, word));
-  if (!places.flat().length) return [];
+/** @type {(title: string[], line: number) => { times: number[], kind: number | undefined }} The columns of times, and of kinds. */
+function columnsIn(title, line) {
+  const [from, to, kinds] = [FROM, TO, KIND].map((word) => (
+    [...title.keys()].filter((place) => place > 1 && title[place].toLowerCase() === word)));
+  const times = [...from, ...to];
   [[FROM, TO], [TO, FROM]].forEach(([word, other], k) => {
-    const count = places[k].length;
-    if (count > 1) refuse(line, 0, "times", count, quoted(word), quoted(other));
-    if (!count) refuse(line, 0, "one time", quoted(other), quoted(word));
+    const { length } = [from, to][k];
+    if (length > 1) refuse(line, 0, "times", length, quoted(word), quoted(other));
+    if (!length && times.length) refuse(line, 0, "one time", quoted(other), quoted(word));
   });
-  return places.flat();
+  if (kinds.length > 1) refuse(line, kinds[1] + 1, "kinds", kinds.length, quoted(KIND));
+  return { times, kind: kinds[0] };
 }
 
 /** @type {(cell: string, line: number, column: number, most: number) => number} A time of day in minutes, at most so many. */
@@ -132,16 +110,13 @@ export function readGroups(sheet, roster) {
   const { line: first, cells: title } = sheet.title();
   if (title.length < 2) refuse(first, 0, "object and group");
   if (roster.objectNumbers.has(title[0])) refuse(first, 1, "object for a title", quoted(title[0]));
-  const times = columnsOfTimes(title, first);
-  const kinds = columnsOf(title, KIND);
-  if (kinds.length > 1) refuse(first, kinds[1] + 1, "kinds", kinds.length, quoted(KIND));
+  const { times, kind: place } = columnsIn(title, first);
   const days = new Names("groups");
   const groups = groupsOf(days, title[1] && nameOf(title[1], first, 2), title[0]);
-  /** @type {Map<number, number>} */
-  const lines = new Map();
+  const lines = /** @type {Map<number, number>} */ (new Map());
   for (const { line, cells } of sheet.body(title.length)) {
-    const object = known(roster, cells[0], line, 1, false);
-    const kind = kinds.length && cells[kinds[0]] ? nameOf(cells[kinds[0]], line, kinds[0] + 1) : "";
+    const object = known(roster.objectNumbers, "object", cells[0], line);
+    const kind = place && cells[place] ? nameOf(cells[place], line, place + 1) : "";
     const [begin, end] = times.some((place) => cells[place])
       ? times.map((place, k) => minutesIn(cells[place], line, place + 1, k ? DAY : DAY - 1)) : [];
     const group = days.number(cells[1], line, 2);
@@ -156,18 +131,15 @@ export function readGroups(sheet, roster) {
   return groups;
 }
 
-/** @type {(title: string, ours: string, others: (string | undefined)[]) => string} A title of the roster; where it has none, the first of other files' that is a name. */
-function titled(title, ours, others) {
-  const named = others.find((other) => other && isPrintable(other) && !looksLikeNumber(other));
-  return title === ours && named ? named : title;
-}
-
 /** @type {(roster: Roster, tasks: Counts | null, places: Counts | null, groups: Groups | null) => Roster} The roster with counts and groups. */
 export function withTakes(roster, tasks, places, groups) {
   const areSums = !tasks?.areRanges && !places?.areRanges;
   const [persons, objects] = [tasks, places].map((counts) => new Map(
     [...counts?.bounds || []].map(([number, own]) => [number, areSums ? { least: 0, most: own.most } : own])));
-  const titles = [titled(roster.titles[0], "person", [tasks?.title]), titled(roster.titles[1], "object", [places?.title, groups?.of]), roster.titles[2]];
+  // A title that the roster hasn't is the first of other files' that is a name.
+  const others = [["person", tasks?.title], ["object", places?.title, groups?.of], []];
+  const titles = roster.titles.map((title, k) => title !== others[k][0] ? title
+    : others[k].slice(1).find((other) => other && isPrintable(other) && !looksLikeNumber(other)) || title);
   return { ...roster, titles, takes: tasks || places ? { persons, objects, areSums } : null, groups: groups || roster.groups };
 }
 
@@ -176,18 +148,14 @@ export function hasBounds({ takes }) {
   return takes !== null && !takes.areSums;
 }
 
-/** @type {(roster: Roster, person: number) => Bounds} How many objects a person takes. */
-export function ofPerson({ takes }, person) {
-  return takes?.persons.get(person) || { least: 0, most: 1 };
+/** @type {(roster: Roster, side: number, number: number) => Bounds} How many a person takes, on side 0, or an object. */
+export function boundsOf(roster, side, number) {
+  const own = roster.takes && [roster.takes.persons, roster.takes.objects][side].get(number);
+  return own || { least: side && hasBounds(roster) ? 1 : 0, most: 1 };
 }
 
-/** @type {(roster: Roster, object: number) => Bounds} How many persons an object takes. */
-export function ofObject(roster, object) {
-  return roster.takes?.objects.get(object) || { least: hasBounds(roster) ? 1 : 0, most: 1 };
-}
-
-/** @type {(roster: Roster, counts: Counts, isObjects: boolean, named: (numbers: number[], word: string, names: string[]) => string) => string[]} What is said of names without a line in a file of counts; nothing where all have one. */
-export function forgotten(roster, { bounds }, isObjects, named) {
+/** @type {(roster: Roster, counts: Counts, isObjects: boolean) => string[]} What is said of names without a line in a file of counts; nothing where all have one. */
+export function forgotten(roster, { bounds }, isObjects) {
   const names = isObjects ? roster.objects : roster.persons;
   const numbers = [...names.keys()].filter((number) => !bounds.has(number));
   const bound = !hasBounds(roster) ? "" : isObjects ? "exactly " : "at most ";

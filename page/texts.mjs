@@ -23,10 +23,8 @@ export function stripped(cell) {
   return cell.slice(begin, end);
 }
 
-/**
- * A cell of CSV as it is written: with an apostrophe in front where a spreadsheet would run it, and one more where apostrophes stand before what a spreadsheet would run.
- * @type {(cell: string) => string}
- */
+// A cell of CSV as it is written: with one apostrophe more where a spreadsheet would run it, or would run what apostrophes guard.
+/** @type {(cell: string) => string} */
 export function guarded(cell) {
   return IS_RUN.test(cell) ? `'${cell}` : cell;
 }
@@ -48,10 +46,8 @@ export function bare(name) {
 
 /** @type {(letter: string, quote: string) => string} A letter as a message shows it within quotes. */
 function escaped(letter, quote) {
-  const short = { "\n": "\\n", "\r": "\\r", "\t": "\\t", "\\": "\\\\" }[letter];
-  if (short !== undefined) return short;
-  if (letter === quote) return `\\${letter}`;
-  if (isPrintable(letter)) return letter;
+  const short = { "\n": "\\n", "\r": "\\r", "\t": "\\t", "\\": "\\\\", [quote]: `\\${quote}` }[letter];
+  if (short || isPrintable(letter)) return short || letter;
   const code = (letter.codePointAt(0) || 0).toString(16);
   if (code.length <= 2) return `\\x${code.padStart(2, "0")}`;
   return code.length <= 4 ? `\\u${code.padStart(4, "0")}` : `\\U${code.padStart(8, "0")}`;

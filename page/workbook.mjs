@@ -35,7 +35,7 @@ function partsIn(bytes) {
 async function unpacked(bytes, method, name) {
   try {
     const stream = new Blob([bytes]).stream();
-    return await new Response(method ? stream.pipeThrough(new /** @type {any} */ (globalThis).DecompressionStream("deflate-raw")) : stream).text();
+    return await new Response(method ? stream.pipeThrough(new DecompressionStream("deflate-raw")) : stream).text();
   } catch (fault) {
     refuse(0, 0, "no workbook", `its part '${name}' can't be unpacked`);
   }
@@ -105,8 +105,7 @@ function cellText(tag, inner, { texts, areDates, first, isStale, comma }, row, c
 
 /** @type {(name: string, xml: string, book: Book) => Grid} The rows of a sheet. */
 function gridOf(name, xml, book) {
-  /** @type {string[][]} */
-  const rows = [];
+  const rows = /** @type {string[][]} */ ([]);
   let [row, column, count] = [-1, -1, 0];
   for (const [whole, ofRow, tag, , inner = ""] of xml.matchAll(/<(?:\w+:)?row(\s[^>]*)?>|<(?:\w+:)?c(\s[^>]*?)?(\/>|>([\s\S]*?)<\/(?:\w+:)?c>)/g)) {
     if (/^<(?:\w+:)?row/.test(whole)) {

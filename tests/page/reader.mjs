@@ -16,7 +16,7 @@ const { guarded } = await import("../../page/texts.mjs");
 
 const { rosters, wards, workbook } = JSON.parse(fs.readFileSync(process.argv[2], "utf8"));
 const library = await Library.load(new WebAssembly.Module(moduleOf(process.argv[3])));
-const FIELDS = ["titles", "persons", "objects", "ofPersons", "ofObjects", "costs", "decimals", "separator", "comma", "isMatrix"];
+const FIELDS = ["titles", "persons", "objects", "decimals", "separator", "comma", "isMatrix"];
 
 function said(roster, max) {
   const answer = answerOf(roster, { max, fullest: false, fixed: [], kept: null }, library);
@@ -44,7 +44,8 @@ async function read({ bytes, form, comma, max }) {
   const rows = [titles, ...persons.map((person) => [person, objects[0], "1"])];
   assert.deepStrictEqual(new Sheet(csvOf(rows, roster.separator)).rows.map(({ cells }) => cells), rows);
   const own = Object.fromEntries(FIELDS.map((name) => [name, roster[name]]));
-  return { ...own, isGuess: tables[0].isGuess, said: said(roster, max), written: [...titles, ...persons, ...objects].map(guarded) };
+  const [ofPersons, ofObjects, costs] = ["person", "object", "cost"].map((name) => roster.pairs.map((pair) => pair[name]));
+  return { ...own, ofPersons, ofObjects, costs, isGuess: tables[0].isGuess, said: said(roster, max), written: [...titles, ...persons, ...objects].map(guarded) };
 }
 
 async function planned(ward) {
@@ -81,8 +82,8 @@ console.log(`page: ${wards.length} wards planned as the command plans them, ${re
 if (workbook) {
   const source = new Uint8Array(Buffer.from(workbook.bytes, "base64")).buffer;
   const { roster } = readTables(await tablesOf([{ name: "book.xlsx", kind: "", source }], false), { form: "", comma: false, past: "" });
-  const { persons, objects, costs, decimals, takes } = roster;
-  assert.deepStrictEqual({ persons, objects, costs, decimals, tasks: [...takes.persons.values()].map(({ least, most }) => [least, most]) }, workbook.wanted);
+  const { persons, objects, pairs, decimals, takes } = roster;
+  assert.deepStrictEqual({ persons, objects, costs: pairs.map(({ cost }) => cost), decimals, tasks: [...takes.persons.values()].map(({ least, most }) => [least, most]) }, workbook.wanted);
   console.log("page: a workbook read as the command reads it");
 } else {
   console.log("page: left out: a workbook (no openpyxl)");
