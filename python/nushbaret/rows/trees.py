@@ -101,8 +101,8 @@ class Trees:
         return self._solve(self._root())
 
     def reached(self, costs: Any, wanted: int, part: float) -> Any:
-        """For each variable whether its other value than that of the relaxation's point costs `wanted`, or nearly: such
-        a part of the way there from the relaxation's value."""
+        """For each variable whether its other value than that of the relaxation's point costs `wanted`, or at least a
+        part of the way there from the relaxation's value."""
         solved = self.relaxed(costs)
         reduced = np.abs(self.costs - self.matrix.T @ solved.multipliers)
         return reduced >= part * (wanted - solved.value)
