@@ -12,8 +12,9 @@ np: Any = importlib.import_module("numpy")
 
 # What a person's least cost gives up, in parts of SCALE, so that her tree is smaller.
 _GIVE = 4
-# A tree that fixes a person's variables has at most so many leaves.
-_FIXING_LEAVES = 60
+# A tree that fixes a person's variables has at most so many leaves. Those are fixed whose other values need, as the
+# relaxation shows, so great a part of what is wanted above its least cost: trees for more are large.
+_FIXING_LEAVES, _SHOWN_PART = 20, 0.65
 
 
 class _Link(NamedTuple):
@@ -107,11 +108,13 @@ class Chain:
 
     def _fixing(self, number: int, wanted: int, each: Sequence[Sequence[int]]) -> Optional[_Link]:
         """The link that fixes variables of a person without which, or with which, her months cost `wanted` or more at
-        the prices. `each` has the least costs of her months without each variable, and with it."""
+        the prices, as small trees show it. `each` has the least costs of her months without each variable, and with
+        it."""
         block, own = self.pricing.blocks[number], self.costs[self.pricing.blocks[number].variables]
         without, taken = each
+        is_shown = self._trees(number).reached(own, wanted, _SHOWN_PART)
         terms = tuple((place, 1 if taken[place] >= wanted else -1) for place in range(len(own))
-                      if max(taken[place], without[place]) >= wanted)
+                      if max(taken[place], without[place]) >= wanted and is_shown[place])
         most = -sum(factor < 0 for _, factor in terms)
         if not terms:
             return None

@@ -185,7 +185,7 @@ class _Layers:
             self._refuse_dead(row, at, sums[row], alive)
         places = np.flatnonzero(alive)
         sums = {row: own.ravel()[places] for row, own in sums.items() if self.ends[row] > at}
-        _, first, inverse = np.unique(self._keys(sums, len(places), at), return_index=True, return_inverse=True)
+        first, inverse = _distinct(self._keys(sums, len(places), at))
         self.sums, self.count = {row: own[first] for row, own in sums.items()}, len(first)
         to = np.full((choices, count), len(first), dtype=np.int32)
         to.ravel()[places] = inverse
@@ -213,6 +213,19 @@ class _Layers:
         return keys
 
 
+def _distinct(keys: Any) -> Tuple[Any, Any]:
+    """A place of each number that is among keys, and which of these numbers each key is. Keys are sorted by two of
+    their four parts: where others differ, a number may rarely count as two."""
+    parts = keys.view(np.uint16).reshape(-1, 4)
+    order = parts[:, 0].argsort(kind="stable")
+    order = order[parts[order, 1].argsort(kind="stable")]
+    placed = keys[order]
+    is_first = np.append(True, placed[1:] != placed[:-1])[:len(keys)]
+    inverse = np.empty(len(keys), dtype=np.int32)
+    inverse[order] = is_first.cumsum(dtype=np.int32) - 1
+    return order[is_first], inverse
+
+
 def diagram_of(variables: int, rows: Sequence[Limits], most_nodes: int = MOST_NODES) -> Optional[Diagram]:
     """The diagram of all plans that meet rows; None where it is too wide."""
     layers = _grouped(order_of(variables, rows), rows)
@@ -231,8 +244,8 @@ def _reduced(layers: List[List[int]], to: List[Any], ends: int) -> Diagram:
     for at in range(len(layers) - 1, -1, -1):
         own = after[to[at]]
         alive = np.flatnonzero((own != widths[-1]).any(axis=0))
-        keys = sum(np.multiply(line[alive], mixer, dtype=np.int64) for line, mixer in zip(own, mixers))
-        _, first, inverse = np.unique(keys, return_index=True, return_inverse=True)
+        first, inverse = _distinct(sum(np.multiply(line[alive], mixer, dtype=np.int64)
+                                       for line, mixer in zip(own, mixers)))
         after = np.full(to[at].shape[1] + 1, len(first), dtype=np.int32)
         after[alive] = inverse
         to[at] = own[:, alive[first]]

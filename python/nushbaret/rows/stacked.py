@@ -10,6 +10,8 @@ from .diagrams import Diagram
 np: Any = importlib.import_module("numpy")
 # More than any sum of costs of a month.
 TOO_MUCH = 2**60
+# Costs whose sum is less are added up in 32 bits, where so much is more than any.
+_SMALL_SUM, _TOO_MUCH_SHORT = 2**29, 2**30
 # The nodes that stand first: the dead end, and the end of each month.
 _DEAD, _END, _FIRST = 0, 1, 2
 
@@ -45,7 +47,7 @@ class Stacked:
             size = layer.nodes.stop
             self.layers.insert(0, layer)
         self.roots = np.array([after[place] for place in self.places], dtype=np.int64)
-        self.values = np.zeros(size, dtype=np.int64)
+        self.values = {kind: np.zeros(size, dtype=kind) for kind in (np.int32, np.int64)}
 
     def _layer(self, diagrams: Sequence[Diagram], variables: Sequence[Sequence[int]], after: Sequence[int], height: int,
                size: int) -> _Layer:
@@ -63,46 +65,47 @@ class Stacked:
             taken[:len(own) - 1, place] = [variables[place][variable] for variable in diagram.layers[-height]]
         return _Layer(slice(size, size + sum(widths)), to, taken, np.array(widths), starts)
 
-    def _fill(self, costs: Any) -> None:
-        """The least cost from each node on."""
-        values = self.values
-        values[_DEAD], values[_END] = TOO_MUCH, 0
+    def _filled(self, costs: Any) -> Any:
+        """The least cost from each node on, in as many bits as the costs have."""
+        values = self.values[costs.dtype.type]
+        values[_DEAD], values[_END] = TOO_MUCH if costs.dtype == np.int64 else _TOO_MUCH_SHORT, 0
         for layer in reversed(self.layers):
-            least = values[layer.to[0]]
+            least = values.take(layer.to[0])
             for to, variables in zip(layer.to[1:], layer.variables):
-                taken = values[to]
+                taken = values.take(to)
                 taken += costs[variables].repeat(layer.widths)
                 np.minimum(least, taken, out=least)
             values[layer.nodes] = least
+        return values
 
     def cheapest(self, costs: Any) -> Optional[Tuple[List[int], Any]]:
         """The least costs of months at whole costs, one for each diagram, and months of them over all variables; None
         where a diagram has no month."""
         if not self.has_all:
             return None
-        costs = np.append(costs, 0)
-        self._fill(costs)
+        costs = np.append(costs, 0).astype(np.int32 if np.abs(costs).sum() < _SMALL_SUM else np.int64)
+        filled = self._filled(costs)
         plan, nodes = np.zeros(self.count + 1, dtype=np.int8), self.roots.copy()
         for layer in self.layers:
             count = layer.variables.shape[1]
             to = layer.to[:, nodes[:count] - layer.nodes.start]
-            values = self.values[to]
+            values = filled[to]
             values[1:] += costs[layer.variables]
             choices, all_of = values.argmin(axis=0), np.arange(count)
             takes = np.flatnonzero(choices)
             plan[layer.variables[choices[takes] - 1, takes]] = 1
             nodes[:count] = to[choices, all_of]
         least = np.zeros(len(self.places), dtype=np.int64)
-        least[self.places] = self.values[self.roots]
+        least[self.places] = filled[self.roots]
         return least.tolist(), plan[:-1]
 
     def with_and_without(self, costs: Any) -> Any:
         """For each variable the least costs of its diagram's months without it and with it: an array of shape (2,
         variables). Each diagram has a month."""
         costs = np.append(costs, 0)
-        self._fill(costs)
+        filled = self._filled(costs)
         found = np.full((2, self.count + 1), TOO_MUCH, dtype=np.int64)
-        before = np.full(len(self.values), TOO_MUCH, dtype=np.int64)
+        before = np.full(len(filled), TOO_MUCH, dtype=np.int64)
         before[self.roots] = 0
         for layer in self.layers:
             least = np.zeros((len(layer.to), layer.variables.shape[1]), dtype=np.int64)
@@ -110,7 +113,7 @@ class Stacked:
                 cost = before[layer.nodes]
                 if choice:
                     cost = cost + costs[layer.variables[choice - 1]].repeat(layer.widths)
-                least[choice] = np.minimum.reduceat(cost + self.values[to], layer.starts)
+                least[choice] = np.minimum.reduceat(cost + filled[to], layer.starts)
                 np.minimum.at(before, to, cost)
             for choice, variables in enumerate(layer.variables, 1):
                 found[0, variables] = np.delete(least, choice, 0).min(axis=0)

@@ -16,6 +16,8 @@ DENOMINATORS = (1, 2, 3, 4, 6, 8, 12, 16, 24, 32, 48, 64, 120, 1000, 10_000, 100
 _MOST = 2.0**62
 # So many of the longest sums, and so many of those farthest from whole numbers, are tried for a split.
 _CANDIDATES = 3
+# What counts as a gain at least.
+_LITTLE = 1e-6
 
 
 class Open(Exception):
@@ -98,6 +100,13 @@ class Trees:
         self.costs, self.most = np.asarray(costs, dtype=np.int64), 0
         return self._solve(self._root())
 
+    def reached(self, costs: Any, wanted: int, part: float) -> Any:
+        """For each variable whether its other value than that of the relaxation's point costs `wanted`, or at least a
+        part of the way there from the relaxation's value."""
+        solved = self.relaxed(costs)
+        reduced = np.abs(self.costs - self.matrix.T @ solved.multipliers)
+        return reduced >= part * (wanted - solved.value)
+
     def _root(self) -> _SearchNode:
         rows = self.part.rows
         least, most = self._fixed()
@@ -131,23 +140,45 @@ class Trees:
         return Split(terms, most, below, above)
 
     def _branch(self, node: _SearchNode, solved: Solved) -> Tuple[Terms, int, List[Tuple[_SearchNode, Solved]]]:
-        """The candidate whose halves have the greatest values, the lesser of each first."""
-        best: Optional[Tuple[Tuple[float, float], Terms, int, List[Tuple[_SearchNode, Solved]]]] = None
-        cut = np.inf if self.most is None else self.most + 1.0
+        """The candidate whose halves gain the most, one times the other (Achterberg, Koch and Martin 2005)."""
+        best: Optional[Tuple[float, Terms, int, List[Tuple[_SearchNode, Solved]]]] = None
+        cut = self._cut()
         for candidate in self._worth_trying(solved, cut):
-            halves = [(half, self._solve(half)) for half in self._halves(node, candidate)]
-            self._learn(candidate, solved.value, [result.value for _, result in halves])
+            halves = self._both(node, candidate, solved.value, 0.0 if best is None else best[0])
+            if halves is None:
+                continue
             low, high = sorted(min(result.value, cut) for _, result in halves)
-            if best is None or (low, high) > best[0]:
+            gain = _product(low - solved.value, high - solved.value)
+            if best is None or gain > best[0]:
                 terms: Terms = ((candidate.variable,
                                  1),) if candidate.row is None else self.part.rows[candidate.row].terms
-                best = ((low, high), terms, candidate.most, halves)
+                best = (gain, terms, candidate.most, halves)
             if low >= cut:
                 break
         if best is None:
             self.plan = np.rint(solved.point).astype(int).tolist()
             raise Open
         return best[1:]
+
+    def _cut(self) -> float:
+        """What a half needs to cost. Without costs a half that has a point costs 0."""
+        return 1.0 if self.most is None else self.most + 1.0
+
+    def _both(self, node: _SearchNode, candidate: _Candidate, value: float, least: float
+              ) -> Optional[List[Tuple[_SearchNode, Solved]]]:
+        """The halves of a candidate, solved; None where the first shows that the product of their gains is `least` at
+        most."""
+        cut = self._cut()
+        below, above = self._halves(node, candidate)
+        first = self._solve(below)
+        if _product(min(first.value, cut) - value, cut - value) <= least:
+            # The other counts as alike.
+            alike = (first.value - value) * (1 - candidate.above) / candidate.above
+            self._learn(candidate, value, (first.value, value + alike))
+            return None
+        second = self._solve(above)
+        self._learn(candidate, value, (first.value, second.value))
+        return [(below, first), (above, second)]
 
     def _worth_trying(self, solved: Solved, cut: float) -> List[_Candidate]:
         """Some candidates that weren't tried before: the longest sums, those farthest from whole numbers, and a
@@ -161,11 +192,10 @@ class Trees:
         some = longest + others + [one for one in ones if one.key() not in self.gains][:1]
         return some if not tried else tried[:2] + some[:_CANDIDATES]
 
-    def _expected(self, candidate: _Candidate, value: float, cut: float) -> Tuple[float, float]:
-        """The values of the halves, as earlier gains let expect them, the lesser first."""
+    def _expected(self, candidate: _Candidate, value: float, cut: float) -> float:
+        """The product of what the halves gain, as earlier gains let expect it."""
         below, above = self.gains[candidate.key()]
-        low, high = sorted((min(cut, value + below * candidate.above), min(cut, value + above * (1 - candidate.above))))
-        return low, high
+        return _product(min(cut - value, below * candidate.above), min(cut - value, above * (1 - candidate.above)))
 
     def _learn(self, candidate: _Candidate, value: float, values: Sequence[float]) -> None:
         """Keeps the mean of what a step of 1 of the candidate gained before and gains now."""
@@ -280,6 +310,11 @@ class Trees:
             elif side.row >= 0:
                 used[side.row] = used.get(side.row, 0) - weight
         return Leaf(tuple(used.items())) if bound > 0 else None
+
+
+def _product(one: float, other: float) -> float:
+    """What two halves gain, one times the other; what is no gain counts as a little."""
+    return max(one, _LITTLE) * max(other, _LITTLE)
 
 
 def _with(sides: Tuple[Any, ...], at: int, side: _Bound) -> Tuple[Any, ...]:
