@@ -1,7 +1,6 @@
 // What the worker does with files: it reads them, plans the roster, and says all that the page shows.
 import { sheetOf } from "./days.mjs";
 import { costsOf, namedPairs, numbersOf, oldPlanOf, pairKey, withPast } from "./earlier.mjs";
-import { itemOf, refuse, RosterFault, said, within } from "./faults.mjs";
 import { tablesOf } from "./files.mjs";
 import { usesOf } from "./gathered.mjs";
 import { NoMemory } from "./library.mjs";
@@ -10,7 +9,7 @@ import { answerOf, firstLines, leftOut, listsOf, notesOf, rowsOf } from "./plan.
 import { rosterOf } from "./roster.mjs";
 import { counted } from "./sentences.mjs";
 import { boundsOf, forgotten, readCounts, readGroups, withTakes } from "./takes.mjs";
-import { quoted } from "./texts.mjs";
+import { itemOf, quoted, refuse, RosterFault, said } from "./texts.mjs";
 
 // So many notes on names; tables with more cells aren't sent to the page, and lists of more pairs aren't.
 const [MOST_NOTES, MOST_SHOWN_CELLS, MOST_PAIRS, MOST_DRAWN] = [20, 20000, 5000, 250000];
@@ -32,7 +31,7 @@ function tableOf(tables, kind) {
   const own = tables.filter((table) => table.kind === kind);
   if (own.length < 2) return own[0] || null;
   const text = `a second file of this kind (${kind}), after ${own[0].name}: choose what each is`;
-  throw Object.assign(new RosterFault(text), { file: own[1].name });
+  throw new RosterFault(text, 0, 0, own[1].name);
 }
 
 /** @type {(tables: Table[], choices: Choices) => Read} The roster of tables with its counts and groups, and an earlier plan. */
@@ -40,7 +39,12 @@ export function readTables(tables, choices) {
   /** @type {<Result>(kind: string, read: (table: Table) => Result) => Result | null} */
   const ofKind = (kind, read) => {
     const own = tableOf(tables, kind);
-    return own && within(own.name, () => read(own));
+    try {
+      return own && read(own);
+    } catch (fault) {
+      if (own && fault instanceof RosterFault) fault.file = own.name;
+      throw fault;
+    }
   };
   const first = ofKind("roster", ({ sheet }) => rosterOf(sheet, choices));
   if (!first) throw new RosterFault("no file is a roster: choose what each is");

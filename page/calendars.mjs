@@ -1,8 +1,7 @@
 // Each person's plan as an iCalendar file (RFC 5545), as the command writes it, and all of them in one zip archive.
 import { datesOf, isoOf } from "./dates.mjs";
 import { labelsOf } from "./days.mjs";
-import { said } from "./faults.mjs";
-import { isPrintable } from "./texts.mjs";
+import { isPrintable, said } from "./texts.mjs";
 
 const WIDEST = 75;
 // The UUID of the names of events, which is that of "urn:nushbaret:plan" in the space of addresses.

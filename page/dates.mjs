@@ -1,7 +1,6 @@
 // Names that are dates with a year, such as 2027-03-01, 01.03.2027 or, where another has the year, Mo 01.03. A day is a number, that
 // of days since 1970.
-import { said } from "./faults.mjs";
-import { bare } from "./texts.mjs";
+import { bare, said } from "./texts.mjs";
 
 const WORD = "\\p{L}{2,}";
 const DATE = new RegExp(`^(?:(?<before>${WORD})[.,]{0,2}\\s*)?`

@@ -1,10 +1,10 @@
 // A plan as one sheet: who has what on which day, by letters, what each has in all, and each day's staff of how many.
 import { DAY_NAMES, datesOf, isoOf, weekdayOf, weekendsAmong } from "./dates.mjs";
 import { costsOf, numbersOf, orderOf, pairKey } from "./earlier.mjs";
-import { said } from "./faults.mjs";
 import { countsOf, gathered, sumOf, usesOf } from "./gathered.mjs";
 import { shown } from "./numbers.mjs";
 import { boundsOf, hasBounds, withoutGroup } from "./takes.mjs";
+import { said } from "./texts.mjs";
 
 // So many days, kinds and persons fit on a sheet.
 const [MOST_DAYS, MOST_KINDS, MOST_ROWS] = [62, 12, 400];

@@ -1,13 +1,11 @@
 // An earlier plan: its pairs by names, what changes from it, and the past, whose pairs stay as they were.
 import { datesOf } from "./dates.mjs";
-import { refuse, RosterFault, said } from "./faults.mjs";
 import { gathered, rising, usesOf } from "./gathered.mjs";
 import { hintOf } from "./names.mjs";
 import { Costs, shown } from "./numbers.mjs";
 import { counted } from "./sentences.mjs";
-import { nameOf } from "./sheet.mjs";
 import { boundsOf } from "./takes.mjs";
-import { firstOf, joined, quoted } from "./texts.mjs";
+import { firstOf, joined, nameOf, quoted, refuse, RosterFault, said } from "./texts.mjs";
 
 const [CHANGE, GOES, NOT_POSSIBLE] = ["change", "goes", "not possible"];
 export const SIDES = /** @type {["person", "object"]} */ (["person", "object"]);

@@ -1,5 +1,5 @@
 // The text of a file's bytes: by its BOM, as UTF-8, or as western text of Windows.
-import { RosterFault, said } from "./faults.mjs";
+import { RosterFault, said } from "./texts.mjs";
 
 const SAVE = said("save");
 const WESTERN = "windows-1252";

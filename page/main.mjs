@@ -2,10 +2,10 @@
 import { calendarsOf, zipOf } from "./calendars.mjs";
 import { costsOf, pairKey } from "./earlier.mjs";
 import { button, byId, element, table } from "./elements.mjs";
-import { itemOf } from "./faults.mjs";
 import { clearResult, legendOf, listOf, sheetTable, showResult } from "./results.mjs";
 import { csvOf } from "./sheet.mjs";
 import { showTables } from "./tables.mjs";
+import { itemOf } from "./texts.mjs";
 
 const EXAMPLE = "nurse,early,late,night,office\nAda,2.50,4,,1\nBen,3.25,,1.75,2\nCleo,,2,4.50,\nDan,5,3.75,2,1.25\n";
 // Spreadsheets read CSV as UTF-8 where it begins with this mark.

@@ -1,10 +1,8 @@
 // The names of one side of a roster. A date is one name however it is written.
 import { spellings } from "./dates.mjs";
-import { refuse, said } from "./faults.mjs";
 import { gathered } from "./gathered.mjs";
 import { MOST_PERSONS } from "./library.mjs";
-import { nameOf } from "./sheet.mjs";
-import { bare, quoted } from "./texts.mjs";
+import { bare, nameOf, quoted, refuse, said } from "./texts.mjs";
 
 /** The names of one side, numbered from 0 as they come. */
 export class Names {

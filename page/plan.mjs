@@ -1,7 +1,6 @@
 // The plan of a roster, or who is short of what.
 import { changesOf, numbersOf, orderOf, pairKey, SIDES } from "./earlier.mjs";
 import { freeParts } from "./exchanges.mjs";
-import { said } from "./faults.mjs";
 import { gathered, rising, sumOf, usesOf } from "./gathered.mjs";
 import { cutOf, lacksOf } from "./lacks.mjs";
 import { NoMemory } from "./library.mjs";
@@ -9,7 +8,7 @@ import { faceOf, less } from "./narrowed.mjs";
 import { shown } from "./numbers.mjs";
 import { counted, named, sentence } from "./sentences.mjs";
 import { boundsOf, hasBounds } from "./takes.mjs";
-import { joined } from "./texts.mjs";
+import { joined, said } from "./texts.mjs";
 
 // Who could change places isn't looked for among more pairs.
 const MOST_EXCHANGED = 100000;

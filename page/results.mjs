@@ -1,8 +1,8 @@
 // The answer on the page: the cost, the plan as one sheet and as lists, who is left over or short, and the matrix.
 import { shortDay } from "./days.mjs";
 import { button, byId, element, region, table } from "./elements.mjs";
-import { said } from "./faults.mjs";
 import { drawMatrix, MOST_AT_ONCE, MOST_CELLS } from "./matrix.mjs";
+import { said } from "./texts.mjs";
 
 // So many kinds have a colour of their own. What is printed: the height of a sheet for rows, and of a row at most.
 const [COLOURS, HEIGHT, ROW] = [6, 600, 17];

@@ -2,12 +2,10 @@
 // they are lines of a person, a day, a shift and a cost, and matrices with two title rows, the days over their shifts:
 // objects are then called by shift and day, which are their kind and their group.
 import { datesOf } from "./dates.mjs";
-import { refuse, RosterFault, said } from "./faults.mjs";
 import { Names, Pairs } from "./names.mjs";
 import { Costs, looksLikeNumber } from "./numbers.mjs";
-import { nameOf } from "./sheet.mjs";
 import { groupsOf } from "./takes.mjs";
-import { quoted } from "./texts.mjs";
+import { nameOf, quoted, refuse, RosterFault, said } from "./texts.mjs";
 
 const TITLES = ["person", "object", "cost"];
 const COLUMNS = 4;

@@ -1,7 +1,6 @@
 // What a planner reads: counts, and a sentence for each group that is short, in the command's words.
-import { said } from "./faults.mjs";
 import { gathered, rising } from "./gathered.mjs";
-import { firstOf, joined } from "./texts.mjs";
+import { firstOf, joined, said } from "./texts.mjs";
 
 // A sentence names so many persons and objects at most, and lists so many objects even where they are all of their groups.
 const MOST_NAMES = 8;
