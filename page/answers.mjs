@@ -52,8 +52,7 @@ export function readTables(tables, choices) {
   const places = ofKind("places", ({ sheet }) => readCounts(sheet, first, true));
   const roster = withTakes(first, tasks, places, ofKind("groups", ({ sheet }) => readGroups(sheet, first)));
   const lines = [places, tasks].flatMap((counts, k) => counts ? forgotten(roster, counts, k === 0) : []);
-  const isRuled = roster.takes !== null || roster.groups !== null;
-  const kept = ofKind("plan", ({ name, sheet }) => oldPlanOf(roster, namedPairs(sheet, roster), !isRuled, itemOf(name)));
+  const kept = ofKind("plan", ({ name, sheet }) => oldPlanOf(roster, namedPairs(sheet, roster), itemOf(name)));
   if (kept?.gone.length) lines.push(`the earlier plan has names that the roster hasn't: ${kept.gone.slice(0, MOST_NOTES).join(", ")}`);
   if (!kept || !roster.groups || !choices.past) return { roster, kept, fixed: [], lines };
   const past = withPast(roster, roster.groups, kept, choices.past);
@@ -78,8 +77,9 @@ function withMarks({ roster, kept, fixed, lines }, marks) {
   return { roster: { ...roster, pairs }, kept, fixed: all, lines };
 }
 
-/** @type {(tables: Table[]) => Shown[]} Tables as the page shows them. */
-function shownTables(tables) {
+// Tables as the page shows them, their rows where they aren't too many.
+/** @param {Table[]} tables */
+export function shownTables(tables) {
   return tables.map(({ name, kind, place, isChosen, sheet }) => {
     const width = sheet.rows.reduce((most, { cells }) => Math.max(most, cells.length), 0);
     const isWhole = !sheet.fault && kind !== "calendars" && width * sheet.rows.length <= MOST_SHOWN_CELLS;

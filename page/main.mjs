@@ -14,7 +14,6 @@ const PASTED = "";
 const WALL_HEAD = `<meta charset="utf-8"><meta http-equiv="Content-Security-Policy" content="default-src 'none'; \
 style-src 'unsafe-inline'"><meta name="viewport" content="width=device-width, initial-scale=1">`;
 
-
 let run = /** @type {{ begin: number, clock: number } | null} */ (null);
 // Answers one question after the other, until one is stopped: what it has run once runs faster.
 let worker = /** @type {Worker | null} */ (null);
@@ -286,11 +285,11 @@ function save({ rows, roster }) {
 
 /** @type {(found: Found) => void} A page of the plan alone, without costs and scripts, for the wall. */
 function saveWall({ sheet, lists, roster, rows }) {
-  const [titles, ...pairs] = rows.map((cells) => cells.slice(0, 2));
   // The last column has costs.
   const own = sheet && { ...sheet, columns: sheet.columns.slice(0, -1) };
-  const content = own ? [element("div", { class: "sheet" }, sheetTable(own, roster.titles[0]), legendOf(own)),
-    element("h2", {}, `By ${roster.titles[1]}`), listOf(lists.objects)] : [table(titles, pairs)];
+  const content = !own ? [table(rows.map((cells) => cells.slice(0, 2)))] : [
+    element("div", { class: "sheet" }, sheetTable(own, roster.titles[0]), legendOf(own)),
+    element("h2", {}, `By ${roster.titles[1]}`), listOf(lists.objects)];
   const parts = [
     element("title", {}, rosterName()), document.querySelector("style"),
     element("body", {}, element("h1", { lang: "" }, rosterName()), ...content)].map((part) => part?.outerHTML);

@@ -2,6 +2,7 @@
 import { spellings } from "./dates.mjs";
 import { gathered } from "./gathered.mjs";
 import { MOST_PERSONS } from "./library.mjs";
+import { Costs } from "./numbers.mjs";
 import { bare, nameOf, quoted, refuse, said } from "./texts.mjs";
 
 /** The names of one side, numbered from 0 as they come. */
@@ -50,9 +51,9 @@ export class Pairs {
   list = /** @type {Spot[]} */ ([]);
   lines = /** @type {Map<number, number>} */ (new Map());
 
-  /** @param {Costs} costs */
-  constructor(costs) {
-    this.costs = costs;
+  /** @param {boolean} comma Whether costs are written with a decimal comma */
+  constructor(comma) {
+    this.costs = new Costs(comma);
   }
 
   /** @type {(person: number, object: number, cell: string, line: number, column: number) => void} */

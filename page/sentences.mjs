@@ -9,7 +9,6 @@ const MOST_NAMED = 20;
 // Titles are in any language, so plurals are of these words alone.
 const WITH_S = SHARED.with_s.split(" ");
 
-
 /** @type {(count: number, word: string) => string} A count of things: 1 shift, 2 shifts, 3 people, 2 \u00d7 Schicht. */
 export function counted(count, word) {
   if (count === 1) return `${count} ${word}`;

@@ -84,10 +84,8 @@ export class Sheet {
   title() {
     if (!this.rows.length) throw this.fault || new RosterFault(said("no file"));
     const { line, cells } = this.rows[0];
-    let width = cells.length;
-    while (cells[width - 1] === "") width--;
     if (this.merged.has(line)) refuse(line, 0, "merged title", quoted(cells[0]));
-    return { line, cells: cells.slice(0, width) };
+    return { line, cells: cells.slice(0, cells.map(Boolean).lastIndexOf(true) + 1) };
   }
 
   /** @type {(width: number) => Generator<Row>} The records after the title, each of so many cells. */
