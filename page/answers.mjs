@@ -2,14 +2,13 @@
 import { sheetOf } from "./days.mjs";
 import { costsOf, namedPairs, numbersOf, oldPlanOf, pairKey, withPast } from "./earlier.mjs";
 import { tablesOf } from "./files.mjs";
-import { usesOf } from "./gathered.mjs";
+import { gathered, usesOf } from "./gathered.mjs";
 import { NoMemory } from "./library.mjs";
-import { alike } from "./names.mjs";
 import { answerOf, firstLines, leftOut, listsOf, notesOf, rowsOf } from "./plan.mjs";
 import { rosterOf } from "./roster.mjs";
 import { counted } from "./sentences.mjs";
 import { boundsOf, forgotten, readCounts, readGroups, withTakes } from "./takes.mjs";
-import { itemOf, quoted, refuse, RosterFault, said } from "./texts.mjs";
+import { bare, itemOf, quoted, refuse, RosterFault, said } from "./texts.mjs";
 
 // So many notes on names; tables with more cells aren't sent to the page, and lists of more pairs aren't.
 const [MOST_NOTES, MOST_SHOWN_CELLS, MOST_PAIRS, MOST_DRAWN] = [20, 20000, 5000, 250000];
@@ -18,7 +17,9 @@ const [MOST_NOTES, MOST_SHOWN_CELLS, MOST_PAIRS, MOST_DRAWN] = [20, 20000, 5000,
 
 /** @type {(roster: Roster, tables: Table[]) => string[]} What is to be said of a roster as it was read. */
 function notesOn(roster, tables) {
-  const groups = [...alike(roster.persons), ...alike(roster.objects)];
+  // Names that differ in case or spaces alone.
+  const groups = [roster.persons, roster.objects].flatMap((names) => [...gathered(names, bare).values()])
+    .filter((group) => group.length > 1);
   const notes = groups.slice(0, MOST_NOTES).map((group) => said("alike", group.map(quoted).join(", ")));
   if (groups.length > MOST_NOTES) notes.push(said("more alike", groups.length - MOST_NOTES));
   const guesses = tables.filter(({ isGuess }) => isGuess);

@@ -68,7 +68,7 @@ function written(name) {
   };
 }
 
-/** @type {(month: number, day: number, anchors: number[]) => number | null} The day in that year in which it is nearest to others, at most half a year away. */
+/** @type {(month: number, day: number, anchors: number[]) => number | null} The nearest of such days to others, at most half a year away. */
 function nearest(month, day, anchors) {
   const years = new Set(anchors.flatMap((anchor) => [-1, 0, 1].map((apart) => Number(isoOf(anchor).slice(0, 4)) + apart)));
   const apart = (/** @type {number} */ day) => anchors.reduce((least, anchor) => Math.min(least, Math.abs(anchor - day)), Infinity);

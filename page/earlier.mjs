@@ -112,12 +112,10 @@ function withPersons(roster, names) {
   return { ...roster, persons: [...roster.persons, ...fresh], personNumbers, gone };
 }
 
-/**
- * The roster with a past, which is before a group. An earlier plan's pairs there are allowed and given, at their cost
- * in its file where the roster forbids them. Who has more of them than it takes may have so many. No least count of the
- * past is left.
- * @type {(roster: Roster, groups: Groups, kept: OldPlan, name: string) => { roster: Roster, fixed: Pair[], lines: string[] }}
- */
+// The roster with a past, which is before a group. An earlier plan's pairs there are allowed and given, at their cost
+// in its file where the roster forbids them. Who has more of them than it takes may have so many. No least count of the
+// past is left.
+/** @param {Roster} roster @param {Groups} groups @param {OldPlan} kept @param {string} name */
 export function withPast(roster, groups, kept, name) {
   const earlier = groupsBefore(groups, name);
   const past = new Set([...groups.ofObjects].filter(([, group]) => earlier.includes(group)).map(([object]) => object));

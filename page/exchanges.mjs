@@ -1,7 +1,7 @@
-// How plans by counts differ, and what is left of a problem whose plans are known to have some pairs and not others. In a
-// graph of rows, columns and row groups an arrow leads from a row to a column that it could take, and back where it has
-// it; one more vertex is where rows and columns that may take more, or less, begin and end. A graph lists the ends of the
-// arrows from each vertex: rows, columns, the one of free counts, and the row groups of groups that were given.
+// How plans by counts differ, and what is left of a problem whose plans are known to have some pairs and not others.
+// In a graph of rows, columns and row groups an arrow leads from a row to a column that it could take, and back where
+// it has it; one more vertex is where rows and columns that may take more, or less, begin and end. A graph lists the
+// ends of the arrows from each vertex: rows, columns, the one of free counts, and the row groups of given groups.
 import { countsOf } from "./gathered.mjs";
 import { exact } from "./library.mjs";
 

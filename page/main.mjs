@@ -119,10 +119,7 @@ function placeOf(fault) {
 
 /** @type {(reply: Reply) => void} Shows what the worker replied. */
 function take(reply) {
-  if (reply.kind === "progress") {
-    put("status", reply.text);
-    return;
-  }
+  if (reply.kind === "progress") return put("status", reply.text);
   const time = seconds(end());
   if (reply.kind !== "failure") {
     tables = reply.tables;
@@ -153,10 +150,7 @@ function change(table, changed) {
   files.splice(place, 1, ...given.flatMap((one, k) => own[k] !== table ? [one] : changed ? [{ ...one, ...changed }] : []));
   tables.filter((other) => other.place > place).forEach((other) => { other.place += own.length - 1; });
   own.forEach((other, k) => { other.place += k; });
-  if (changed?.rows) {
-    put("status", "Cells have changed: plan again.");
-    return;
-  }
+  if (changed?.rows) return put("status", "Cells have changed: plan again.");
   if (table.name === PASTED) byId("text", HTMLTextAreaElement).value = "";
   plan();
 }

@@ -1,6 +1,5 @@
 // The names of one side of a roster. A date is one name however it is written.
 import { spellings } from "./dates.mjs";
-import { gathered } from "./gathered.mjs";
 import { MOST_PERSONS } from "./library.mjs";
 import { Costs } from "./numbers.mjs";
 import { bare, nameOf, quoted, refuse, said } from "./texts.mjs";
@@ -79,11 +78,6 @@ export class Pairs {
       if (cells[k + 1]) this.take(person, object, cells[k + 1], line, k + 2);
     });
   }
-}
-
-/** @type {(names: string[]) => string[][]} The names that differ in case or spaces alone, together. */
-export function alike(names) {
-  return [...gathered(names, bare).values()].filter((group) => group.length > 1);
 }
 
 /** @type {(one: string, other: string) => boolean} Whether two differ by one letter, or by two neighbours in the other order. A digit makes another name. */

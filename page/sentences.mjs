@@ -140,7 +140,6 @@ function ofSingles(roster, lack) {
 
 /** @type {(roster: Roster, problem: Counted, lack: Lack, around: string) => string} What a planner reads of who is short, by what is planned around. */
 export function sentence(roster, problem, lack, around) {
-  const isRuled = roster.takes !== null || roster.groups !== null;
-  const text = !isRuled ? ofSingles(roster, lack) : (lack.ofColumns ? ofObjects : ofPersons)(roster, problem, lack);
-  return around + text;
+  if (!roster.takes && !roster.groups) return around + ofSingles(roster, lack);
+  return around + (lack.ofColumns ? ofObjects : ofPersons)(roster, problem, lack);
 }
