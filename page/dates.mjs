@@ -68,11 +68,13 @@ function written(name) {
   };
 }
 
-/** @type {(month: number, day: number, anchors: number[]) => number | null} The nearest of such days to others, at most half a year away. */
+// The nearest of such days to others, at most half a year away.
+/** @type {(month: number, day: number, anchors: number[]) => number | null} */
 function nearest(month, day, anchors) {
   const years = new Set(anchors.flatMap((anchor) => [-1, 0, 1].map((apart) => Number(isoOf(anchor).slice(0, 4)) + apart)));
   const apart = (/** @type {number} */ day) => anchors.reduce((least, anchor) => Math.min(least, Math.abs(anchor - day)), Infinity);
-  const days = [...years].map((year) => dayOf(year, month, day) ?? Infinity).sort((one, other) => apart(one) - apart(other) || one - other);
+  const days = [...years].map((year) => dayOf(year, month, day) ?? Infinity);
+  days.sort((one, other) => apart(one) - apart(other) || one - other);
   return apart(days[0]) <= HALF_A_YEAR ? days[0] : null;
 }
 

@@ -10,7 +10,8 @@ export function keysOf({ ofRows, ofColumns, groupOf, nGroups }) {
   return ofRows.map((row, pair) => row * (nGroups + groupOf.length) + groupOf[ofColumns[pair]]);
 }
 
-/** @type {(counted: Counted, plan: ArrayLike<number>) => { graph: number[][], begins: number[] }} The graph of changes of a plan with no count that is free, and the vertex that has the column of each pair. */
+// The graph of changes of a plan with no count that is free, and the vertex that has the column of each pair.
+/** @type {(counted: Counted, plan: ArrayLike<number>) => { graph: number[][], begins: number[] }} */
 export function graphOf(counted, plan) {
   const { rows, columns, ofRows, ofColumns, groupOf, nGroups } = counted;
   const graph = Array.from({ length: rows.length + columns.length + 1 }, () => /** @type {number[]} */ ([]));
@@ -54,7 +55,7 @@ function finished(graph) {
   return order;
 }
 
-/** @type {(graph: number[][]) => number[]} A number for each vertex: the same for two where arrows lead from each to the other (Sharir 1981). */
+/** @type {(graph: number[][]) => number[]} One number for vertices that lead to each other (Sharir 1981). */
 export function strongParts(graph) {
   const [back, part] = [turned(graph), new Array(graph.length).fill(-1)];
   for (const first of finished(graph).reverse()) {

@@ -19,7 +19,7 @@ function unfolding(title, content, isOpen) {
   return element("details", isOpen ? { open: "" } : {}, element("summary", {}, title), content);
 }
 
-/** @type {(left: Found["left"][number]) => HTMLElement[]} Who and what is left over: a line that unfolds; on paper, where nothing can, the names. */
+/** @type {(left: Found["left"][number]) => HTMLElement[]} Who and what is left over, to unfold; on paper the names. */
 function leftOver({ how, count, names }) {
   const title = `${how}: ${count}`;
   return [unfolding(title, element("p", { lang: "" }, names), true), element("p", { class: "paper" }, `${title}: ${names}`)];

@@ -52,7 +52,7 @@ function refuseUnsure(sheet) {
   throw new RosterFault("lines of pairs, or a matrix of two objects? Choose the form", line);
 }
 
-/** @type {(sheet: Sheet, pairs: Pairs) => Read} Reads lines, unless they might be a matrix as well: that is refused before any other fault. */
+/** @type {(sheet: Sheet, pairs: Pairs) => Read} Reads lines, and refuses first what may as well be a matrix. */
 function readSureLines(sheet, pairs) {
   try {
     const read = readLines(sheet, pairs);
