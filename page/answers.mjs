@@ -1,16 +1,14 @@
 // What the worker does with files: it reads them, plans the roster, and says all that the page shows.
 import { sheetOf } from "./days.mjs";
 import { costsOf, namedPairs, numbersOf, oldPlanOf, pairKey, withPast } from "./earlier.mjs";
-import { itemOf, refuse, RosterFault, said, within } from "./faults.mjs";
 import { tablesOf } from "./files.mjs";
-import { usesOf } from "./gathered.mjs";
+import { gathered, usesOf } from "./gathered.mjs";
 import { NoMemory } from "./library.mjs";
-import { alike } from "./names.mjs";
 import { answerOf, firstLines, leftOut, listsOf, notesOf, rowsOf } from "./plan.mjs";
 import { rosterOf } from "./roster.mjs";
 import { counted } from "./sentences.mjs";
 import { boundsOf, forgotten, readCounts, readGroups, withTakes } from "./takes.mjs";
-import { quoted } from "./texts.mjs";
+import { bare, itemOf, quoted, refuse, RosterFault, said } from "./texts.mjs";
 
 // So many notes on names; tables with more cells aren't sent to the page, and lists of more pairs aren't.
 const [MOST_NOTES, MOST_SHOWN_CELLS, MOST_PAIRS, MOST_DRAWN] = [20, 20000, 5000, 250000];
@@ -19,7 +17,9 @@ const [MOST_NOTES, MOST_SHOWN_CELLS, MOST_PAIRS, MOST_DRAWN] = [20, 20000, 5000,
 
 /** @type {(roster: Roster, tables: Table[]) => string[]} What is to be said of a roster as it was read. */
 function notesOn(roster, tables) {
-  const groups = [...alike(roster.persons), ...alike(roster.objects)];
+  // Names that differ in case or spaces alone.
+  const groups = [roster.persons, roster.objects].flatMap((names) => [...gathered(names, bare).values()])
+    .filter((group) => group.length > 1);
   const notes = groups.slice(0, MOST_NOTES).map((group) => said("alike", group.map(quoted).join(", ")));
   if (groups.length > MOST_NOTES) notes.push(said("more alike", groups.length - MOST_NOTES));
   const guesses = tables.filter(({ isGuess }) => isGuess);
@@ -32,7 +32,7 @@ function tableOf(tables, kind) {
   const own = tables.filter((table) => table.kind === kind);
   if (own.length < 2) return own[0] || null;
   const text = `a second file of this kind (${kind}), after ${own[0].name}: choose what each is`;
-  throw Object.assign(new RosterFault(text), { file: own[1].name });
+  throw new RosterFault(text, 0, 0, own[1].name);
 }
 
 /** @type {(tables: Table[], choices: Choices) => Read} The roster of tables with its counts and groups, and an earlier plan. */
@@ -40,7 +40,12 @@ export function readTables(tables, choices) {
   /** @type {<Result>(kind: string, read: (table: Table) => Result) => Result | null} */
   const ofKind = (kind, read) => {
     const own = tableOf(tables, kind);
-    return own && within(own.name, () => read(own));
+    try {
+      return own && read(own);
+    } catch (fault) {
+      if (own && fault instanceof RosterFault) fault.file = own.name;
+      throw fault;
+    }
   };
   const first = ofKind("roster", ({ sheet }) => rosterOf(sheet, choices));
   if (!first) throw new RosterFault("no file is a roster: choose what each is");
@@ -48,8 +53,7 @@ export function readTables(tables, choices) {
   const places = ofKind("places", ({ sheet }) => readCounts(sheet, first, true));
   const roster = withTakes(first, tasks, places, ofKind("groups", ({ sheet }) => readGroups(sheet, first)));
   const lines = [places, tasks].flatMap((counts, k) => counts ? forgotten(roster, counts, k === 0) : []);
-  const isRuled = roster.takes !== null || roster.groups !== null;
-  const kept = ofKind("plan", ({ name, sheet }) => oldPlanOf(roster, namedPairs(sheet, roster), !isRuled, itemOf(name)));
+  const kept = ofKind("plan", ({ name, sheet }) => oldPlanOf(roster, namedPairs(sheet, roster), itemOf(name)));
   if (kept?.gone.length) lines.push(`the earlier plan has names that the roster hasn't: ${kept.gone.slice(0, MOST_NOTES).join(", ")}`);
   if (!kept || !roster.groups || !choices.past) return { roster, kept, fixed: [], lines };
   const past = withPast(roster, roster.groups, kept, choices.past);
@@ -74,8 +78,9 @@ function withMarks({ roster, kept, fixed, lines }, marks) {
   return { roster: { ...roster, pairs }, kept, fixed: all, lines };
 }
 
-/** @type {(tables: Table[]) => Shown[]} Tables as the page shows them. */
-function shownTables(tables) {
+// Tables as the page shows them, their rows where they aren't too many.
+/** @param {Table[]} tables */
+export function shownTables(tables) {
   return tables.map(({ name, kind, place, isChosen, sheet }) => {
     const width = sheet.rows.reduce((most, { cells }) => Math.max(most, cells.length), 0);
     const isWhole = !sheet.fault && kind !== "calendars" && width * sheet.rows.length <= MOST_SHOWN_CELLS;

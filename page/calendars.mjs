@@ -1,8 +1,7 @@
 // Each person's plan as an iCalendar file (RFC 5545), as the command writes it, and all of them in one zip archive.
 import { datesOf, isoOf } from "./dates.mjs";
 import { labelsOf } from "./days.mjs";
-import { said } from "./faults.mjs";
-import { isPrintable } from "./texts.mjs";
+import { isPrintable, said } from "./texts.mjs";
 
 const WIDEST = 75;
 // The UUID of the names of events, which is that of "urn:nushbaret:plan" in the space of addresses.
@@ -12,11 +11,7 @@ const RESERVED = /^(?:con|prn|aux|nul|conin\$|conout\$|(?:com|lpt)[1-9])$/;
 const MOST_OCTETS = 200;
 const MINUTES = 24 * 60;
 const encoder = new TextEncoder();
-/**
- * @typedef {{ name: string, text: string }} File
- * @typedef {{ sequence: number, events: Map<string, string[]>, live: Set<string> }} Older Its number among the versions, the lines of its
- *   events by their UIDs, without those that say which version it is, and the UIDs of those that weren't cancelled
- */
+/** @typedef {{ name: string, text: string }} File */
 
 /** @type {(bytes: Uint8Array) => string} The sum SHA-1 of bytes, in hexadecimal digits. */
 function sha1(bytes) {
@@ -104,7 +99,9 @@ function eventsOf(roster, person, objects, days) {
   }));
 }
 
-/** @type {(text: string) => Older | null} What an older calendar has; null where it is none of ours. */
+// What an older calendar has, null where it is none of ours: its number among the versions, the lines of its events by
+// their UIDs, without those that say which version it is, and the UIDs of those that weren't cancelled.
+/** @param {string} text */
 function olderOf(text) {
   if (!/^PRODID:-\/\/Nushbaret\/\//m.test(text)) return null;
   const whole = text.replace(/\r\n /g, "");
@@ -118,7 +115,7 @@ function olderOf(text) {
 }
 
 // A person's events; what the older calendar has and the plan has no more is cancelled, in a version one above.
-/** @type {(own: Map<string, string[]>, older: Older) => string[]} */
+/** @type {(own: Map<string, string[]>, older: NonNullable<ReturnType<typeof olderOf>>) => string[]} */
 function versioned(own, older) {
   const isSame = older.live.size === own.size
     && [...own].every(([uid, lines]) => older.live.has(uid) && String(older.events.get(uid)) === String(lines));
@@ -129,11 +126,9 @@ function versioned(own, older) {
     .flatMap(([lines, status]) => [...lines.slice(0, -1), ...status, ...version, lines[lines.length - 1]]);
 }
 
-/**
- * @type {(found: Found, version: string) => { files: File[], why: string }}
- *   A calendar for each person, which cancels what its older one has, or else the earlier plan; why there is none where
- *   groups are no dates.
- */
+// A calendar for each person, which cancels what its older one has, or else the earlier plan; why there is none where
+// groups are no dates.
+/** @type {(found: Found, version: string) => { files: File[], why: string }} */
 export function calendarsOf({ roster, plan, kept, calendars }, version) {
   const { all, why } = roster.groups ? datesOf(roster.groups.names) : { all: null, why: said("no groups") };
   if (!all || !plan) return { files: [], why };

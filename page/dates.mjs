@@ -1,7 +1,6 @@
 // Names that are dates with a year, such as 2027-03-01, 01.03.2027 or, where another has the year, Mo 01.03. A day is a number, that
 // of days since 1970.
-import { said } from "./faults.mjs";
-import { bare } from "./texts.mjs";
+import { bare, said } from "./texts.mjs";
 
 const WORD = "\\p{L}{2,}";
 const DATE = new RegExp(`^(?:(?<before>${WORD})[.,]{0,2}\\s*)?`
@@ -14,9 +13,6 @@ export const DAY_NAMES = SHARED.day_names.split(" ");
 const MARCH = "mar";
 const MILLISECONDS = 86400000;
 const [FIRST, LAST, HALF_A_YEAR] = [-354285, 2932891, 183];
-
-// A name read as a date: year 0 where it has none, and the days of the week that its words may mean.
-/** @typedef {{ name: string, year: number, month: number, day: number, weekdays: Set<number> | null }} Written */
 
 /** @type {(day: number) => number} A day of the week, from Monday on. */
 export function weekdayOf(day) {
@@ -58,7 +54,8 @@ export function weekendsAmong(names) {
   return new Set(found.map(([name]) => name));
 }
 
-/** @type {(name: string) => Written | null} A name read as a date, null where it is none. */
+// A name read as a date, null where it is none: year 0 without one, and the days of the week that words may mean.
+/** @param {string} name */
 function written(name) {
   const found = DATE.exec(name)?.groups;
   if (!found) return null;
@@ -71,11 +68,13 @@ function written(name) {
   };
 }
 
-/** @type {(own: Written, anchors: number[]) => number | null} The day in that year in which it is nearest to others, at most half a year away. */
-function nearest(own, anchors) {
+// The nearest of such days to others, at most half a year away.
+/** @type {(month: number, day: number, anchors: number[]) => number | null} */
+function nearest(month, day, anchors) {
   const years = new Set(anchors.flatMap((anchor) => [-1, 0, 1].map((apart) => Number(isoOf(anchor).slice(0, 4)) + apart)));
   const apart = (/** @type {number} */ day) => anchors.reduce((least, anchor) => Math.min(least, Math.abs(anchor - day)), Infinity);
-  const days = [...years].map((year) => dayOf(year, own.month, own.day) ?? Infinity).sort((one, other) => apart(one) - apart(other) || one - other);
+  const days = [...years].map((year) => dayOf(year, month, day) ?? Infinity);
+  days.sort((one, other) => apart(one) - apart(other) || one - other);
   return apart(days[0]) <= HALF_A_YEAR ? days[0] : null;
 }
 
@@ -84,13 +83,13 @@ export function datesOf(names) {
   const all = names.map(written);
   const none = all.findIndex((own) => own === null);
   if (none >= 0) return { all: null, why: said("no date", names[none]) };
-  const own = /** @type {Written[]} */ (all);
+  const own = all.flatMap((one) => one || []);
   const dated = own.map(({ year, month, day }) => year ? dayOf(year, month, day) : null);
   const wrong = own.find(({ year }, k) => year && dated[k] === null);
   if (wrong) return { all: null, why: said("no day", wrong.name) };
   const anchors = dated.flatMap((day) => day === null ? [] : [day]).sort((one, other) => one - other);
   if (!anchors.length) return { all: null, why: names.length ? said("no year", names[0]) : said("there are none") };
-  const days = own.map((one, k) => dated[k] ?? nearest(one, anchors) ?? NaN);
+  const days = own.map((one, k) => dated[k] ?? nearest(one.month, one.day, anchors) ?? NaN);
   const odd = own.findIndex((one, k) => Number.isNaN(days[k]) || one.weekdays?.has(weekdayOf(days[k])) === false);
   if (odd < 0) return { all: days, why: "" };
   return { all: null, why: Number.isNaN(days[odd]) ? said("no day", own[odd].name)

@@ -1,10 +1,10 @@
 // A plan as one sheet: who has what on which day, by letters, what each has in all, and each day's staff of how many.
 import { DAY_NAMES, datesOf, isoOf, weekdayOf, weekendsAmong } from "./dates.mjs";
 import { costsOf, numbersOf, orderOf, pairKey } from "./earlier.mjs";
-import { said } from "./faults.mjs";
 import { countsOf, gathered, sumOf, usesOf } from "./gathered.mjs";
 import { shown } from "./numbers.mjs";
 import { boundsOf, hasBounds, withoutGroup } from "./takes.mjs";
+import { said } from "./texts.mjs";
 
 // So many days, kinds and persons fit on a sheet.
 const [MOST_DAYS, MOST_KINDS, MOST_ROWS] = [62, 12, 400];
@@ -19,7 +19,8 @@ export function labelsOf({ objects, groups }) {
   return objects.map((name, number) => group(number) >= 0 && counts.get(`${group(number)} ${short[number]}`) === 1 ? short[number] : name);
 }
 
-/** @type {(roster: Roster, names: string[]) => Day[]} The days of a roster with groups, in order. */
+// The days of a roster with groups, in order.
+/** @param {Roster} roster @param {string[]} names */
 function daysOf(roster, names) {
   const { all } = datesOf(names);
   const weekends = weekendsAmong(names);
@@ -38,7 +39,8 @@ function lettersOf(kinds) {
   return new Map(kinds.map((kind, k) => [kind, short[k]]));
 }
 
-/** @type {(days: Day[], cells: Cell[]) => number} How many weekends have a shift: days of weekends side by side are one. */
+// How many weekends have a shift: days of weekends side by side are one.
+/** @type {(days: { isWeekend: boolean }[], cells: { entries: unknown[] }[]) => number} */
 function weekendsIn(days, cells) {
   let [count, isCounted] = [0, false];
   days.forEach(({ isWeekend }, k) => {
@@ -48,12 +50,12 @@ function weekendsIn(days, cells) {
   return count;
 }
 
-// What a person has on a day with these objects.
-/** @type {(roster: Roster, labels: string[], plan: Plan, kept: OldPlan | null) => (person: number, own: number[]) => Cell} */
+// What a person has on a day of these objects, what it had in an earlier plan alone, and whether nothing is allowed.
+/** @param {Roster} roster @param {string[]} labels @param {Plan} plan @param {OldPlan | null} kept */
 function cellsOf(roster, labels, plan, kept) {
   const [costs, pairs] = [costsOf(roster), gathered(plan.pairs, ({ person }) => person)];
   const before = kept && new Set(numbersOf(roster, kept.named).map(({ key }) => key));
-  return (person, own) => {
+  return (/** @type {number} */ person, /** @type {number[]} */ own) => {
     const had = own.filter((object) => before?.has(pairKey(roster, person, object)));
     const now = (pairs.get(person) || []).filter(({ object }) => own.includes(object));
     const entries = now.map(({ object, isFixed }) => ({
@@ -64,7 +66,8 @@ function cellsOf(roster, labels, plan, kept) {
   };
 }
 
-/** @type {(roster: Roster, plan: Plan, kept: OldPlan | null) => DaySheet | null} The sheet of a plan; null where there are no groups, or too many days or kinds. */
+// The sheet of a plan; null where there are no groups, or too many days or kinds.
+/** @param {Roster} roster @param {Plan} plan @param {OldPlan | null} kept */
 export function sheetOf(roster, plan, kept) {
   const { groups, persons, objects } = roster;
   if (!groups) return null;
@@ -99,7 +102,7 @@ export function sheetOf(roster, plan, kept) {
   return { days, letters, persons: rows, columns, kinds: staff };
 }
 
-/** @type {(day: Day) => string[]} A day in few letters: the day of the week and of the month, where it is a date. */
-export function shortDay({ name, when }) {
+/** @type {(name: string, when: number | null) => string[]} A day in few letters: of a date, those of week and month. */
+export function shortDay(name, when) {
   return when === null ? [name] : [DAY_NAMES[weekdayOf(when)].slice(0, 2), String(Number(isoOf(when).slice(8)))];
 }

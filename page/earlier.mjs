@@ -1,13 +1,11 @@
 // An earlier plan: its pairs by names, what changes from it, and the past, whose pairs stay as they were.
 import { datesOf } from "./dates.mjs";
-import { refuse, RosterFault, said } from "./faults.mjs";
 import { gathered, rising, usesOf } from "./gathered.mjs";
 import { hintOf } from "./names.mjs";
 import { Costs, shown } from "./numbers.mjs";
 import { counted } from "./sentences.mjs";
-import { nameOf } from "./sheet.mjs";
-import { boundsOf } from "./takes.mjs";
-import { firstOf, joined, quoted } from "./texts.mjs";
+import { boundsOf, hasBounds } from "./takes.mjs";
+import { firstOf, joined, nameOf, quoted, refuse, RosterFault, said } from "./texts.mjs";
 
 const [CHANGE, GOES, NOT_POSSIBLE] = ["change", "goes", "not possible"];
 export const SIDES = /** @type {["person", "object"]} */ (["person", "object"]);
@@ -78,9 +76,9 @@ function refuseOften(roster, named, item) {
   }
 }
 
-/** @type {(roster: Roster, named: Named[], byCounts: boolean, item: string) => OldPlan} An earlier plan of a roster. */
-export function oldPlanOf(roster, named, byCounts, item) {
-  if (byCounts) refuseOften(roster, named, item);
+/** @type {(roster: Roster, named: Named[], item: string) => OldPlan} An earlier plan of a roster. */
+export function oldPlanOf(roster, named, item) {
+  if (!roster.takes && !roster.groups) refuseOften(roster, named, item);
   refusePairsTwice(roster, named, item);
   const gone = named.flatMap(({ person, object }) => [
     ...roster.personNumbers.has(person) ? [] : [person], ...roster.objectNumbers.has(object) ? [] : [object]]);
@@ -105,30 +103,19 @@ function costInFile(roster, { cost, line }) {
   return units[0] * 10 ** (roster.decimals - decimals);
 }
 
-/** @type {(roster: Roster, names: string[]) => Roster} The roster with persons that it doesn't have, who take none. */
+/** @type {(roster: Roster, names: string[]) => Roster} The roster with persons that it doesn't have. */
 function withPersons(roster, names) {
   const fresh = [...new Set(names)].filter((name) => !roster.personNumbers.has(name));
-  const persons = [...roster.persons, ...fresh];
+  const personNumbers = new Map(roster.personNumbers);
+  fresh.forEach((name, k) => personNumbers.set(name, roster.persons.length + k));
   const gone = new Set(fresh.map((_, k) => roster.persons.length + k));
-  const personNumbers = new Map([...roster.personNumbers, ...[...gone].map((number) => /** @type {const} */ ([persons[number], number]))]);
-  const none = [...gone].map((number) => /** @type {[number, Bounds]} */ ([number, { least: 0, most: 0 }]));
-  return withBounds({ ...roster, persons, personNumbers, gone }, [none, []]);
+  return { ...roster, persons: [...roster.persons, ...fresh], personNumbers, gone };
 }
 
-/** @type {(roster: Roster, sides: [number, Bounds][][]) => Roster} The roster with these bounds of persons, and of objects, in place of those before. */
-function withBounds(roster, [persons, objects]) {
-  const { takes } = roster;
-  return { ...roster, takes: {
-    persons: new Map([...takes?.persons || [], ...persons]), objects: new Map([...takes?.objects || [], ...objects]),
-    areSums: takes === null || takes.areSums } };
-}
-
-/**
- * The roster with a past, which is before a group. An earlier plan's pairs there are allowed and given, at their cost
- * in its file where the roster forbids them. Who has more of them than it takes may have so many. No least count of the
- * past is left.
- * @type {(roster: Roster, groups: Groups, kept: OldPlan, name: string) => { roster: Roster, fixed: Pair[], lines: string[] }}
- */
+// The roster with a past, which is before a group. An earlier plan's pairs there are allowed and given, at their cost
+// in its file where the roster forbids them. Who has more of them than it takes may have so many. No least count of the
+// past is left.
+/** @param {Roster} roster @param {Groups} groups @param {OldPlan} kept @param {string} name */
 export function withPast(roster, groups, kept, name) {
   const earlier = groupsBefore(groups, name);
   const past = new Set([...groups.ofObjects].filter(([, group]) => earlier.includes(group)).map(([object]) => object));
@@ -137,13 +124,14 @@ export function withPast(roster, groups, kept, name) {
   const costs = costsOf(own);
   const fixed = numbersOf(own, ofPast).map(({ person, object, key }, k) => (
     { person, object, cost: costs.get(key) ?? costInFile(own, ofPast[k]), isNew: !costs.has(key) }));
-  const passing = [...usesOf(fixed)[0]].filter(([person, count]) => count > boundsOf(own, 0, person).most)
-    .sort(([one], [other]) => one - other);
+  const passing = [...usesOf(fixed)[0]].sort(([one], [other]) => one - other).filter(([person, count]) => (
+    own.gone.has(person) || count > boundsOf(own, 0, person).most));
   const added = fixed.filter(({ isNew }) => isNew);
-  const isMatrix = own.isMatrix && !added.length;
-  const changed = withBounds({ ...own, past, pairs: [...own.pairs, ...added], isMatrix }, [
-    passing.map(([person, most]) => [person, { ...boundsOf(own, 0, person), most }]),
-    [...past].map((object) => [object, { ...boundsOf(own, 1, object), least: 0 }])]);
+  const [persons, objects] = [new Map(own.takes?.persons), new Map(own.takes?.objects)];
+  passing.forEach(([person, most]) => persons.set(person, { ...boundsOf(own, 0, person), most }));
+  past.forEach((object) => objects.set(object, { ...boundsOf(own, 1, object), least: 0 }));
+  const [takes, isMatrix] = [{ persons, objects, areSums: !hasBounds(own) }, own.isMatrix && !added.length];
+  const changed = { ...own, past, takes, pairs: [...own.pairs, ...added], isMatrix };
   refusePairsTwice(changed, kept.named, "line");
   if (!earlier.length) return { roster: changed, fixed, lines: [said("none before", groups.title, name)] };
   const names = firstOf(earlier.map((group) => groups.names[group]), MOST_SHOWN);

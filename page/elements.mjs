@@ -27,8 +27,8 @@ export function region(name, attributes, ...content) {
   return element("div", { tabindex: "0", role: "region", "aria-label": name, ...attributes }, ...content);
 }
 
-/** @type {(titles: string[], rows: string[][]) => HTMLElement} A table: titles, and a row for each line. Cells are of no language that we know. */
-export function table(titles, rows) {
+/** @type {(rows: string[][]) => HTMLElement} A table, below its titles. Cells are of no language that we know. */
+export function table([titles, ...rows]) {
   const head = element("tr", {}, ...titles.map((title) => element("th", { scope: "col" }, title)));
   const body = rows.map((row) => element("tr", {}, ...row.map((cell) => element("td", {}, cell))));
   return element("table", { class: "plan", lang: "" }, element("thead", {}, head), element("tbody", {}, ...body));

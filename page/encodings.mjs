@@ -1,5 +1,5 @@
 // The text of a file's bytes: by its BOM, as UTF-8, or as western text of Windows.
-import { RosterFault, said } from "./faults.mjs";
+import { RosterFault, said } from "./texts.mjs";
 
 const SAVE = said("save");
 const WESTERN = "windows-1252";
@@ -27,9 +27,7 @@ function refuseNuls(bytes, place) {
   const sample = bytes.subarray(0, SAMPLE);
   const counts = [0, 1].map((side) => sample.filter((byte, k) => byte === 0 && k % 2 === side).length);
   const [least, most] = counts.sort((one, other) => one - other);
-  if (most >= Math.max(4, sample.length / 16, 8 * least)) {
-    throw new RosterFault(`${said("UTF-16")}: ${SAVE}`);
-  }
+  if (most >= Math.max(4, sample.length / 16, 8 * least)) throw new RosterFault(`${said("UTF-16")}: ${SAVE}`);
   const what = said(bytes.some((byte) => byte !== 0) ? "NUL" : "NUL alone");
   throw new RosterFault(`${what}: ${SAVE}`, lineOf(bytes, place));
 }

@@ -1,19 +1,21 @@
-// How plans by counts differ. In a graph of rows, columns and row groups an arrow leads from a row to a column that it could take, and
-// back where it has it; one more vertex is where rows and columns that may take more, or less, begin and end.
+// How plans by counts differ, and what is left of a problem whose plans are known to have some pairs and not others.
+// In a graph of rows, columns and row groups an arrow leads from a row to a column that it could take, and back where
+// it has it; one more vertex is where rows and columns that may take more, or less, begin and end. A graph lists the
+// ends of the arrows from each vertex: rows, columns, the one of free counts, and the row groups of given groups.
+import { countsOf } from "./gathered.mjs";
+import { exact } from "./library.mjs";
 
-// The ends of the arrows from each vertex: rows, columns, the one of free counts, and the row groups of groups that were given.
-/** @typedef {number[][]} Graph */
-
-/** @type {(counted: Counted, pair: number) => number} A number for the row group of a pair. */
-export function keyOf({ ofRows, ofColumns, groupOf, nGroups }, pair) {
-  return ofRows[pair] * (nGroups + groupOf.length) + groupOf[ofColumns[pair]];
+/** @type {(counted: Counted) => number[]} A number for the row group of each pair. */
+export function keysOf({ ofRows, ofColumns, groupOf, nGroups }) {
+  return ofRows.map((row, pair) => row * (nGroups + groupOf.length) + groupOf[ofColumns[pair]]);
 }
 
-/** @type {(counted: Counted, plan: ArrayLike<number>) => { graph: Graph, begins: number[] }} The graph of changes of a plan with no count that is free, and the vertex that has the column of each pair. */
+// The graph of changes of a plan with no count that is free, and the vertex that has the column of each pair.
+/** @type {(counted: Counted, plan: ArrayLike<number>) => { graph: number[][], begins: number[] }} */
 export function graphOf(counted, plan) {
   const { rows, columns, ofRows, ofColumns, groupOf, nGroups } = counted;
   const graph = Array.from({ length: rows.length + columns.length + 1 }, () => /** @type {number[]} */ ([]));
-  const keys = ofRows.map((_, pair) => keyOf(counted, pair));
+  const keys = keysOf(counted);
   const taken = new Set(keys.filter((_, pair) => plan[pair]));
   const add = (/** @type {number} */ begin, /** @type {number} */ end, /** @type {boolean} */ isTurned) => (
     isTurned ? graph[end].push(begin) : graph[begin].push(end));
@@ -31,14 +33,14 @@ export function graphOf(counted, plan) {
   return { graph, begins };
 }
 
-/** @type {(graph: Graph) => Graph} The arrows, each in the other direction. */
+/** @type {(graph: number[][]) => number[][]} The arrows, each in the other direction. */
 export function turned(graph) {
   const back = graph.map(() => /** @type {number[]} */ ([]));
   graph.forEach((ends, begin) => ends.forEach((end) => back[end].push(begin)));
   return back;
 }
 
-/** @type {(graph: Graph) => number[]} The vertices in the order in which a search into the depth is done with them. */
+/** @type {(graph: number[][]) => number[]} The vertices in the order in which a search in depth leaves them. */
 function finished(graph) {
   const [seen, order, waiting] = [new Set(), /** @type {number[]} */ ([]), [...graph.keys()]];
   for (let vertex = waiting.pop(); vertex !== undefined; vertex = waiting.pop()) {
@@ -53,7 +55,7 @@ function finished(graph) {
   return order;
 }
 
-/** @type {(graph: Graph) => number[]} A number for each vertex: the same for two where arrows lead from each to the other (Sharir 1981). */
+/** @type {(graph: number[][]) => number[]} One number for vertices that lead to each other (Sharir 1981). */
 export function strongParts(graph) {
   const [back, part] = [turned(graph), new Array(graph.length).fill(-1)];
   for (const first of finished(graph).reverse()) {
@@ -81,4 +83,50 @@ export function freeParts(counted, plan) {
   });
   const part = strongParts(graph);
   return begins.map((begin, pair) => part[begin] === part[rows.length + ofColumns[pair]] ? part[begin] : -1);
+}
+
+/** @type {(bounds: Bounds, count?: number) => Bounds} What a count leaves next to what is taken. */
+export function less({ least, most }, count = 0) {
+  return { least: Math.max(0, least - count), most: most - count };
+}
+
+/** @type {(part: Part, answer: Answer) => Part} The part of all best plans, by the numbers that prove one best: a count is the one that its number stands for. */
+export function faceOf(part, answer) {
+  const { ofRows, ofColumns, costs } = part.counted;
+  const [rows, columns] = [exact(answer.rows), exact(answer.columns)];
+  const fixed = (/** @type {Bounds[]} */ bounds, /** @type {number[]} */ numbers) => (
+    bounds.map(({ least, most }, k) => ({ least: numbers[k] < 0 ? most : least, most: numbers[k] > 0 ? least : most })));
+  const spare = costs.map((cost, k) => cost - rows[ofRows[k]] - columns[ofColumns[k]]);
+  return narrowed(part, spare, fixed(part.counted.rows, rows), fixed(part.counted.columns, columns));
+}
+
+// The part of the plans that keep the bounds, and of which no pair costs more than it must. Let `spare` be e = cost - row's number -
+// column's number. A plan is in this part if in each row group it pays min(0, the least e): it takes exactly one where that is below 0,
+// and only pairs whose e is that. A row that must take one of some groups is two rows here: one takes exactly one of each of these, the
+// other what is left.
+/** @type {(part: Part, spare: number[], rowBounds: Bounds[], columnBounds: Bounds[]) => Part} */
+export function narrowed({ counted, pairs, taken }, spare, rowBounds, columnBounds) {
+  const { ofRows, ofColumns, groupOf, nGroups, costs } = counted;
+  const keys = keysOf(counted);
+  const least = /** @type {Map<number, number>} */ (new Map());
+  keys.forEach((key, k) => { if (spare[k] < (least.get(key) || 0)) least.set(key, spare[k]); });
+  const left = [...keys.keys()].filter((k) => spare[k] <= (least.get(keys[k]) || 0));
+  const counts = countsOf(left.map((k) => keys[k]));
+  const [alone, others] = [true, false].map((isAlone) => left.filter((k) => (least.has(keys[k]) && counts.get(keys[k]) === 1) === isAlone));
+  const [had, used] = [ofRows, ofColumns].map((list) => countsOf(alone.map((k) => list[k])));
+  const must = countsOf([...new Map(others.filter((k) => least.has(keys[k])).map((k) => [keys[k], ofRows[k]])).values()]);
+  const rowOf = (/** @type {number} */ k) => 2 * ofRows[k] + (least.has(keys[k]) ? 0 : 1);
+  const open = others.sort((one, other) => rowOf(one) - rowOf(other) || one - other);
+  const [rows, columns] = [open.map(rowOf), open.map((k) => ofColumns[k])].map((list) => (
+    new Map([...new Set(list)].map((own, number) => [own, number]))));
+  const part = {
+    rows: [...rows.keys()].map((row) => {
+      const [whole, own] = [row >> 1, must.get(row >> 1) || 0];
+      return row & 1 ? less(rowBounds[whole], (had.get(whole) || 0) + own) : { least: own, most: own };
+    }),
+    columns: [...columns.keys()].map((column) => less(columnBounds[column], used.get(column))), nGroups,
+    groupOf: [...columns].map(([column, number]) => groupOf[column] < nGroups ? groupOf[column] : nGroups + number),
+    ofRows: open.map((k) => rows.get(rowOf(k)) ?? 0), ofColumns: open.map((k) => columns.get(ofColumns[k]) ?? 0), costs: open.map((k) => costs[k]),
+  };
+  return { counted: part, pairs: open.map((k) => pairs[k]), taken: [...taken, ...alone.map((k) => pairs[k])] };
 }

@@ -1,10 +1,10 @@
 // Files that are known by their titles: a roster, what places and persons take, groups, an earlier plan and rules.
 import { beginsWith, decoded, ZIP } from "./encodings.mjs";
-import { isJson, RosterFault, said } from "./faults.mjs";
 import { sheetOfJson } from "./json.mjs";
 import { looksLikeNumber } from "./numbers.mjs";
 import { areDailyLines } from "./roster.mjs";
 import { Sheet } from "./sheet.mjs";
+import { isJson, RosterFault, said } from "./texts.mjs";
 import { calendarsIn, gridsOf } from "./workbook.mjs";
 
 // More bytes would need more memory than browsers give.

@@ -1,7 +1,6 @@
 // An earlier plan in the command's JSON, as a sheet of its pairs. The number of a pair is its line.
-import { refuse, said } from "./faults.mjs";
 import { Sheet } from "./sheet.mjs";
-import { guarded, quoted, stripped } from "./texts.mjs";
+import { guarded, quoted, refuse, said, stripped } from "./texts.mjs";
 
 // Of plans in JSON; those before are read too.
 const FORMAT = 4;

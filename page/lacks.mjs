@@ -1,8 +1,7 @@
 // Why counts can't be met: who is short, and by how much. Each side is looked at alone; what changes of as many pairs as can be reach from
 // those that lack some is short, in connected parts. The library checks each shortage.
-import { graphOf, keyOf, strongParts, turned } from "./exchanges.mjs";
+import { graphOf, keysOf, narrowed, strongParts, turned } from "./exchanges.mjs";
 import { countsOf, gathered, rising } from "./gathered.mjs";
-import { narrowed } from "./narrowed.mjs";
 
 /** @type {(counted: Counted, ofColumns: boolean, library: Library) => Lack[]} What is short of the least counts of one side. */
 function lacksOfSide(counted, ofColumns, library) {
@@ -26,7 +25,7 @@ function lacksOfSide(counted, ofColumns, library) {
 /** @type {(counted: Counted, ofColumns: boolean, isRow: (row: number) => boolean, isColumn: (column: number) => boolean) => Lack[]} */
 function shortParts(counted, ofColumns, isRow, isColumn) {
   const { ofRows, ofColumns: columns } = counted;
-  const keys = ofRows.map((_, pair) => -1 - keyOf(counted, pair));
+  const keys = keysOf(counted).map((key) => -1 - key);
   const outside = new Set(keys.filter((_, pair) => isRow(ofRows[pair]) && !isColumn(columns[pair])));
   const [names, others, isName] = ofColumns ? [columns, ofRows, isColumn] : [ofRows, columns, isRow];
   /** @type {Map<number, Set<number>>} */

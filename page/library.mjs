@@ -12,12 +12,9 @@ const WORDS_OF_RECORD = 8;
 // Sums of three numbers of this size are exact.
 const GREATEST_NUMBER = 2n ** 51n;
 
-/**
- * @typedef {{ address: number, count: bigint }} Block
- * @typedef {Uint8Array | Uint32Array | BigInt64Array} List
- * @typedef {(values: List) => Block} Take
- * @typedef {Record<string, (...words: (number | bigint)[]) => number>} Calls
- */
+/** @typedef {{ address: number, count: bigint }} Block */
+/** @typedef {(values: Uint8Array | Uint32Array | BigInt64Array) => Block} Take */
+/** @typedef {Record<string, (...words: (number | bigint)[]) => number>} Calls */
 
 /** Memory was refused that a call can't do without. */
 export class NoMemory extends Error {}

@@ -2,10 +2,10 @@
 import { calendarsOf, zipOf } from "./calendars.mjs";
 import { costsOf, pairKey } from "./earlier.mjs";
 import { button, byId, element, table } from "./elements.mjs";
-import { itemOf } from "./faults.mjs";
 import { clearResult, legendOf, listOf, sheetTable, showResult } from "./results.mjs";
 import { csvOf } from "./sheet.mjs";
 import { showTables } from "./tables.mjs";
+import { itemOf } from "./texts.mjs";
 
 const EXAMPLE = "nurse,early,late,night,office\nAda,2.50,4,,1\nBen,3.25,,1.75,2\nCleo,,2,4.50,\nDan,5,3.75,2,1.25\n";
 // Spreadsheets read CSV as UTF-8 where it begins with this mark.
@@ -13,7 +13,6 @@ const BOM = "\ufeff";
 const PASTED = "";
 const WALL_HEAD = `<meta charset="utf-8"><meta http-equiv="Content-Security-Policy" content="default-src 'none'; \
 style-src 'unsafe-inline'"><meta name="viewport" content="width=device-width, initial-scale=1">`;
-
 
 let run = /** @type {{ begin: number, clock: number } | null} */ (null);
 // Answers one question after the other, until one is stopped: what it has run once runs faster.
@@ -120,10 +119,7 @@ function placeOf(fault) {
 
 /** @type {(reply: Reply) => void} Shows what the worker replied. */
 function take(reply) {
-  if (reply.kind === "progress") {
-    put("status", reply.text);
-    return;
-  }
+  if (reply.kind === "progress") return put("status", reply.text);
   const time = seconds(end());
   if (reply.kind !== "failure") {
     tables = reply.tables;
@@ -154,10 +150,7 @@ function change(table, changed) {
   files.splice(place, 1, ...given.flatMap((one, k) => own[k] !== table ? [one] : changed ? [{ ...one, ...changed }] : []));
   tables.filter((other) => other.place > place).forEach((other) => { other.place += own.length - 1; });
   own.forEach((other, k) => { other.place += k; });
-  if (changed?.rows) {
-    put("status", "Cells have changed: plan again.");
-    return;
-  }
+  if (changed?.rows) return put("status", "Cells have changed: plan again.");
   if (table.name === PASTED) byId("text", HTMLTextAreaElement).value = "";
   plan();
 }
@@ -286,11 +279,11 @@ function save({ rows, roster }) {
 
 /** @type {(found: Found) => void} A page of the plan alone, without costs and scripts, for the wall. */
 function saveWall({ sheet, lists, roster, rows }) {
-  const [titles, ...pairs] = rows.map((cells) => cells.slice(0, 2));
   // The last column has costs.
   const own = sheet && { ...sheet, columns: sheet.columns.slice(0, -1) };
-  const content = own ? [element("div", { class: "sheet" }, sheetTable(own, roster.titles[0]), legendOf(own)),
-    element("h2", {}, `By ${roster.titles[1]}`), listOf(lists.objects)] : [table(titles, pairs)];
+  const content = !own ? [table(rows.map((cells) => cells.slice(0, 2)))] : [
+    element("div", { class: "sheet" }, sheetTable(own, roster.titles[0]), legendOf(own)),
+    element("h2", {}, `By ${roster.titles[1]}`), listOf(lists.objects)];
   const parts = [
     element("title", {}, rosterName()), document.querySelector("style"),
     element("body", {}, element("h1", { lang: "" }, rosterName()), ...content)].map((part) => part?.outerHTML);

@@ -7,13 +7,8 @@ import { shown } from "./numbers.mjs";
 const SHADES = 9;
 export const MOST_AT_ONCE = 20000;
 export const MOST_CELLS = 250000;
-// A sheet of paper, in pixels at the size of print: its width, a letter's and a line's; the most for a person's name and an object's.
-const SHEET_WIDTH = 960;
-const LETTER = 6;
-const LINE = 13;
-const MARGIN = 10;
-const MOST_NAME_WIDTH = 180;
-const MOST_HEADING_HEIGHT = 120;
+// In pixels at the size of print: a sheet of paper, its letters and lines, and at most a person's name and an object's.
+const PRINT = { width: 960, letter: 6, line: 13, margin: 10, nameWidth: 180, headingHeight: 120 };
 // So many rows are drawn before the page answers again.
 const ROWS_AT_ONCE = 100;
 
@@ -41,9 +36,10 @@ function rangeOf({ pairs }) {
 /** @type {(roster: Roster) => number[][]} As many columns at a time as fit on a sheet next to the names of persons, in parts of about one width. */
 function partsOf(roster) {
   const names = roster.persons.reduce((most, name) => Math.max(most, name.length), 0);
-  const room = SHEET_WIDTH - MARGIN - Math.min(LETTER * names, MOST_NAME_WIDTH);
-  const cost = MARGIN + LETTER * Math.max(...rangeOf(roster).map((own) => shown(roster, own).length));
-  const widths = roster.objects.map((name) => Math.max(cost, LINE * Math.ceil(LETTER * name.length / MOST_HEADING_HEIGHT) + 4));
+  const room = PRINT.width - PRINT.margin - Math.min(PRINT.letter * names, PRINT.nameWidth);
+  const cost = PRINT.margin + PRINT.letter * Math.max(...rangeOf(roster).map((own) => shown(roster, own).length));
+  const linesOf = (/** @type {string} */ name) => Math.ceil(PRINT.letter * name.length / PRINT.headingHeight);
+  const widths = roster.objects.map((name) => Math.max(cost, PRINT.line * linesOf(name) + 4));
   const parts = filled(widths, room);
   const sum = widths.reduce((one, other) => one + other, 0);
   const even = filled(widths, Math.min(room, Math.floor(sum / parts.length) + Math.max(...widths)));
@@ -73,9 +69,8 @@ function headOf({ roster: { objects }, short }, part, name) {
   const isShort = new Set(short.objects);
   const titles = part.map((object) => heading("col", element("span", {}, objects[object]), isShort.has(object)));
   const own = element("tr", {}, element("th", {}), ...titles);
-  if (name === "") return element("thead", {}, own);
-  const title = element("tr", { class: "part" }, element("th", { colspan: String(part.length + 1), lang: "en" }, name));
-  return element("thead", {}, title, own);
+  const named = element("th", { colspan: String(part.length + 1), lang: "en" }, name);
+  return element("thead", {}, ...name ? [element("tr", { class: "part" }, named)] : [], own);
 }
 
 // Draws the matrix, some rows at a time, so that the page answers meanwhile. It stops where the room is no more on the page.

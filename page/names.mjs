@@ -1,10 +1,8 @@
 // The names of one side of a roster. A date is one name however it is written.
 import { spellings } from "./dates.mjs";
-import { refuse, said } from "./faults.mjs";
-import { gathered } from "./gathered.mjs";
 import { MOST_PERSONS } from "./library.mjs";
-import { nameOf } from "./sheet.mjs";
-import { bare, quoted } from "./texts.mjs";
+import { Costs } from "./numbers.mjs";
+import { bare, nameOf, quoted, refuse, said } from "./texts.mjs";
 
 /** The names of one side, numbered from 0 as they come. */
 export class Names {
@@ -52,9 +50,9 @@ export class Pairs {
   list = /** @type {Spot[]} */ ([]);
   lines = /** @type {Map<number, number>} */ (new Map());
 
-  /** @param {Costs} costs */
-  constructor(costs) {
-    this.costs = costs;
+  /** @param {boolean} comma Whether costs are written with a decimal comma */
+  constructor(comma) {
+    this.costs = new Costs(comma);
   }
 
   /** @type {(person: number, object: number, cell: string, line: number, column: number) => void} */
@@ -80,11 +78,6 @@ export class Pairs {
       if (cells[k + 1]) this.take(person, object, cells[k + 1], line, k + 2);
     });
   }
-}
-
-/** @type {(names: string[]) => string[][]} The names that differ in case or spaces alone, together. */
-export function alike(names) {
-  return [...gathered(names, bare).values()].filter((group) => group.length > 1);
 }
 
 /** @type {(one: string, other: string) => boolean} Whether two differ by one letter, or by two neighbours in the other order. A digit makes another name. */

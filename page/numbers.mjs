@@ -1,6 +1,5 @@
 // Costs as a roster writes them, read exactly: whole numbers of units of 10^-decimals.
-import { refuse, said } from "./faults.mjs";
-import { quoted } from "./texts.mjs";
+import { quoted, refuse, said } from "./texts.mjs";
 
 const MOST_PLACES = 6;
 const GREATEST_COST = 1e12;

@@ -1,22 +1,18 @@
 // The plan of a roster, or who is short of what.
 import { changesOf, numbersOf, orderOf, pairKey, SIDES } from "./earlier.mjs";
-import { freeParts } from "./exchanges.mjs";
-import { said } from "./faults.mjs";
+import { faceOf, freeParts, less } from "./exchanges.mjs";
 import { gathered, rising, sumOf, usesOf } from "./gathered.mjs";
 import { cutOf, lacksOf } from "./lacks.mjs";
 import { NoMemory } from "./library.mjs";
-import { faceOf, less } from "./narrowed.mjs";
 import { shown } from "./numbers.mjs";
 import { counted, named, sentence } from "./sentences.mjs";
 import { boundsOf, hasBounds } from "./takes.mjs";
-import { joined } from "./texts.mjs";
+import { joined, said } from "./texts.mjs";
 
 // Who could change places isn't looked for among more pairs.
 const MOST_EXCHANGED = 100000;
-/**
- * @typedef {{ max: boolean, fullest: boolean, fixed: Pair[], kept: OldPlan | null }} Request
- * @typedef {{ plan: Plan | null, sentences: string[], short: { persons: number[], objects: number[] } }} Reasoned
- */
+/** @typedef {{ max: boolean, fullest: boolean, fixed: Pair[], kept: OldPlan | null }} Request */
+/** @typedef {{ plan: Plan | null, sentences: string[], short: { persons: number[], objects: number[] } }} Reasoned */
 
 /** @type {(roster: Roster, request: Request) => Part} What is left to plan around the fixed pairs, with costs that are to be least. */
 function countedOf(roster, { max, fixed }) {
@@ -94,8 +90,9 @@ export function answerOf(roster, request, library) {
   return { plan: planOf(roster, fixed, chosen, hasSwaps ? swapsOf(roster, face, chosen) : null), sentences, short };
 }
 
-/** @type {(roster: Roster, fixed: Pair[], chosen: Pair[], swaps: number[][][] | null) => Plan} */
-function planOf(roster, fixed, chosen, swaps) {
+// Pairs in the order of persons, their sum, who and what has too few, and who could change places where that is known.
+/** @param {Roster} roster @param {Pair[]} fixed @param {Pair[]} chosen @param {number[][][] | null} swaps */
+export function planOf(roster, fixed, chosen, swaps) {
   const ranks = new Map(orderOf(roster).map((object, rank) => [object, rank]));
   const pairs = [fixed, chosen].flatMap((those, k) => (
     those.map(({ person, object, cost }) => ({ person, object, cost, isFixed: k === 0 }))));
@@ -117,7 +114,8 @@ export function firstLines(roster, max, { plan, sentences }) {
   return [...sentences, `${max ? "greatest" : "least"} ${title}: ${shown(roster, plan.cost)}`];
 }
 
-/** @type {(roster: Roster, plan: Plan) => Left[]} Who and what has too few. */
+// How who and what has too few is called, how many they are, and their names.
+/** @type {(roster: Roster, plan: Plan) => { how: string, count: string, names: string }[]} */
 export function leftOut(roster, plan) {
   const [persons, objects] = usesOf(plan.pairs).map((counts, side) => {
     const [names, order] = side ? [roster.objects, orderOf(roster)] : [roster.persons, [...roster.persons.keys()]];

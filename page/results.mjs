@@ -1,8 +1,8 @@
 // The answer on the page: the cost, the plan as one sheet and as lists, who is left over or short, and the matrix.
 import { shortDay } from "./days.mjs";
 import { button, byId, element, region, table } from "./elements.mjs";
-import { said } from "./faults.mjs";
 import { drawMatrix, MOST_AT_ONCE, MOST_CELLS } from "./matrix.mjs";
+import { said } from "./texts.mjs";
 
 // So many kinds have a colour of their own. What is printed: the height of a sheet for rows, and of a row at most.
 const [COLOURS, HEIGHT, ROW] = [6, 600, 17];
@@ -19,7 +19,7 @@ function unfolding(title, content, isOpen) {
   return element("details", isOpen ? { open: "" } : {}, element("summary", {}, title), content);
 }
 
-/** @type {(left: Left) => HTMLElement[]} Who and what is left over: a line that unfolds; on paper, where nothing can, the names. */
+/** @type {(left: Found["left"][number]) => HTMLElement[]} Who and what is left over, to unfold; on paper the names. */
 function leftOver({ how, count, names }) {
   const title = `${how}: ${count}`;
   return [unfolding(title, element("p", { lang: "" }, names), true), element("p", { class: "paper" }, `${title}: ${names}`)];
@@ -30,8 +30,9 @@ function coloursOf({ letters }) {
   return new Map([...letters.keys()].map((kind, k) => [kind, k < COLOURS ? `k${k}` : ""]));
 }
 
-/** @type {(sheet: DaySheet, cell: Cell, day: Day, colours: Map<string, string>) => HTMLElement} */
-function cellElement({ letters }, { entries, gone, isOff }, day, colours) {
+/** @type {(sheet: DaySheet, person: number, place: number, colours: Map<string, string>) => HTMLElement} */
+function cellElement({ letters, days, persons }, person, place, colours) {
+  const [day, { entries, gone, isOff }] = [days[place], persons[person].cells[place]];
   const isChanged = gone.length > 0 || entries.some(({ isNew }) => isNew);
   const marks = [
     day.isWeekend ? "weekend" : "", isChanged ? "changed" : "", entries.some(({ isFixed }) => isFixed) ? "fixed" : "", day.isPast ? "past" : "",
@@ -48,12 +49,12 @@ function cellElement({ letters }, { entries, gone, isOff }, day, colours) {
 export function sheetTable(sheet, title) {
   const colours = coloursOf(sheet);
   const head = element("tr", {}, element("th", { scope: "col" }, title), ...sheet.days.map((day) => {
-    const [first, second] = shortDay(day);
+    const [first, second] = shortDay(day.name, day.when);
     const inner = second ? element("abbr", { title: day.name }, element("span", { lang: "en" }, first), element("br", {}), second) : element("span", { class: "up" }, first);
     return element("th", { scope: "col", class: day.isWeekend ? "weekend" : "" }, inner);
   }), ...sheet.columns.map((column) => element("th", { scope: "col", class: "sum" }, column.title)));
-  const rows = sheet.persons.map(({ name, cells, sums }) => element(
-    "tr", {}, element("th", { scope: "row" }, name), ...cells.map((cell, k) => cellElement(sheet, cell, sheet.days[k], colours)),
+  const rows = sheet.persons.map(({ name, cells, sums }, person) => element(
+    "tr", {}, element("th", { scope: "row" }, name), ...cells.map((_, k) => cellElement(sheet, person, k, colours)),
     ...sheet.columns.map((_, k) => element("td", { class: "sum" }, sums[k]))));
   const staff = sheet.kinds.map(({ kind, staff: own }, place) => element(
     "tr", place ? {} : { class: "first" }, element("th", { scope: "row" }, kind), ...own.map((cell, k) => {
@@ -127,7 +128,7 @@ export function showResult(found, name, onCell) {
     const grid = withCells(sheetTable(sheet, person), sheet, onCell);
     answer.append(element("div", { class: "sheet" }, region("The plan", { class: "scroll" }, grid), legendOf(sheet)));
   } else if (plan) {
-    answer.append(region("The plan", { class: "scroll" }, table(found.rows[0], found.rows.slice(1))));
+    answer.append(region("The plan", { class: "scroll" }, table(found.rows)));
   }
   answer.append(...found.left.flatMap(leftOver));
   answer.append(...found.notes.map((note) => element("p", { class: "note" }, note)));

@@ -2,31 +2,27 @@
 // they are lines of a person, a day, a shift and a cost, and matrices with two title rows, the days over their shifts:
 // objects are then called by shift and day, which are their kind and their group.
 import { datesOf } from "./dates.mjs";
-import { refuse, RosterFault, said } from "./faults.mjs";
 import { Names, Pairs } from "./names.mjs";
-import { Costs, looksLikeNumber } from "./numbers.mjs";
-import { nameOf } from "./sheet.mjs";
+import { looksLikeNumber } from "./numbers.mjs";
 import { groupsOf } from "./takes.mjs";
-import { quoted } from "./texts.mjs";
+import { nameOf, quoted, refuse, RosterFault, said } from "./texts.mjs";
 
 const TITLES = ["person", "object", "cost"];
 const COLUMNS = 4;
-/**
- * @typedef {{ titles: string[], pairs: Pairs, groups?: Groups | null }} Read
- * @typedef {{ line: number, corner: string, days: string[], shifts: string[] }} Heads
- * @typedef {(day: string, shift: string, line: number, columns: number[]) => number} NumberOf The number of an object
- */
+/** @typedef {{ titles: string[], groups?: Groups }} Read */
+/** @typedef {{ line: number, corner: string, days: string[], shifts: string[] }} Heads */
+/** @typedef {(day: string, shift: string, line: number, columns: number[]) => number} NumberOf Of an object */
 
 /** @type {(sheet: Sheet, choices: Choices) => Roster} The roster that a sheet holds; its form is taken from the text where it is ''. */
 export function rosterOf(sheet, { form, comma }) {
-  const costs = new Costs(comma);
   const isDaily = form !== "matrix" && areDailyLines(sheet);
   const isMatrix = !isDaily && (form === "matrix" || form === "" && !mayBeLines(sheet));
   const heads = isMatrix ? headsOf(sheet) : null;
   const read = isDaily ? readDailyLines : isMatrix ? readMatrix : form ? readLines : readSureLines;
-  const { titles, pairs, groups = null } = heads ? readDailyMatrix(sheet, costs, heads) : read(sheet, costs);
+  const pairs = new Pairs(comma);
+  const { titles, groups = null } = heads ? readDailyMatrix(sheet, pairs, heads) : read(sheet, pairs);
   const { persons, objects } = pairs;
-  const { decimals, units } = costs.scaled();
+  const { decimals, units } = pairs.costs.scaled();
   return {
     titles, persons: persons.list, objects: objects.list, decimals, separator: sheet.separator, comma, isMatrix, groups,
     personNumbers: persons.numbers, objectNumbers: objects.numbers, takes: null, past: new Set(), gone: new Set(),
@@ -56,11 +52,11 @@ function refuseUnsure(sheet) {
   throw new RosterFault("lines of pairs, or a matrix of two objects? Choose the form", line);
 }
 
-/** @type {(sheet: Sheet, costs: Costs) => Read} Reads lines, unless they might be a matrix as well: that is refused before any other fault. */
-function readSureLines(sheet, costs) {
+/** @type {(sheet: Sheet, pairs: Pairs) => Read} Reads lines, and refuses first what may as well be a matrix. */
+function readSureLines(sheet, pairs) {
   try {
-    const read = readLines(sheet, costs);
-    if (!areLines(read.pairs.list.map(({ person }) => person), read.pairs.objects.list)) refuseUnsure(sheet);
+    const read = readLines(sheet, pairs);
+    if (!areLines(pairs.list.map(({ person }) => person), pairs.objects.list)) refuseUnsure(sheet);
     return read;
   } catch (fault) {
     refuseUnsure(sheet);
@@ -68,8 +64,8 @@ function readSureLines(sheet, costs) {
   }
 }
 
-/** @type {(sheet: Sheet, costs: Costs) => Read} */
-function readLines(sheet, costs) {
+/** @type {(sheet: Sheet, pairs: Pairs) => Read} */
+function readLines(sheet, pairs) {
   const { line: first, cells: title } = sheet.title();
   if (title.length !== 3) {
     const fourth = title.length > 3 ? said("fourth", quoted(title[3])) : "";
@@ -77,25 +73,23 @@ function readLines(sheet, costs) {
   }
   if (looksLikeNumber(title[2])) refuse(first, 3, "no title", quoted(title[2]));
   const titles = title.map((cell, place) => cell === "" ? TITLES[place] : nameOf(cell, first, place + 1));
-  const pairs = new Pairs(costs);
   for (const { line, cells } of sheet.body(3)) {
     const [person, object] = [pairs.persons.number(cells[0], line, 1), pairs.objects.number(cells[1], line, 2)];
     pairs.takeOnce(person, object, cells.slice(0, 2), cells[2], line, 3);
   }
   if (!pairs.list.length) refuse(first, 0, "no line");
-  return { titles, pairs };
+  return { titles };
 }
 
-/** @type {(sheet: Sheet, costs: Costs) => Read} */
-function readMatrix(sheet, costs) {
+/** @type {(sheet: Sheet, pairs: Pairs) => Read} */
+function readMatrix(sheet, pairs) {
   const { line: first, cells: title } = sheet.title();
   if (looksLikeNumber(title[0])) refuse(first, 1, "number for a title", quoted(title[0]));
   if (title.length < 2) refuse(first, 0, "no object");
-  const pairs = new Pairs(costs);
   const objects = title.slice(1).map((cell, place) => pairs.objects.once(cell, first, place + 2));
   for (const { line, cells } of sheet.body(title.length)) pairs.takeRow(cells, objects, line);
   if (!pairs.persons.list.length) refuse(first, 0, "no line");
-  return { titles: [title[0] === "" ? TITLES[0] : nameOf(title[0], first, 1), TITLES[1], TITLES[2]], pairs };
+  return { titles: [title[0] === "" ? TITLES[0] : nameOf(title[0], first, 1), TITLES[1], TITLES[2]] };
 }
 
 /** @type {(cells: string[]) => boolean} */
@@ -128,29 +122,27 @@ export function areDailyLines(sheet) {
   return areFit && rows.some((cells) => looksLikeNumber(cells[3]));
 }
 
-/** @type {(sheet: Sheet, costs: Costs) => Read} Reads lines; the day stands third where dates stand there alone. */
-function readDailyLines(sheet, costs) {
+/** @type {(sheet: Sheet, pairs: Pairs) => Read} Reads lines; the day stands third where dates stand there alone. */
+function readDailyLines(sheet, pairs) {
   const { cells: title } = sheet.title();
   const rows = [...sheet.body(COLUMNS)];
   const [seconds, thirds] = [1, 2].map((column) => areDates(rows.map(({ cells }) => cells[column])));
   const day = thirds && !seconds ? 2 : 1;
   const titles = title.map((cell, place) => nameOf(cell, 1, place + 1));
-  const pairs = new Pairs(costs);
   const { groups, numberOf } = objectsBy(titles[day], pairs.objects);
   for (const { line, cells } of rows) {
     const person = pairs.persons.number(cells[0], line, 1);
     const object = numberOf(cells[day], cells[3 - day], line, [day + 1, 4 - day]);
     pairs.takeOnce(person, object, [cells[0], pairs.objects.list[object]], cells[3], line, 4);
   }
-  return { titles: [titles[0], titles[3 - day], titles[3]], pairs, groups };
+  return { titles: [titles[0], titles[3 - day], titles[3]], groups };
 }
 
 /** @type {(sheet: Sheet) => Heads | null} The two title rows of a matrix; null where it has none. */
 function headsOf(sheet) {
   if (sheet.rows.length < 2) return null;
   const { line, cells: below } = sheet.rows[1];
-  let width = below.length;
-  while (width && !below[width - 1]) width--;
+  const width = below.map(Boolean).lastIndexOf(true) + 1;
   const above = Array.from({ length: width }, (_, k) => sheet.rows[0].cells[k] || "");
   const shifts = below.slice(1, width);
   const hasWide = above.slice(2).some((cell, k) => !cell || cell === above[k + 1]);
@@ -160,9 +152,8 @@ function headsOf(sheet) {
   return { line, corner: below[0] || above[0], days, shifts };
 }
 
-/** @type {(sheet: Sheet, costs: Costs, heads: Heads) => Read} Reads a matrix with two title rows. */
-function readDailyMatrix(sheet, costs, heads) {
-  const pairs = new Pairs(costs);
+/** @type {(sheet: Sheet, pairs: Pairs, heads: Heads) => Read} Reads a matrix with two title rows. */
+function readDailyMatrix(sheet, pairs, heads) {
   const { groups, numberOf } = objectsBy("day", pairs.objects);
   const columns = heads.shifts.map((shift, k) => {
     const number = numberOf(heads.days[k], shift, heads.line, [k + 2, k + 2]);
@@ -174,5 +165,5 @@ function readDailyMatrix(sheet, costs, heads) {
     pairs.takeRow(cells, columns, line);
   }
   if (!pairs.persons.list.length) refuse(heads.line, 0, "no line after two");
-  return { titles: [heads.corner ? nameOf(heads.corner, heads.line, 1) : "person", "shift", "cost"], pairs, groups };
+  return { titles: [heads.corner ? nameOf(heads.corner, heads.line, 1) : "person", "shift", "cost"], groups };
 }

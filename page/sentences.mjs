@@ -1,7 +1,6 @@
 // What a planner reads: counts, and a sentence for each group that is short, in the command's words.
-import { said } from "./faults.mjs";
 import { gathered, rising } from "./gathered.mjs";
-import { firstOf, joined } from "./texts.mjs";
+import { firstOf, joined, said } from "./texts.mjs";
 
 // A sentence names so many persons and objects at most, and lists so many objects even where they are all of their groups.
 const MOST_NAMES = 8;
@@ -9,7 +8,6 @@ const MOST_LISTED = 6;
 const MOST_NAMED = 20;
 // Titles are in any language, so plurals are of these words alone.
 const WITH_S = SHARED.with_s.split(" ");
-
 
 /** @type {(count: number, word: string) => string} A count of things: 1 shift, 2 shifts, 3 people, 2 \u00d7 Schicht. */
 export function counted(count, word) {
@@ -142,7 +140,6 @@ function ofSingles(roster, lack) {
 
 /** @type {(roster: Roster, problem: Counted, lack: Lack, around: string) => string} What a planner reads of who is short, by what is planned around. */
 export function sentence(roster, problem, lack, around) {
-  const isRuled = roster.takes !== null || roster.groups !== null;
-  const text = !isRuled ? ofSingles(roster, lack) : (lack.ofColumns ? ofObjects : ofPersons)(roster, problem, lack);
-  return around + text;
+  if (!roster.takes && !roster.groups) return around + ofSingles(roster, lack);
+  return around + (lack.ofColumns ? ofObjects : ofPersons)(roster, problem, lack);
 }

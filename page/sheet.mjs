@@ -1,9 +1,7 @@
 // The cells of CSV and of pasted cells, and what is wrong in them; and a plan as CSV, a roster of lines that is read again.
-import { refuse, RosterFault, said } from "./faults.mjs";
-import { CONTROL, guarded, isPrintable, LINE_BREAKS, quoted, stripped, unguarded } from "./texts.mjs";
+import { guarded, isLong, MOST_LETTERS, quoted, refuse, RosterFault, said, stripped, unguarded } from "./texts.mjs";
 
 const SEPARATORS = ";\t,";
-const MOST_LETTERS = 131072;
 // A person, and its costs for as many objects as the command takes.
 const MOST_IN_RECORD = 4194305;
 
@@ -33,11 +31,6 @@ function recordAt(text, begin, separator, cellAt) {
     if (text[at] !== separator) return { cells, end: at, fault: said("after quotes") };
     cellAt.lastIndex = at + 1;
   }
-}
-
-/** @type {(text: string) => boolean} Whether a text has more characters than a cell may. */
-function isLong(text) {
-  return text.length > MOST_LETTERS && Array.from(text).length > MOST_LETTERS;
 }
 
 /** The records of a text that aren't empty, with `;`, TAB or `,` between cells, the one that its first line has most of. */
@@ -91,10 +84,8 @@ export class Sheet {
   title() {
     if (!this.rows.length) throw this.fault || new RosterFault(said("no file"));
     const { line, cells } = this.rows[0];
-    let width = cells.length;
-    while (cells[width - 1] === "") width--;
     if (this.merged.has(line)) refuse(line, 0, "merged title", quoted(cells[0]));
-    return { line, cells: cells.slice(0, width) };
+    return { line, cells: cells.slice(0, cells.map(Boolean).lastIndexOf(true) + 1) };
   }
 
   /** @type {(width: number) => Generator<Row>} The records after the title, each of so many cells. */
@@ -113,16 +104,6 @@ export class Sheet {
     yield* this.rows.slice(1);
     if (this.fault) throw this.fault;
   }
-}
-
-// A cell as a name, with a blank for each line break; letters with accents are one name however they are written.
-/** @type {(cell: string, line: number, column: number) => string} */
-export function nameOf(cell, line, column) {
-  const name = isPrintable(cell) ? cell : cell.replace(LINE_BREAKS, " ");
-  if (name === "") refuse(line, column, "no name");
-  if (isLong(name)) refuse(line, column, "long name", MOST_LETTERS);
-  if (CONTROL.test(name)) refuse(line, column, "control", quoted(name));
-  return name.normalize("NFC");
 }
 
 // Rows as CSV, whose cells no spreadsheet runs. Readers take the separator from the title line, so no other may seem to be there.

@@ -1,11 +1,9 @@
 // Counts and groups of a roster: files that say how many each name takes, and of which objects nobody takes two.
-import { refuse, RosterFault, said } from "./faults.mjs";
 import { MOST_PERSONS } from "./library.mjs";
 import { hintOf, Names } from "./names.mjs";
 import { looksLikeNumber } from "./numbers.mjs";
 import { named } from "./sentences.mjs";
-import { nameOf } from "./sheet.mjs";
-import { isPrintable, quoted } from "./texts.mjs";
+import { isPrintable, nameOf, quoted, refuse, RosterFault, said } from "./texts.mjs";
 
 const [DAY, FROM, TO, KIND] = [24 * 60, "from", "to", "kind"];
 const PRICED = ["wanted", "price"];

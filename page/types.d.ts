@@ -2,7 +2,6 @@
 
 type Library = import("./library.mjs").Library;
 type Sheet = import("./sheet.mjs").Sheet;
-type Costs = import("./numbers.mjs").Costs;
 
 /** With which the page is put together: words and texts that the command says too. */
 declare var SHARED: {
@@ -14,28 +13,22 @@ declare var DecompressionStream: new (format: string) => ReadableWritablePair<Ui
 type Given = { name: string, kind: string, source?: string | ArrayBuffer, rows?: string[][], separator?: string };
 /** `place` is that of its file. */
 type Table = { name: string, kind: string, sheet: Sheet, isGuess: boolean, isChosen: boolean, place: number };
-/** A table as the page shows it, its rows where they aren't too many. */
-type Shown = {
-  name: string, kind: string, place: number, isChosen: boolean, count: number, rows: string[][] | null, separator: string,
-};
+type Shown = ReturnType<typeof import("./answers.mjs").shownTables>[number];
 /** A pair that is to be in the plan, or must not be. */
 type Mark = { person: string, object: string, isFixed: boolean };
 type Choices = { form: string, comma: boolean, max: boolean, fullest: boolean, past: string };
 type Question = { files: Given[], choices: Choices, marks: Mark[], module: WebAssembly.Module };
 type Found = ReturnType<typeof import("./answers.mjs").foundIn>;
 type Fault = { kind: "fault", text: string, file: string, line: number, column: number, tables: Shown[] };
-type Failure = { kind: "failure", text: string };
 type Progress = { kind: "progress", text: string };
-type Reply = Found | Fault | Failure | Progress;
+type Reply = Found | Fault | { kind: "failure", text: string } | Progress;
 
 type Spot = { person: number, object: number };
 /** A cost is in the roster's units of 10^-decimals. */
 type Pair = Spot & { cost: number };
 /** At least and at most so many. */
 type Bounds = { least: number, most: number };
-/**
- * What isn't named takes at most one; an object exactly one, unless `areSums`: then the side whose sum is smaller takes all.
- */
+/** What isn't named takes at most one, an object just one; with `areSums` the side whose sum is smaller takes all. */
 type Takes = { persons: Map<number, Bounds>, objects: Map<number, Bounds>, areSums: boolean };
 /** Groups of objects of which nobody takes two; times are minutes after midnight; `of` is the title of objects in their file. */
 type Groups = {
@@ -61,11 +54,9 @@ type Named = { person: string, object: string, line: number, cost: string };
 /** An earlier plan, and its names that the roster didn't have. */
 type OldPlan = { named: Named[], gone: string[] };
 
-/**
- * Pairs that may be made, by rising rows, none twice, and their costs, whose sum is to be least; how many columns each row takes, and
- * how many rows each column; and the group of each column, of which a row takes one at most. Groups that were given are below
- * `nGroups`; a column k in none is alone in the group `nGroups` + k.
- */
+// Pairs that may be made, by rising rows, none twice, and their costs, whose sum is to be least; how many columns each
+// row takes, and how many rows each column; and the group of each column, of which a row takes one at most. Groups that
+// were given are below `nGroups`; a column k in none is alone in the group `nGroups` + k.
 type Counted = {
   rows: Bounds[], columns: Bounds[], groupOf: number[], nGroups: number, ofRows: number[], ofColumns: number[], costs: number[],
 };
@@ -73,29 +64,10 @@ type Counted = {
 type Part = { counted: Counted, pairs: Pair[], taken: Pair[] };
 /** A byte for each pair, and numbers of rows and columns that prove the plan best. */
 type Answer = { code: string, plan: Uint8Array, rows: bigint[], columns: bigint[] };
-/**
- * Least counts that can't be met: these rows (or columns) must have `wanted`, and can have no more than `had`: as many as the columns
- * (or rows) take at most, and one for each row group in `once`.
- */
+// Least counts that can't be met: these rows (or columns) must have `wanted`, and can have no more than `had`: as many
+// as the columns (or rows) take at most, and one for each row group in `once`.
 type Lack = {
   ofColumns: boolean, rows: number[], columns: number[], once: { row: number, group: number }[], wanted: number, had: number,
 };
-/**
- * Pairs in the order of persons, the sum of their costs, who and what has too few, and persons and objects that could change places,
- * where these were looked for.
- */
-type Plan = {
-  pairs: (Pair & { isFixed: boolean })[], cost: bigint, without: number[], unused: number[], swaps: number[][][] | null,
-};
-/** How who and what has too few is called, how many they are, and their names. */
-type Left = { how: string, count: string, names: string };
-
-type Day = { name: string, group: number, isWeekend: boolean, when: number | null, isPast: boolean };
-/** What a person has on a day, what it had in an earlier plan and has no more, and whether nothing is allowed. */
-type Cell = {
-  entries: { label: string, object: number, isFixed: boolean, isNew: boolean }[], gone: string[], isOff: boolean,
-};
-type DaySheet = {
-  days: Day[], letters: Map<string, string>, persons: { name: string, cells: Cell[], sums: string[] }[],
-  columns: { title: string, meaning: string }[], kinds: { kind: string, staff: ({ had: number, wanted: number | null } | null)[] }[],
-};
+type Plan = ReturnType<typeof import("./plan.mjs").planOf>;
+type DaySheet = NonNullable<ReturnType<typeof import("./days.mjs").sheetOf>>;

@@ -1,5 +1,5 @@
 // Workbooks: the sheets of an .xlsx, whose parts the browser unpacks, as rows of cells, each as a spreadsheet shows it.
-import { refuse, said } from "./faults.mjs";
+import { refuse, said } from "./texts.mjs";
 
 const [END_OF_ZIP, ENTRY] = [0x06054b50, 0x02014b50];
 // What a workbook's parts may come to when they are unpacked, and its cells.

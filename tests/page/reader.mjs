@@ -7,12 +7,11 @@ import { moduleOf } from "./page_parts.mjs";
 
 const { readTables } = await import("../../page/answers.mjs");
 const { changesOf } = await import("../../page/earlier.mjs");
-const { RosterFault } = await import("../../page/faults.mjs");
 const { tablesOf } = await import("../../page/files.mjs");
 const { Library } = await import("../../page/library.mjs");
 const { answerOf, firstLines, leftOut, rowsOf } = await import("../../page/plan.mjs");
 const { csvOf, Sheet } = await import("../../page/sheet.mjs");
-const { guarded } = await import("../../page/texts.mjs");
+const { guarded, RosterFault } = await import("../../page/texts.mjs");
 
 const { rosters, wards, workbook } = JSON.parse(fs.readFileSync(process.argv[2], "utf8"));
 const library = await Library.load(new WebAssembly.Module(moduleOf(process.argv[3])));
