@@ -1,5 +1,5 @@
-// Names that are dates with a year, such as 2027-03-01, 01.03.2027 or, where another has the year, Mo 01.03. A day is a number, that
-// of days since 1970.
+// Names that are dates with a year: 2027-03-01, 01.03.2027 or, where another has the year, Mo 01.03. A day is a number,
+// that of days since 1970.
 import { bare, said } from "./texts.mjs";
 
 const WORD = "\\p{L}{2,}";
@@ -68,7 +68,7 @@ function written(name) {
   };
 }
 
-// The nearest of such days to others, at most half a year away.
+// The nearest of these days to others, at most half a year away.
 /** @type {(month: number, day: number, anchors: number[]) => number | null} */
 function nearest(month, day, anchors) {
   const years = new Set(anchors.flatMap((anchor) => [-1, 0, 1].map((apart) => Number(isoOf(anchor).slice(0, 4)) + apart)));
