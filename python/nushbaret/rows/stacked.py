@@ -83,7 +83,8 @@ class Stacked:
         where a diagram has no month."""
         if not self.has_all:
             return None
-        costs = np.append(costs, 0).astype(np.int32 if np.abs(costs).sum() < _SMALL_SUM else np.int64)
+        is_small = np.abs(costs).sum(dtype=np.float64) < _SMALL_SUM
+        costs = np.append(costs, 0).astype(np.int32 if is_small else np.int64)
         filled = self._filled(costs)
         plan, nodes = np.zeros(self.count + 1, dtype=np.int8), self.roots.copy()
         for layer in self.layers:

@@ -55,6 +55,13 @@ class Diagrams(unittest.TestCase):
             self.assertEqual(None if found[value, variable] >= TOO_MUCH // 2 else found[value, variable],
                              least)
 
+    def test_great_sums(self):
+        """Each month's cost fits 64 bits, and that of all months doesn't."""
+        diagram = diagrams.diagram_of(2, [Limits(1, ((0, 1), (1, 1)), 1)])
+        stacked = Stacked([diagram] * 20, [(2 * place, 2 * place + 1) for place in range(20)])
+        costs, _ = stacked.cheapest(np.array([2**58 + variable for variable in range(40)], dtype=np.int64))
+        self.assertEqual(costs, [2**58 + 2 * place for place in range(20)])
+
     def test_too_wide(self):
         rows = [Limits(1000, tuple((variable, 3**variable) for variable in range(12)), 100_000)]
         self.assertIsNone(diagrams.diagram_of(12, rows, 50))
