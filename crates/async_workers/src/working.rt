@@ -30,7 +30,7 @@ pub struct Shared<'a, G> {
 }
 
 /// A worker's turns, until one ends its run: what each worker of `solve_workers_from` does in its
-/// thread. After a turn without a person to claim it pauses, each time longer than before.
+/// thread. After a turn without a person to claim it pauses.
 ///
 /// Returns the fault, if there was one: `Memory` if memory was refused. The desk then has no claim
 /// and no offer, and may take turns again.
@@ -56,7 +56,7 @@ pub fn take_turns<G: Gate, R: Wait>(
             Ok(Turn::Claimed) => pause = FIRST_PAUSE,
             Ok(Turn::Idle) => {
                 pause.wait(rt, parker);
-                pause = pause.longer();
+                pause = pause.next();
             }
             Ok(Turn::Done) => return None,
             Ok(Turn::Refuted) => return None,

@@ -5,6 +5,7 @@ ghost use Rattle.std.specs.Prelude.{◌≡◌};
 use assign_core::{Person, Prices};
 use async_workers::{Gate, Note, Standing};
 use bidder::{Ask, Offer};
+use candidates::CandidateLists;
 use exact_paths::Observer;
 use rounds::{LEAST_PAIRS, Offering, make_offers};
 use scaled_values::{Scaled, next_eps};
@@ -241,12 +242,22 @@ impl<R: Threads + Sync, V: Watch> Offering for WatchedOffers<'_, R, V> {
         prices: &Prices,
         ask: Ask,
         persons: &[Person],
+        lists: &mut CandidateLists,
         offers: &mut Vec<Offer>,
     ) -> Result<(), AllocError> {
         if self.is_due {
             self.show(scaled, ask);
         }
-        make_offers(self.rt, LEAST_PAIRS, scaled, prices, ask, persons, offers)
+        make_offers(
+            self.rt,
+            LEAST_PAIRS,
+            scaled,
+            prices,
+            ask,
+            persons,
+            lists,
+            offers,
+        )
     }
 }
 

@@ -12,5 +12,6 @@ pub use law::{
     level_is_at_most_top, offer_is_determined, offered_bid_is_high, offered_bid_is_sound,
     sound_bid_stays_sound,
 };
-pub use offers::{Ask, BelowFloor, Bid, Offer, make_bid};
+pub use offers::{Ask, BelowFloor, Bid, Offer, best_of, make_bid, make_bid_of};
 pub use scan::{BestTwo, best_two, best_two_full};
+pub use skipping::{LANES, none_above};

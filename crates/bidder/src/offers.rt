@@ -52,8 +52,8 @@ pub enum Offer {
     Below(BelowFloor),
 }
 
-// The best two of a person's listed objects.
-fn best_of(scaled: &Scaled, prices: &Prices, person: Person) -> Option<BestTwo>
+/// The best two of a person's listed objects.
+pub fn best_of(scaled: &Scaled, prices: &Prices, person: Person) -> Option<BestTwo>
     requires person { IsNumber (length scaled.now.problem) person }
     requires table { length prices.now ≡ length scaled.now.problem }
     ensures best { MatchOption result (benefits_at scaled.now person ≡ [])
@@ -112,6 +112,46 @@ fn level_of(best: BestTwo, prices: &Prices, ask: Ask) -> Price
     level_at(benefit, bar, ask.eps)
 }
 
+/// The offer that the best two of a person's row makes, as `make_bid` gives it.
+pub fn make_bid_of(
+    scaled: &Scaled,
+    prices: &Prices,
+    version: u128,
+    ask: Ask,
+    person: Person,
+    found: Option<BestTwo>,
+) -> Offer
+    requires person { IsNumber (length scaled.now.problem) person }
+    requires table { length prices.now ≡ length scaled.now.problem }
+    requires ask { IsAsk scaled.now ask }
+    requires best { MatchOption found (benefits_at scaled.now person ≡ [])
+        (IsBestTwo (benefits_at scaled.now person) prices.now) }
+    requires only { found ≡ best_two (benefits_at scaled.now person) prices.now }
+    ensures offer { IsOffer scaled.now prices.now version ask person result }
+    ensures only { result ≡ offer_of scaled.now prices.now version ask person }
+    ensures sound { IsSoundOffer scaled.now ask prices.now result }
+{
+    // For the proof only: the rows are those of a problem.
+    let _n = scaled.n();
+    let below = BelowFloor {
+        person,
+        phase: ask.phase,
+    };
+    let Some(best) = found else {
+        return Offer::Below(below);
+    };
+    if best.best < ask.floor {
+        return Offer::Below(below);
+    }
+    Offer::Bid(Bid {
+        person,
+        object: best.object,
+        level: level_of(best, prices, ask),
+        phase: ask.phase,
+        version,
+    })
+}
+
 /// The offer of a person under a table of prices, with this phase's slackness and floor: a bid for
 /// its best object. It is `Below` if no listed object has a value of at least the floor. The offer
 /// carries the given phase and version.
@@ -127,21 +167,6 @@ pub fn make_bid(scaled: &Scaled, prices: &Prices, version: u128, ask: Ask, perso
     ensures only { result ≡ offer_of scaled.now prices.now version ask person }
     ensures sound { IsSoundOffer scaled.now ask prices.now result }
 {
-    let below = BelowFloor {
-        person,
-        phase: ask.phase,
-    };
-    let Some(best) = best_of(scaled, prices, person) else {
-        return Offer::Below(below);
-    };
-    if best.best < ask.floor {
-        return Offer::Below(below);
-    }
-    Offer::Bid(Bid {
-        person,
-        object: best.object,
-        level: level_of(best, prices, ask),
-        phase: ask.phase,
-        version,
-    })
+    let found = best_of(scaled, prices, person);
+    make_bid_of(scaled, prices, version, ask, person, found)
 }

@@ -10,8 +10,8 @@ use std::simd::prelude::*;
 /// The number of objects that are compared with the limit at once.
 pub const LANES: usize = 16;
 
-// Whether none of the `LANES` objects from a place on has a benefit that is above its narrow price
-// by more than the limit.
+/// Whether none of the `LANES` objects from a place on has a benefit that is above its narrow price
+/// by more than the limit.
 pub fn none_above(benefits: &[Benefit], narrow: &[i64], from: usize, limit: i64) -> bool
     requires benefits { All IsBenefit benefits.now }
     requires narrow { All IsNarrow narrow.now }

@@ -70,10 +70,8 @@ pub fn turned(sense: Sense, cost: Cost) -> Cost {
 // The costs as ones to minimise.
 fn costs_of(alloc: Global, lists: CountLists<'_>) -> Result<Vec<Cost>, AllocError> {
     let mut costs = Vec::from_slice(alloc, lists.costs)?;
-    if lists.sense == Sense::Max {
-        for cost in costs.as_mut_slice().iter_mut() {
-            *cost = cost.wrapping_neg();
-        }
+    for cost in costs.as_mut_slice().iter_mut() {
+        *cost = turned(lists.sense, *cost);
     }
     Ok(costs)
 }

@@ -15,7 +15,7 @@ use super::counts::{count, first_loose};
 use super::holders::first_double;
 use super::lists::CountLists;
 use super::marks::Marks;
-use super::prices::first_wrong;
+use super::prices::{are_plain, first_wrong};
 use super::verdict::CountVerdict;
 use std::alloc::{AllocError, Global};
 
@@ -81,6 +81,9 @@ fn find_wrong(
         (λ k. IsFirstPlace (λ q. ¬ IsPairRight l plan.now row_prices.now column_prices.now q)
         (length l.rows.now) k)) }
 {
+    if are_plain(lists, plan, row_prices, column_prices) {
+        return Ok(None);
+    }
     let mut holders = vec![in alloc; 0usize; 2 * lists.groups.len() + 1]?;
     let holders = holders.as_mut_slice();
     Ok(first_wrong(holders, lists, plan, row_prices, column_prices))

@@ -63,13 +63,20 @@ fn are_of_length(lists: CountLists<'_>) -> bool
         && lists.groups.len() == lists.column_least.len()
 }
 
+// Whether a number is from 1 to n.
+fn is_number(n: usize, number: u32) -> bool
+    ensures { IsTrue result ↔ IsNumber n number }
+{
+    number != 0 && number as usize <= n
+}
+
 // Whether each number is from 1 to n. Compilers make vectors of this loop and of the two like it.
 fn are_numbers(n: usize, numbers: &[u32]) -> bool
     ensures { result ≡ true → All (IsNumber n) numbers.now }
 {
     let mut are = true;
     for k in 0..numbers.len() {
-        are = are & (numbers[k] != 0) & (numbers[k] as usize <= n);
+        are = are & is_number(n, numbers[k]);
     }
     are
 }
@@ -83,7 +90,7 @@ fn first_outside(n: usize, numbers: &[u32]) -> Option<usize>
         return None;
     }
     for k in 0..numbers.len() {
-        if numbers[k] == 0 || numbers[k] as usize > n {
+        if !is_number(n, numbers[k]) {
             return Some(k);
         }
     }
@@ -143,13 +150,20 @@ fn first_crossed(least: &[u32], most: &[u32]) -> Option<usize>
     None
 }
 
+// Whether a cost is in range.
+fn is_cost(cost: Cost) -> bool
+    ensures { IsTrue result ↔ IsCost cost }
+{
+    cost >= -GREATEST_COST && cost <= GREATEST_COST
+}
+
 // Whether all costs are in range.
 fn are_costs(costs: &[Cost]) -> bool
     ensures { result ≡ true → All IsCost costs.now }
 {
     let mut are = true;
     for k in 0..costs.len() {
-        are = are & (costs[k] >= -GREATEST_COST) & (costs[k] <= GREATEST_COST);
+        are = are & is_cost(costs[k]);
     }
     are
 }
@@ -162,7 +176,7 @@ fn first_cost(costs: &[Cost]) -> Option<usize>
         return None;
     }
     for k in 0..costs.len() {
-        if costs[k] < -GREATEST_COST || costs[k] > GREATEST_COST {
+        if !is_cost(costs[k]) {
             return Some(k);
         }
     }

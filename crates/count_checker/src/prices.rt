@@ -5,6 +5,7 @@ ghost use Rattle.count_checker.specs.CountLists.{AreCountLists, pair_at};
 ghost use Rattle.count_checker.specs.CountPrices.{rest_of};
 ghost use Rattle.count_checker.specs.CountFaults.{AreRivalsAt, IsChosen, IsDouble, IsFirstPlace, IsPairRight};
 ghost use Rattle.count_checker.specs.inside.Holders.{IsHolding};
+ghost use Rattle.count_checker.specs.inside.Plain.{IsPairPlain};
 
 use super::holders::{hold_row, rival};
 use super::lists::CountLists;
@@ -13,6 +14,7 @@ use assign_core::Cost;
 use cost_lists::to_minimise;
 
 // The cost of the pair at a place, as one to minimise.
+#[inline(always)]
 fn cost_at(lists: CountLists<'_>, place: usize) -> Cost
     requires lists { AreCountLists lists }
     requires place { place < length lists.rows.now }
@@ -23,6 +25,7 @@ fn cost_at(lists: CountLists<'_>, place: usize) -> Cost
 }
 
 // A cost without two numbers.
+#[inline(always)]
 fn rest(cost: Cost, row_price: i64, column_price: i64) -> i128
     ensures { result ≡ cost -ℤ row_price -ℤ column_price }
 {
@@ -30,6 +33,7 @@ fn rest(cost: Cost, row_price: i64, column_price: i64) -> i128
 }
 
 // What the pair at a place leaves of its cost.
+#[inline(always)]
 fn rest_at(lists: CountLists<'_>, row_prices: &[i64], column_prices: &[i64], place: usize) -> i128
     requires lists { AreCountLists lists }
     requires rows { length row_prices.now ≡ length lists.row_least.now }
@@ -78,6 +82,55 @@ fn is_wrong(
         Some(held) => rest_at(lists, row_prices, column_prices, held) > own,
         None => own < 0,
     }
+}
+
+// Whether the pair at a place is right whatever its row takes: it leaves at most 0 if it is chosen,
+// otherwise at least 0.
+#[inline(always)]
+fn is_plain(
+    lists: CountLists<'_>,
+    plan: &Marks<'_>,
+    row_prices: &[i64],
+    column_prices: &[i64],
+    place: usize,
+) -> bool
+    requires lists { AreCountLists lists }
+    requires plan { length plan.now ≡ length lists.rows.now }
+    requires rows { length row_prices.now ≡ length lists.row_least.now }
+    requires columns { length column_prices.now ≡ length lists.column_least.now }
+    requires place { place < length lists.rows.now }
+    ensures { result ≡ true
+        → IsPairPlain lists.entry plan.now row_prices.now column_prices.now place }
+{
+    let left = rest_at(lists, row_prices, column_prices, place);
+    if plan.has(place) {
+        left <= 0
+    } else {
+        left >= 0
+    }
+}
+
+// Whether all pairs are so.
+pub fn are_plain(
+    lists: CountLists<'_>,
+    plan: &Marks<'_>,
+    row_prices: &[i64],
+    column_prices: &[i64],
+) -> bool
+    requires lists { AreCountLists lists }
+    requires plan { length plan.now ≡ length lists.rows.now }
+    requires rows { length row_prices.now ≡ length lists.row_least.now }
+    requires columns { length column_prices.now ≡ length lists.column_least.now }
+    requires single { (k : ℕ) → k < length lists.rows.now → ¬ IsDouble lists plan.now k }
+    ensures { let l = lists.entry in result ≡ true → (k : ℕ) → k < length l.rows.now
+        → IsPairRight l plan.now row_prices.now column_prices.now k }
+{
+    for place in 0..lists.rows.len() {
+        if !is_plain(lists, plan, row_prices, column_prices, place) {
+            return false;
+        }
+    }
+    true
 }
 
 // The first place whose pair isn't right.

@@ -143,6 +143,7 @@ impl Auction {
             price = price.min(price_at(self.dummy_levels.as_slice(), column));
         }
         set_price(state.prices.as_mut_slice(), column, price);
+        self.runs.set_price(column, price);
         if self.dummies > 0 {
             let is_open = dummies < count_at(self.dummy_most.as_slice(), column);
             self.tournament

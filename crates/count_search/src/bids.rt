@@ -1,11 +1,11 @@
 // Bids of rows and of the dummy row.
 use super::auction::Auction;
-use super::offers::{NO_PLACE, Offer, Two, two_best_open, value_at};
+use super::offers::{NO_PLACE, Offer, Two, bring_least, two_best_of_all, two_best_open, value_at};
 use super::problem::{Problem, Row};
 use super::slots::Slot;
 use super::state::State;
 use super::values::{FAR, add_count, count_at, price_at, set_price};
-use search_base::{NOBODY, place_at, select};
+use search_base::{NOBODY, place_at};
 use std::alloc::AllocError;
 
 // Values from here on are out of reach.
@@ -16,12 +16,13 @@ impl Auction {
     #[inline(always)]
     fn two_best(&self, state: &State, row: u32, pairs: Row<'_>) -> Two {
         let (prices, scale) = (state.prices.as_slice(), self.terms.scale);
-        if state.held_of(row) == 0 {
-            if let Some(run) = self.runs.run_of(row, pairs, prices, scale) {
-                return run.two_best();
-            }
+        if state.held_of(row) > 0 {
+            return two_best_open(pairs, self.groups.closed(state, pairs), prices, scale);
         }
-        two_best_open(pairs, self.groups.closed(state, pairs), prices, scale)
+        match self.runs.run_of(row, pairs) {
+            Some(run) => run.two_best(),
+            None => two_best_of_all(pairs, prices, scale),
+        }
     }
 
     // One hand of a row bids.
@@ -44,11 +45,8 @@ impl Auction {
             self.is_failed = true;
             return Ok(());
         }
-        let (column, pair) = match pairs.columns.get(two.place) {
-            Some(column) => (
-                *column as usize,
-                place_at(pairs.first.wrapping_add(two.place)),
-            ),
+        let (column, pair) = match self.runs.column(row, pairs, two.place) {
+            Some(column) => (column, place_at(pairs.first.wrapping_add(two.place))),
             None => (outside, NOBODY),
         };
         let raise = self.capped(two.best, two.second).wrapping_sub(two.best);
@@ -143,7 +141,7 @@ impl Auction {
             self.is_failed = true;
             return Ok(());
         }
-        select(self.offers.as_mut_slice(), hands as usize);
+        bring_least(self.offers.as_mut_slice(), hands as usize);
         let left = match self.offers.get(hands as usize) {
             Some(offer) => offer.value,
             None => FAR,

@@ -112,7 +112,7 @@ fn plain_shortage(problem: &Problem<'_>, state: &State, marks: &mut Marks) -> Op
 
 // A search on its way.
 #[derive(Drop)]
-struct Run<'a, 'b> {
+struct OpenSearch<'a, 'b> {
     alloc: Global,
     problem: &'a Problem<'b>,
     state: State,
@@ -135,7 +135,7 @@ const WARM_ARC_SCANS: u64 = 4;
 
 const WARM_ARC_SCANS_OF_A_HAND: u64 = 2;
 
-impl Run<'_, '_> {
+impl OpenSearch<'_, '_> {
     // The auction, and its cut, with a shortage if it shows one.
     fn bid(&mut self, answer: &mut Answer<'_>) -> Result<Bids, AllocError> {
         let Some(layout) = Layout::of(self.problem, &self.state) else {
@@ -365,7 +365,7 @@ fn search_whole(
     let state = State::new(alloc, problem)?;
     let mut marks = Marks::new(alloc, problem)?;
     let plain = plain_shortage(problem, &state, &mut marks);
-    let mut run = Run {
+    let mut run = OpenSearch {
         alloc,
         problem,
         state,

@@ -48,6 +48,9 @@ impl Groups {
 
     /// Rows take what a plan says.
     pub fn take_plan(&mut self, plan: &[u8]) {
+        if self.taken.is_empty() {
+            return;
+        }
         for (pair, byte) in plan.iter().enumerate() {
             if *byte != 0 {
                 self.set(place_at(pair), 1);

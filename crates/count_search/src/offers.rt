@@ -1,7 +1,7 @@
 // What a row is offered: values of pairs, cost and price, of which less is better.
 use super::problem::Row;
 use super::values::{FAR, price_at};
-use search_base::Valued;
+use search_base::{Valued, select};
 
 /// A pair's value, or that of staying out.
 #[derive(Clone, Copy)]
@@ -29,6 +29,9 @@ pub struct Two {
 
 // A byte of 1, shifted so far to the left, puts a value out of reach.
 const CLOSED: u32 = 61;
+
+// So many are sought one by one.
+const FEW_OFFERS: usize = 6;
 
 /// The place of no pair.
 pub const NO_PLACE: usize = usize::MAX;
@@ -59,6 +62,42 @@ impl Two {
             }
         }
     }
+
+    // The same without branches, which in a short row would go either way.
+    #[inline(always)]
+    fn with_either(self, place: usize, value: i64) -> Two {
+        Two {
+            place: if value < self.best { place } else { self.place },
+            best: self.best.min(value),
+            second: self.second.min(self.best.max(value)),
+        }
+    }
+}
+
+/// Brings the least so many offers to the front, and the next one after them. Few are sought one by one,
+/// which goes without branches.
+pub fn bring_least(offers: &mut [Offer], count: usize) {
+    if count > FEW_OFFERS {
+        select(offers, count);
+        return;
+    }
+    for turn in 0..=count {
+        let least = least_from(offers, turn);
+        if turn < offers.len() && least < offers.len() {
+            offers.swap(turn, least);
+        }
+    }
+}
+
+// The place of the first least offer from a place on.
+#[inline(always)]
+fn least_from(offers: &[Offer], from: usize) -> usize {
+    let (mut place, mut best) = (from, i64::MAX);
+    for (k, offer) in offers.iter().enumerate().skip(from) {
+        place = if offer.value < best { k } else { place };
+        best = best.min(offer.value);
+    }
+    place
 }
 
 #[inline(always)]
@@ -67,46 +106,25 @@ pub fn value_at(column: u32, cost: i64, prices: &[i64], scale: i64) -> i64 {
         .wrapping_add(price_at(prices, column as usize))
 }
 
-// The values of a row's pairs: out of reach where the byte is 1.
-#[derive(Clone, Copy)]
-struct Values<'a> {
-    row: Row<'a>,
-    bytes: &'a [u8],
-    prices: &'a [i64],
-    scale: i64,
+/// The two best of a row's pairs.
+#[inline(always)]
+pub fn two_best_of_all(row: Row<'_>, prices: &[i64], scale: i64) -> Two {
+    let mut two = Two::none();
+    for (k, (column, cost)) in row.columns.iter().zip(row.costs).enumerate() {
+        two = two.with_either(k, value_at(*column, *cost, prices, scale));
+    }
+    two
 }
 
-impl Values<'_> {
-    #[inline(always)]
-    fn value(self, column: u32, cost: i64, byte: u8) -> i64 {
-        let value = value_at(column, cost, self.prices, self.scale);
-        value.wrapping_add(i64::from(byte).wrapping_shl(CLOSED))
-    }
-
-    // Without branches, which in a short row would go either way.
-    #[inline(always)]
-    fn two_best(self) -> Two {
-        let mut two = Two::none();
-        let pairs = self.row.columns.iter().zip(self.row.costs);
-        for (k, ((column, cost), byte)) in pairs.zip(self.bytes).enumerate() {
-            let value = self.value(*column, *cost, *byte);
-            let is_better = value < two.best;
-            two.second = two.second.min(two.best.max(value));
-            two.place = if is_better { k } else { two.place };
-            two.best = two.best.min(value);
-        }
-        two
-    }
-}
-
-/// The two best of a row's pairs whose byte is 0.
+/// The two best of a row's pairs whose byte is 0; where it is 1, a value is out of reach.
 #[inline(always)]
 pub fn two_best_open(row: Row<'_>, bytes: &[u8], prices: &[i64], scale: i64) -> Two {
-    let values = Values {
-        row,
-        bytes,
-        prices,
-        scale,
-    };
-    values.two_best()
+    let mut two = Two::none();
+    let pairs = row.columns.iter().zip(row.costs);
+    for (k, ((column, cost), byte)) in pairs.zip(bytes).enumerate() {
+        let closed = i64::from(*byte).wrapping_shl(CLOSED);
+        let value = value_at(*column, *cost, prices, scale).wrapping_add(closed);
+        two = two.with_either(k, value);
+    }
+    two
 }

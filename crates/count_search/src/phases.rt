@@ -32,8 +32,8 @@ const MOST_PHASES: usize = 64;
 /// No price of a phase is higher.
 pub const HIGHEST_PRICE: i64 = 1 << 60;
 
-// The slackness after a phase of so many bids, and after so many phases in a row in which nobody bid
-// twice.
+// The slackness after a phase of so many bids, and after so many phases in a row with no more bids than
+// hands.
 fn fallen(slackness: i64, bids: u64, hands: u64, quiet: u32) -> i64 {
     let is_war = bids > hands.saturating_mul(BIDS_OF_A_WAR);
     let fall = if is_war {
@@ -65,7 +65,7 @@ impl Auction {
         arc_scans: ArcScans,
     ) -> Result<Auction, AllocError> {
         let groups = Groups::of(alloc, problem, state)?;
-        let runs = Runs::of(alloc, problem)?;
+        let runs = Runs::of(alloc, problem, layout.terms.scale)?;
         Auction::new(alloc, layout.sizes, layout.terms, arc_scans, groups, runs)
     }
 

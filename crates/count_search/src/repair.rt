@@ -158,9 +158,9 @@ impl Repair {
         row: u32,
     ) -> Result<(), AllocError> {
         let pairs = problem.row(row);
-        for (k, column) in pairs.columns.iter().enumerate() {
-            let pair = place_at(pairs.first.wrapping_add(k));
-            if state.is_chosen(pair) {
+        for (k, (column, byte)) in pairs.columns.iter().zip(state.chosen(pairs)).enumerate() {
+            if *byte != 0 {
+                let pair = place_at(pairs.first.wrapping_add(k));
                 self.hold(*column as usize, Holder { row, pair })?;
             }
         }

@@ -1,9 +1,12 @@
-// Rows that list columns one after another: eight of their pairs are looked at together.
+// Rows that list columns one after another: eight of their pairs are looked at together. Their costs
+// stand in half the memory, since looks wait for it most of all, and their values are doubles, of
+// which processors find the least at once.
 use super::offers::{NO_PLACE, Two};
-use super::problem::{Problem, Row};
+use super::problem::{Problem, Row, range_of};
 use super::values::{FAR, count_at};
 use search_base::{NOBODY, place_at};
 use std::alloc::{AllocError, Global};
+use std::num::{nearest_i64_to_f64, saturating_f64_to_i64};
 use std::simd::prelude::*;
 
 const LANES: usize = 8;
@@ -11,10 +14,23 @@ const LANES: usize = 8;
 // Shorter rows are looked at pair by pair.
 const SHORTEST: usize = 2 * LANES;
 
-/// For each row its first column, if the others follow one another.
+// Doubles hold each sum of two whole numbers up to this.
+const MOST_WHOLE: i64 = 1 << 52;
+
+const MOST_COST: i64 = 0x7fff_ffff;
+
+// FAR.
+const FAR_DOUBLE: f64 = 2305843009213693952.0;
+
+/// The rows whose columns follow one another, and what their values are made of.
 #[derive(Drop)]
 pub struct Runs {
+    // The first column of each of these rows, nobody for others.
     firsts: Vec<u32>,
+    // All costs; empty where no row is looked at so.
+    costs: Vec<i32>,
+    prices: Vec<f64>,
+    scale: f64,
 }
 
 // The first column of a row, or nobody where the others don't follow it.
@@ -32,70 +48,160 @@ fn first_of(row: Row<'_>) -> u32 {
     if differing == 0 { first } else { NOBODY }
 }
 
+fn firsts_of(alloc: Global, problem: &Problem<'_>) -> Result<Vec<u32>, AllocError> {
+    let mut firsts = Vec::with_capacity(alloc, problem.row_count())?;
+    for row in 0..place_at(problem.row_count()) {
+        firsts.push(first_of(problem.row(row)))?;
+    }
+    Ok(firsts)
+}
+
+// Whether 32 bits hold all costs, and doubles hold them times the scale.
+fn are_short(costs: &[i64], scale: i64) -> bool {
+    let (least, greatest) = range_of(costs);
+    let most = MOST_WHOLE.checked_div(scale).unwrap_or(0).min(MOST_COST);
+    least >= most.wrapping_neg() && greatest <= most
+}
+
+fn short_of(alloc: Global, costs: &[i64]) -> Result<Vec<i32>, AllocError> {
+    let mut short = vec![in alloc; 0i32; costs.len()]?;
+    for (entry, cost) in short.as_mut_slice().iter_mut().zip(costs) {
+        *entry = i32::try_from(*cost).unwrap_or(0);
+    }
+    Ok(short)
+}
+
+#[inline(always)]
+fn lesser(one: f64, other: f64) -> f64 {
+    if one < other { one } else { other }
+}
+
+#[inline(always)]
+fn greater(one: f64, other: f64) -> f64 {
+    if one > other { one } else { other }
+}
+
 // The two least values of each lane.
 #[derive(Clone, Copy)]
+struct Lanes {
+    best: f64x8,
+    second: f64x8,
+}
+
+impl Lanes {
+    #[inline(always)]
+    fn with(self, values: f64x8) -> Lanes {
+        let is_less = values.simd_lt(self.best);
+        let worse = values.simd_gt(self.best).select(values, self.best);
+        Lanes {
+            best: is_less.select(values, self.best),
+            second: worse.simd_lt(self.second).select(worse, self.second),
+        }
+    }
+}
+
+// The two least values.
+#[derive(Clone, Copy)]
 struct Least {
-    best: i64x8,
-    second: i64x8,
+    best: f64,
+    second: f64,
 }
 
 impl Least {
+    // Without branches, which would go either way.
     #[inline(always)]
-    fn with(self, values: i64x8) -> Least {
+    fn with(self, value: f64) -> Least {
         Least {
-            best: self.best.simd_min(values),
-            second: self.second.simd_min(self.best.simd_max(values)),
+            best: lesser(value, self.best),
+            second: lesser(greater(value, self.best), self.second),
         }
     }
 
-    // The best lane, its value, and the second best value of all.
-    fn two(self) -> Two {
-        let mut two = Two::none();
-        for (lane, value) in self.best.to_array().iter().enumerate() {
-            two = two.with(lane, *value);
+    #[inline(always)]
+    fn of(lanes: Lanes) -> Least {
+        let mut least = Least {
+            best: FAR_DOUBLE,
+            second: FAR_DOUBLE,
+        };
+        for value in lanes.best.to_array().iter() {
+            least = least.with(*value);
         }
-        for value in self.second.to_array().iter() {
-            two.second = two.second.min(*value);
+        for value in lanes.second.to_array().iter() {
+            least.second = lesser(*value, least.second);
         }
-        two
+        least
     }
 }
 
 /// The costs of a row, the prices of its columns, and by what costs are multiplied.
 #[derive(Clone, Copy)]
 pub struct Run<'a> {
-    costs: &'a [i64],
-    prices: &'a [i64],
-    scale: i64,
+    costs: &'a [i32],
+    prices: &'a [f64],
+    scale: f64,
 }
 
 impl Run<'_> {
     #[inline(always)]
-    fn least_of_lanes(self) -> Least {
-        let mut least = Least {
-            best: i64x8::splat(FAR),
-            second: i64x8::splat(FAR),
+    fn values(self, costs: [i32; LANES], prices: [f64; LANES]) -> f64x8 {
+        let costs = i32x8::from_array(costs).cast::<f64>();
+        costs * f64x8::splat(self.scale) + f64x8::from_array(prices)
+    }
+
+    #[inline(always)]
+    fn value(self, cost: i32, price: f64) -> f64 {
+        f64::from(cost) * self.scale + price
+    }
+
+    #[inline(always)]
+    fn least_of_lanes(self) -> Lanes {
+        let mut lanes = Lanes {
+            best: f64x8::splat(FAR_DOUBLE),
+            second: f64x8::splat(FAR_DOUBLE),
         };
-        let scale = i64x8::splat(self.scale);
         let (costs, _) = self.costs.as_chunks::<LANES>();
         let (prices, _) = self.prices.as_chunks::<LANES>();
         for (costs, prices) in costs.iter().zip(prices) {
-            least = least.with(i64x8::from_array(*costs) * scale + i64x8::from_array(*prices));
+            lanes = lanes.with(self.values(*costs, *prices));
+        }
+        lanes
+    }
+
+    #[inline(always)]
+    fn least(self) -> Least {
+        let mut least = Least::of(self.least_of_lanes());
+        let (_, costs) = self.costs.as_chunks::<LANES>();
+        let (_, prices) = self.prices.as_chunks::<LANES>();
+        for (cost, price) in costs.iter().zip(prices) {
+            least = least.with(self.value(*cost, *price));
         }
         least
     }
 
-    // The first place of a lane with this value.
+    // The first place of a value.
     #[inline(always)]
-    fn place_in(self, lane: usize, value: i64) -> usize {
-        let costs = self.costs.iter().skip(lane).step_by(LANES);
-        let prices = self.prices.iter().skip(lane).step_by(LANES);
-        let mut place = lane;
-        for (cost, price) in costs.zip(prices) {
-            if cost.wrapping_mul(self.scale).wrapping_add(*price) == value {
-                return place;
+    fn place_of(self, value: f64) -> usize {
+        let (costs, _) = self.costs.as_chunks::<LANES>();
+        let (prices, _) = self.prices.as_chunks::<LANES>();
+        let mut place = 0usize;
+        for (costs, prices) in costs.iter().zip(prices) {
+            let values = self.values(*costs, *prices);
+            let lanes = values.simd_eq(f64x8::splat(value)).to_bitmask();
+            if lanes != 0 {
+                return place.wrapping_add(lanes.trailing_zeros() as usize);
             }
             place = place.wrapping_add(LANES);
+        }
+        self.place_in_rest(place, value)
+    }
+
+    fn place_in_rest(self, first: usize, value: f64) -> usize {
+        let (_, costs) = self.costs.as_chunks::<LANES>();
+        let (_, prices) = self.prices.as_chunks::<LANES>();
+        for (k, (cost, price)) in costs.iter().zip(prices).enumerate() {
+            if self.value(*cost, *price) == value {
+                return first.wrapping_add(k);
+            }
         }
         NO_PLACE
     }
@@ -103,46 +209,68 @@ impl Run<'_> {
     /// The two best of the row's pairs.
     #[inline(always)]
     pub fn two_best(self) -> Two {
-        let mut two = self.least_of_lanes().two();
-        if two.place != NO_PLACE {
-            two.place = self.place_in(two.place, two.best);
+        let least = self.least();
+        Two {
+            place: self.place_of(least.best),
+            best: saturating_f64_to_i64(least.best),
+            second: saturating_f64_to_i64(least.second),
         }
-        let (_, costs) = self.costs.as_chunks::<LANES>();
-        let (_, prices) = self.prices.as_chunks::<LANES>();
-        let mut place = self.costs.len().saturating_sub(costs.len());
-        for (cost, price) in costs.iter().zip(prices) {
-            two = two.with(place, cost.wrapping_mul(self.scale).wrapping_add(*price));
-            place = place.wrapping_add(1);
-        }
-        two
     }
 }
 
 impl Runs {
-    pub fn of(alloc: Global, problem: &Problem<'_>) -> Result<Runs, AllocError> {
-        let mut firsts = Vec::with_capacity(alloc, problem.row_count())?;
-        for row in 0..place_at(problem.row_count()) {
-            firsts.push(first_of(problem.row(row)))?;
+    pub fn of(alloc: Global, problem: &Problem<'_>, scale: i64) -> Result<Runs, AllocError> {
+        let firsts = firsts_of(alloc, problem)?;
+        let is_any = firsts.iter().any(|first| *first != NOBODY);
+        let mut runs = Runs {
+            firsts,
+            costs: Vec::new(alloc),
+            prices: Vec::new(alloc),
+            scale: nearest_i64_to_f64(scale),
+        };
+        if is_any && are_short(problem.costs, scale) {
+            runs.costs = short_of(alloc, problem.costs)?;
+            runs.prices = vec![in alloc; 0.0; problem.column_count()]?;
         }
-        Ok(Runs { firsts })
+        Ok(runs)
+    }
+
+    /// A column has this price now. Where doubles don't hold it, rows are looked at pair by pair from
+    /// here on.
+    #[inline(always)]
+    pub fn set_price(&mut self, column: usize, price: i64) {
+        if price > MOST_WHOLE && price < FAR {
+            self.costs.clear();
+        }
+        if column < self.prices.len() {
+            self.prices[column] = nearest_i64_to_f64(price);
+        }
     }
 
     /// The pairs of a row, if its columns follow one another.
     #[inline(always)]
-    pub fn run_of<'a>(
-        &self,
-        place: u32,
-        row: Row<'a>,
-        prices: &'a [i64],
-        scale: i64,
-    ) -> Option<Run<'a>> {
-        let first = *self.firsts.get(place as usize)?;
-        let first = first as usize;
-        let prices = prices.get(first..first.saturating_add(row.costs.len()))?;
+    pub fn run_of(&self, place: u32, row: Row<'_>) -> Option<Run<'_>> {
+        let first = *self.firsts.get(place as usize)? as usize;
+        let count = row.columns.len();
+        let costs = self.costs.get(row.first..row.first.saturating_add(count))?;
+        let prices = self.prices.get(first..first.saturating_add(count))?;
+        let scale = self.scale;
         Some(Run {
-            costs: row.costs,
+            costs,
             prices,
             scale,
         })
+    }
+    /// The column at a place of a row.
+    #[inline(always)]
+    pub fn column(&self, place: u32, row: Row<'_>, at: usize) -> Option<usize> {
+        if at >= row.columns.len() {
+            return None;
+        }
+        let first = count_at(self.firsts.as_slice(), place as usize);
+        if first == NOBODY {
+            return Some(count_at(row.columns, at) as usize);
+        }
+        Some((first as usize).wrapping_add(at))
     }
 }

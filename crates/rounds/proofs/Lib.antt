@@ -1,4 +1,6 @@
 pub mod Filled
+pub mod Placed
+pub mod Listed
 pub mod Alike
 pub mod Runs
 pub mod Waiting

@@ -60,6 +60,9 @@ priced false b = refl
 pub mid_base : (s : ScaledProblem) (b mid : BookData) → b.base ≡ s → mid ≡ next_if_over b → mid.base ≡ s
 mid_base s b mid base e = ap (λ (x : BookData). x.base) e ∙ based (is_over b) b ∙ base
 
+pub mid_prices : (b mid : BookData) → mid ≡ next_if_over b → prices_of mid ≡ prices_of b
+mid_prices b mid e = ap prices_of e ∙ priced (is_over b) b
+
 -- one round more
 pub running_more : (s : ScaledProblem) (prices : List ℤ) (b mid new : BookData) → IsRunning s prices b →
     mid ≡ next_if_over b → IsRound mid came.More new → new.base ≡ mid.base → IsRunning s prices new
@@ -73,7 +76,7 @@ running_more s prices b mid new is e round_is same =
     }
 
 pub running_smaller : (b mid new : BookData) → mid ≡ next_if_over b → IsRound mid came.More new → room (prices_of new) < room (prices_of b)
-running_smaller b mid new e round_is = subst (λ p. room (prices_of new) < room p) (ap prices_of e ∙ priced (is_over b) b) round_is.3
+running_smaller b mid new e round_is = subst (λ p. room (prices_of new) < room p) (mid_prices b mid e) round_is.3
 
 -- the run ends at a person
 pub running_halted : (s : ScaledProblem) (prices : List ℤ) (b mid new : BookData) (person : ℕ) (outcome : Outcome) →

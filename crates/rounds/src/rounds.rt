@@ -4,7 +4,8 @@ ghost use Rattle.std.specs.Prelude.{None, IfSome, IfNone, IfOk, IfErr, OnErr, On
 ghost use Rattle.std.specs.Arc.{arc_value};
 ghost use Rattle.assign_core.specs.Numbered.{IsNumber, numbered};
 ghost use Rattle.scaled_values.specs.Scaled.{greatest_of};
-ghost use Rattle.auction_book.specs.Book.{Holds};
+ghost use Rattle.auction_book.specs.Book.{Holds, prices_of};
+ghost use Rattle.candidates.specs.Candidates.{HaveCandidates};
 ghost use Rattle.auction_book.specs.Changes.{claimed, released};
 ghost use Rattle.auction_book.specs.Follows.{GoesOn};
 ghost use Rattle.auction_book.specs.Free.{IsFree};
@@ -21,6 +22,7 @@ use super::similar::SimilarPersons;
 use assign_core::{GREATEST_FIRST_PRICE, Outcome, Person, Prices, SolveFault};
 use auction_book::{Book, Claim, Refused, begin_next_if_over};
 use bidder::{Bid, Offer};
+use candidates::CandidateLists;
 use hall_refuter::{Search, refute};
 use scaled_values::Scaled;
 use std::alloc::{AllocError, Global};
@@ -120,6 +122,7 @@ fn submit_all(book: &mut Book, offers: &[Offer]) -> Result<Option<Person>, Alloc
 fn run_shared_round<O: Offering>(
     offering: &mut O,
     similar: &mut SimilarPersons,
+    lists: &mut CandidateLists,
     book: &mut Book,
     persons: &mut Vec<Person>,
     offers: &mut Vec<Offer>,
@@ -127,6 +130,7 @@ fn run_shared_round<O: Offering>(
     requires ready { O.ready }
     requires rest { IsAtRest book.old }
     requires similar { AreSimilar book.old.base similar.old }
+    requires lists { HaveCandidates book.old.base (prices_of book.old) lists.old }
     ensures round { IfOk result (λ came. IsRound book.old came book.new) }
     ensures persons { OnOk result (persons.new.items ≡ book.old.queue) }
     ensures offers { OnOk result (offers.new.items ≡ waiting_offers book.old) }
@@ -134,6 +138,7 @@ fn run_shared_round<O: Offering>(
     ensures going { IsGoing book.new }
     ensures goes_on { GoesOn book.old book.new }
     ensures similar { AreSimilar book.old.base similar.new }
+    ensures lists { OnOk result (HaveCandidates book.old.base (prices_of book.new) lists.new) }
 {
     claim_all(book, persons)?;
     if persons.is_empty() {
@@ -148,6 +153,7 @@ fn run_shared_round<O: Offering>(
         book.prices(),
         ask,
         persons.as_slice(),
+        lists,
         offers,
     )?;
     match submit_all(book, offers.as_slice())? {
@@ -157,11 +163,12 @@ fn run_shared_round<O: Offering>(
 }
 
 /// The rounds of a problem, one by one: the persons who bid, and their offers. Persons with the
-/// same row share a scan of it.
+/// same row share a scan of it; no candidates are kept.
 ///
 /// A contract sees the problem, the persons who bid in the last round, and their offers.
 #[derive(Drop)]
 pub struct Rounds {
+    alloc: Global,
     scaled: Arc<Scaled>,
     similar: SimilarPersons,
     persons: Vec<Person>,
@@ -195,6 +202,7 @@ impl Rounds {
     {
         let similar = SimilarPersons::find(alloc, &scaled)?;
         Ok(Rounds {
+            alloc,
             scaled,
             similar,
             persons: Vec::new(alloc),
@@ -228,9 +236,11 @@ impl Rounds {
         ensures goes_on { GoesOn book.old book.new }
         ensures problem { self.new.base ≡ self.old.base }
     {
+        let mut lists = CandidateLists::none(self.alloc);
         run_shared_round(
             offering,
             &mut self.similar,
+            &mut lists,
             book,
             &mut self.persons,
             &mut self.offers,
@@ -292,12 +302,24 @@ fn run_rounds<O: Offering>(
     ensures rounds { IfOk result (IsOfRounds (arc_value scaled) prices) }
     ensures proof { IfOk result (IsProof (arc_value scaled)) }
 {
+    // For the proof only: the prices are a table.
+    let _table = prices.as_slice();
     let n = scaled.n();
-    let mut rounds = Rounds::new(alloc, scaled.clone()?)?;
+    let mut similar = SimilarPersons::find(alloc, &scaled)?;
+    let mut lists = CandidateLists::new(alloc, &scaled);
     let mut book = Book::open_from(alloc, scaled, prices, n)?;
+    let mut persons = Vec::new(alloc);
+    let mut offers = Vec::new(alloc);
     'rounds: loop {
         begin_next_if_over(alloc, &mut book)?;
-        match rounds.run_round(offering, &mut book)? {
+        match run_shared_round(
+            offering,
+            &mut similar,
+            &mut lists,
+            &mut book,
+            &mut persons,
+            &mut offers,
+        )? {
             Round::Over => return finish(alloc, &book),
             Round::Halted(person) => return halt(alloc, &book, person),
             Round::More => {}

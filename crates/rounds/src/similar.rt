@@ -5,12 +5,14 @@ ghost use Rattle.assign_core.specs.Numbered.{IsNumber, numbered};
 ghost use Rattle.assign_core.specs.Rows.{IsSize};
 ghost use Rattle.scaled_values.specs.Scaled.{ScaledProblem};
 ghost use Rattle.bidder.specs.Offers.{benefits_at};
+ghost use Rattle.candidates.specs.Candidates.{HaveCandidates};
 ghost use Rattle.rounds.specs.Offers.{AreMade, CanOffer, named};
 ghost use Rattle.rounds.specs.inside.Similar.{AreSimilar, HasAlike, IsGathered, IsPlaced};
 
 use super::offers::Offering;
 use assign_core::{Benefit, Object, Person, Prices};
 use bidder::{Ask, BelowFloor, Bid, Offer};
+use candidates::CandidateLists;
 use scaled_values::{Row, Scaled};
 use std::alloc::{AllocError, Global};
 use std::hash::{FoldHasher, Hasher};
@@ -309,18 +311,21 @@ impl SimilarPersons {
         prices: &Prices,
         ask: Ask,
         persons: &[Person],
+        lists: &mut CandidateLists,
         offers: &mut Vec<Offer>,
     ) -> Result<(), AllocError>
         requires ready { O.ready }
         requires can { CanOffer scaled.now prices.now ask persons.now }
+        requires lists { HaveCandidates scaled.now prices.now lists.old }
         requires few { length persons.now ≤ length scaled.now.problem }
         requires size { IsSize (length scaled.now.problem) }
         requires similar { AreSimilar scaled.now self.old }
         ensures made { AreMade scaled.now prices.now ask persons.now result offers.new.items }
+        ensures lists { HaveCandidates scaled.now prices.now lists.new }
         ensures similar { AreSimilar scaled.now self.new }
     {
         if !self.some || persons.len() < 2 {
-            return offering.make(scaled, prices, ask, persons, offers);
+            return offering.make(scaled, prices, ask, persons, lists, offers);
         }
         gather(
             self.alike.as_slice(),
@@ -330,9 +335,16 @@ impl SimilarPersons {
             &mut self.places,
         )?;
         if self.firsts.len() == persons.len() {
-            return offering.make(scaled, prices, ask, persons, offers);
+            return offering.make(scaled, prices, ask, persons, lists, offers);
         }
-        offering.make(scaled, prices, ask, self.firsts.as_slice(), &mut self.made)?;
+        offering.make(
+            scaled,
+            prices,
+            ask,
+            self.firsts.as_slice(),
+            lists,
+            &mut self.made,
+        )?;
         hand_out(
             self.made.as_slice(),
             self.places.as_slice(),

@@ -30,6 +30,7 @@ from .narrowed import Part, at, fixed, narrowed, reduced_costs
 _BITS = GREATEST_COST.bit_length() - 1
 # The slack of counts and of pairs, as multiples of what a best plan may pay: more than what numbers move.
 _COUNT_SLACK, _PAIR_SLACK = 4, 32
+_IMPOSSIBLE = "a level's plan was found to be possible, and then it wasn't: please report this problem"
 
 
 class Given(NamedTuple):
@@ -104,6 +105,15 @@ def best_of(counted: Counted, given: Optional[Given] = None, is_part: bool = Fal
 
 def _level(counted: Counted, given: Given, is_part: bool) -> Union[_Level, Marked]:
     """The first level of a problem, with what is chosen of what it left open."""
+    opened = _opened(counted, given, is_part)
+    if isinstance(opened, Marked):
+        return opened
+    level, left = opened
+    return level._replace(chosen=_rest(left))
+
+
+def _opened(counted: Counted, given: Given, is_part: bool) -> Union[Tuple[_Level, Counted], Marked]:
+    """The first level of a problem, and what it left open, at its reduced costs."""
     numbers, shift = given.costs.rounded(_BITS)
     costs = numbers * given.sign if given.costs.numpy else array("q", [given.sign * cost for cost in numbers])
     found = solved(counted._replace(costs=costs), is_part)
@@ -124,21 +134,27 @@ def _level(counted: Counted, given: Given, is_part: bool) -> Union[_Level, Marke
     left = [cost - decided[0][row] - decided[1][column] for cost, (row, column) in zip(
         exact, part.named(zip(part.counted.rows, part.counted.columns)))]
     rows, columns = ([number * unit for number in own] for own in duals)
-    return _Level(costs, part._replace(counted=part.counted._replace(costs=exact)),
-                  _rest(part.counted._replace(costs=left)), unit, rows, columns, denominator)
+    level = _Level(costs, part._replace(counted=part.counted._replace(costs=exact)), None, unit, rows, columns,
+                   denominator)
+    return level, part.counted._replace(costs=left)
 
 
 def _rest(counted: Counted) -> Any:
-    """The best plan of what a level left open."""
-    if counted.in_range():
-        found: Union[Best, Marked] = solved(counted, True)
-        if not isinstance(found, Marked):
-            return found.plan
-    else:
-        level = _level(counted, Given(AnyWholeNumbers(counted.costs), 1), True)
-        if not isinstance(level, Marked):
-            return level.part.plan(level.chosen, len(counted.rows))
-    raise RuntimeError("a level's plan was found to be possible, and then it wasn't: please report this problem")
+    """The best plan of what a level left open: level by level, and back. There may be hundreds."""
+    levels: List[Tuple[Part, int]] = []
+    while not counted.in_range():
+        opened = _opened(counted, Given(AnyWholeNumbers(counted.costs), 1), True)
+        if isinstance(opened, Marked):
+            raise RuntimeError(_IMPOSSIBLE)
+        levels.append((opened[0].part, len(counted.rows)))
+        counted = opened[1]
+    found: Union[Best, Marked] = solved(counted, True)
+    if isinstance(found, Marked):
+        raise RuntimeError(_IMPOSSIBLE)
+    chosen = found.plan
+    for part, pairs in reversed(levels):
+        chosen = part.plan(chosen, pairs)
+    return chosen
 
 
 # The check.

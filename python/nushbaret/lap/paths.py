@@ -3,14 +3,23 @@ a row gets another column at the least cost more. Rows and columns that stay out
 dummy row, which cost nothing."""
 import heapq
 from itertools import repeat
-from typing import Any, Dict, FrozenSet, Iterable, List, NamedTuple, Optional, Sequence, Set, Tuple
+from typing import AbstractSet, Any, Dict, FrozenSet, Iterable, List, NamedTuple, Optional, Sequence, Set, Tuple, Union
 
 INFINITE = float("inf")
 # So many rows show what reduced costs are usual.
 SAMPLED_ROWS = 32
+# So many rows of a matrix are looked at together.
+_ROWS_AT_ONCE = 64
 NOBODY: FrozenSet[int] = frozenset()
 
 Choice = Tuple[int, int]
+# A length, or an infinite one.
+Length = Union[int, float]
+
+
+def _greatest(numbers: List[int]) -> int:
+    """The greatest absolute value."""
+    return max(max(numbers), -min(numbers))
 
 
 class Subproblem(NamedTuple):
@@ -36,17 +45,32 @@ class PathSearch(NamedTuple):
     far: Dict[int, Any]
 
 
+class Branch(NamedTuple):
+    """The plans of a part that agree with its best one in the rows below a row, and differ from it there: by how much
+    they cost more at least, and the choice of the row where it stays out in the best one."""
+
+    more: Length
+    row: int
+    choice: Optional[Choice]
+
+
 class Paths:
     """The columns that each row may have, with their costs, and the paths along them. `rows_out` and `columns_out` say
-    whether some stay out."""
+    whether some stay out. `matrix` has the costs in an array of 64 bits, if there is one."""
 
-    def __init__(self, n_columns: int, lists: List[Any], rows_out: bool, columns_out: bool):
+    def __init__(self, n_columns: int, lists: List[Any], rows_out: bool, columns_out: bool, matrix: Any = None):
         self.n_rows, self.n_columns, self.rows_out, self.columns_out = len(lists), n_columns, rows_out, columns_out
-        self.lists = lists + [(range(n_columns if columns_out else 0), repeat(0))]
+        self.lists, self.matrix = lists + [(range(n_columns if columns_out else 0), repeat(0))], matrix
 
-    def usual_bound(self, rows: List[int], columns: List[int], count: int) -> int:
+    def usual_bound(self, rows: List[int], columns: List[int], count: int, numpy: Any = None) -> int:
         """A reduced cost up to which a row has about so many pairs: by some of the rows."""
         some = range(0, self.n_rows, max(1, self.n_rows // SAMPLED_ROWS))
+        if self.matrix is not None and _greatest(rows + columns) < 2**61:
+            costs = self.matrix[::some.step]
+            if max(int(costs.max()), -int(costs.min())) < 2**61:
+                reduced = costs - numpy.array(rows[:-1])[::some.step, None] - numpy.array(columns[:-1])
+                place = min(count * len(some), reduced.size) - 1
+                return int(numpy.partition(reduced.ravel(), place)[place])
         found: List[int] = heapq.nsmallest(count * len(some), (cost - columns[column] - rows[row] for row in some
                                                     for column, cost in zip(*self.lists[row])))
         return found[-1] if found else 0
@@ -54,32 +78,42 @@ class Paths:
     def within(self, rows: List[int], columns: List[int], most: int, numpy: Any = None) -> "Paths":
         """The paths along pairs of a reduced cost of at most so much: all that are no longer."""
         limits = [most + dual for dual in columns]
-        is_small = max(abs(bound) for bound in limits + rows) < 2**62
-        bounds = numpy.array(limits[:self.n_columns], numpy.int64) if numpy and is_small else None
+        if self.matrix is not None and _greatest(limits + rows) < 2**62:
+            lists = self._near_in_matrix(numpy, numpy.array(rows[:-1]), numpy.array(limits[:-1]))
+            return Paths(self.n_columns, lists, self.rows_out, self.columns_out)
         lists = []
         for row, dual in enumerate(rows[:self.n_rows]):
             own, values = self.lists[row]
-            if bounds is not None and isinstance(values, memoryview):
-                kept = numpy.flatnonzero(numpy.asarray(values) <= bounds + dual).tolist()
-                lists.append((kept, [values[column] for column in kept]))
-                continue
             places = [place for place, column in enumerate(own) if values[place] - dual <= limits[column]]
             lists.append(([own[place] for place in places], [values[place] for place in places]))
         return Paths(self.n_columns, lists, self.rows_out, self.columns_out)
+
+    def _near_in_matrix(self, numpy: Any, rows: Any, limits: Any) -> List[Any]:
+        """Columns and costs of each row up to a limit of the column and a dual of the row together."""
+        lists: List[Any] = []
+        for first in range(0, self.n_rows, _ROWS_AT_ONCE):
+            costs = self.matrix[first:first + _ROWS_AT_ONCE]
+            near, columns = (costs <= rows[first:first + _ROWS_AT_ONCE, None] + limits).nonzero()
+            ends = numpy.searchsorted(near, numpy.arange(len(costs) + 1)).tolist()
+            numbers, values = columns.tolist(), costs[near, columns].tolist()
+            lists += [(numbers[begin:end], values[begin:end]) for begin, end in zip(ends, ends[1:])]
+        return lists
 
     def choices(self, row: int) -> Iterable[Choice]:
         choices = zip(*self.lists[row])
         return [*choices, (self.n_columns, 0)] if self.rows_out and row < self.n_rows else choices
 
-    def closed(self, part: Subproblem) -> Set[int]:
-        """The columns of the rows that a part keeps."""
-        return {column for column in part.columns[:part.first] if column < self.n_columns}
+    def closed(self, part: Subproblem, first: Optional[int] = None) -> Set[int]:
+        """The columns of the rows that a part keeps, or of those below another row."""
+        kept = part.columns[:part.first if first is None else first]
+        return {column for column in kept if column < self.n_columns}
 
     def holders(self, part: Subproblem) -> List[int]:
-        """The row of each column, which is the dummy row for columns that are out."""
+        """The row of each column, which is the dummy row for columns that are out, and for staying out."""
         holder = [self.n_rows] * (self.n_columns + 1)
         for row, column in enumerate(part.columns):
             holder[column] = row
+        holder[self.n_columns] = self.n_rows
         return holder
 
     def cost(self, row: int, column: int) -> int:
@@ -96,6 +130,50 @@ class Paths:
         return next((column for column, cost in self.choices(row)
                      if cost - base == part.column_duals[column] and column not in part.banned
                      and (column not in taken or column == self.n_columns)), 0)
+
+    def branches(self, part: Subproblem, holder: List[int]) -> List[Branch]:
+        """Where other plans of a part branch off from its best one, in the order in which they can be next; those of
+        which there is no plan last.
+
+        Another plan changes rows in circles. The first row of a circle leaves its column for that of a row after it,
+        and one after it takes its column: these two reduced costs it pays at least."""
+        leaving, entering = self._least_changes(part, holder)
+        found = []
+        for row in range(part.first, self.n_rows):
+            if part.columns[row] == self.n_columns:
+                found += self._branches_in(part, row)
+            elif INFINITE in (leaving[row], entering[row]):
+                found.append(Branch(INFINITE, row, None))
+            else:
+                found.append(Branch(leaving[row] + entering[row], row, None))
+        # Of the plans of one cost those come first that branch off late.
+        return sorted(found, key=lambda branch: (branch.more, branch.row if branch.more else -branch.row))
+
+    def _branches_in(self, part: Subproblem, row: int) -> List[Branch]:
+        """Where plans branch off in which a row has a column that stays out in the best one."""
+        base, closed = part.row_duals[row], self.closed(part, row)
+        banned = part.banned if row == part.first else NOBODY
+        return [Branch(cost - base - part.column_duals[column], row, (column, cost))
+                for column, cost in zip(*self.lists[row]) if column not in closed and column not in banned]
+
+    def _least_changes(self, part: Subproblem, holder: List[int]) -> Tuple[List[Length], List[Length]]:
+        """The least reduced cost at which each row can leave its column for that of a row after it, or for one that is
+        out, and at which one after it, or the dummy row, can take its column."""
+        rows, columns, out = part.row_duals, part.column_duals, -part.row_duals[-1]
+        leaving: List[Length] = [INFINITE] * self.n_rows
+        entering: List[Length] = [out - columns[own] if self.columns_out else INFINITE for own in part.columns]
+        for row in range(part.first, self.n_rows):
+            base, banned = rows[row], part.banned if row == part.first else NOBODY
+            least: Length = INFINITE
+            for column, cost in self.choices(row):
+                other, more = holder[column], cost - base - columns[column]
+                if other > row:
+                    if more < least and column not in banned:
+                        least = more
+                elif other < row and more < entering[other]:
+                    entering[other] = more
+            leaving[row] = least
+        return leaving, entering
 
     def search(self, part: Subproblem, holder: List[int], closed: Set[int], row: int, choices: Iterable[Choice],
                 most: float) -> PathSearch:
@@ -161,10 +239,11 @@ class Paths:
                 rows[other] += max(whole - found.far[column], 0)
         return Subproblem(self.changed(part, found, row), part.cost + whole, rows, columns, first, banned)
 
-    def first_of_its_cost(self, part: Subproblem) -> Subproblem:
-        """The part with that one of its best plans whose columns come first, row by row."""
-        plan, closed = _TightPlan(self, part), self.closed(part)
-        for row in range(part.first, self.n_rows):
+    def first_of_its_cost(self, part: Subproblem, ties: AbstractSet[int]) -> Subproblem:
+        """The part with that one of its best plans whose columns come first, row by row. The first change is in a row
+        of `ties`."""
+        plan, closed = _TightPlan(self, part), self.closed(part, min(ties))
+        for row in range(min(ties), self.n_rows):
             banned = part.banned if row == part.first else NOBODY
             base = part.row_duals[row]
             for column, cost in self.choices(row):

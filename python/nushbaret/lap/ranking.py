@@ -2,7 +2,8 @@
 
 Murty (1968): all plans but a best one are split by the first row whose column differs from that plan's. The best plan
 of each part is one shortest alternating path away, in reduced costs, which are never below 0; the duals that the path
-leaves belong to that part. Rows and columns that stay out are held by one dummy column and one dummy row, which cost
+leaves belong to that part. A part waits by the least that its plans can cost, and is looked at once that comes next
+(Miller, Stone and Cox 1997). Rows and columns that stay out are held by one dummy column and one dummy row, which cost
 nothing.
 
 The library checks each plan before it is handed out: the duals of its part prove that it is a best plan of the part.
@@ -15,15 +16,16 @@ from array import array
 from bisect import insort
 from fractions import Fraction
 from itertools import compress
-from typing import AbstractSet, Any, Iterable, Iterator, List, Optional, Sequence, Tuple
+from typing import AbstractSet, Any, Iterable, Iterator, List, NamedTuple, Optional, Sequence, Tuple
 
 from ..costs.kinds import WholeNumbers, whole_numbers
+from ..costs.limits import GREATEST_PRICE
 from ..costs.numbers import ONE, Ratio, Unit, in_unit, unit_of
 from ..costs.problem import AssignmentProblem, costs_of_pairs, in_whole_numbers, lists_of
 from . import library
 from .duals import duals_of_whole
 from .matching import Group, prove_short
-from .paths import INFINITE, NOBODY, SAMPLED_ROWS, Choice, PathSearch, Paths, Subproblem
+from .paths import INFINITE, NOBODY, SAMPLED_ROWS, Branch, Choice, PathSearch, Paths, Subproblem
 from .plan_check import check_problem
 from .proved import Duals
 from .solving import BestPlan, least_sum
@@ -31,6 +33,9 @@ from .solving import BestPlan, least_sum
 
 # So many pairs of a row are looked at first, on average; then so many times as many. Few pairs are looked at at once.
 _FIRST_PAIRS, _TIMES, _FEW = 3, 6, 2048
+# What waits in line, in the order of one cost: a branch that wasn't followed, a part whose plan need not be the first
+# one of its cost, and one whose plan is.
+_BRANCH, _FOUND, _FIRST = range(3)
 
 
 class Ranking:
@@ -44,7 +49,7 @@ class Ranking:
         self.sign = -1 if problem.maximize else 1
         self.waiting: List[Tuple[Any, ...]] = []
         self.costs: List[int] = []
-        self.count = 0
+        self.count, self.wanted = 0, 1
         self.longest: float = INFINITE
         self._begin_near(_FIRST_PAIRS)
 
@@ -67,7 +72,7 @@ class Ranking:
         self.unit = _common(problem.unit, unit)
         step, of_duals = self.unit.denominator // problem.unit.denominator, self.unit.denominator // unit.denominator
         self.all_paths = Paths(problem.n_columns, _times(lists_of(problem), step), len(rows) < problem.n_rows,
-                               len(rows) < problem.n_columns)
+                               len(rows) < problem.n_columns, _matrix_of(problem) if step == 1 else None)
         self.paths, self.longest = self.all_paths, INFINITE
         own, cost = [problem.n_columns] * problem.n_rows, sum(in_unit(ratio, self.unit) for ratio in self.ratios)
         for row, column in zip(rows, columns):
@@ -93,7 +98,7 @@ class Ranking:
         rows, columns = self.whole.row_duals, self.whole.column_duals
         pairs = sum(len(values) for _, values in self.all_paths.lists[:-1])
         while count * self.all_paths.n_rows < pairs > _FEW:
-            self.longest = self.all_paths.usual_bound(rows, columns, count)
+            self.longest = self.all_paths.usual_bound(rows, columns, count, self.problem.numpy)
             self.paths = self.all_paths.within(rows, columns, self.longest, self.problem.numpy)
             self._clear()
             yield False
@@ -110,81 +115,109 @@ class Ranking:
         for _ in self._narrowed():
             self._wait(self.whole)
             for place in range(count):
-                part = self._take()
-                if part is None:
+                self.wanted = count - place
+                taken = self._take()
+                if taken is None:
                     break
                 if place >= done:
                     done += 1
-                    yield part
-                if place + 1 < count:
-                    self._split(part, count - 1 - place)
+                    yield taken.part
+                self._put_branch(taken, 0)
             if done >= count:
                 return
 
     def next_one(self) -> Optional[Subproblem]:
         """The part of the best plan but the whole problem's; None if there is no other plan."""
         for is_whole in self._narrowed():
-            self._split(self.whole, 1)
-            part = self._take()
-            if part is not None or is_whole:
-                return part
+            self.wanted = 1
+            self._put_branch(self._branching(self.whole), 0)
+            taken = self._take()
+            if taken is not None or is_whole:
+                return taken and taken.part
         return None
 
     def _wait(self, part: Subproblem) -> None:
         """Puts a part in line: at first by the least columns that its best plans can begin with."""
         insort(self.costs, part.cost)
-        self._put(part, 0, part.columns[:part.first] + [self.paths.least_column(part)])
+        self._put(part.cost, part.columns[:part.first] + [self.paths.least_column(part)], _FOUND, part)
 
-    def _put(self, part: Subproblem, stage: int, key: List[int]) -> None:
+    def _put(self, cost: float, key: List[int], stage: int, held: Any) -> None:
         self.count += 1
-        heapq.heappush(self.waiting, (part.cost, key, stage, self.count, part))
+        heapq.heappush(self.waiting, (cost, key, stage, self.count, held))
 
-    def _take(self) -> Optional[Subproblem]:
+    def _take(self) -> Optional["_Taken"]:
         """The next part in order, with its plan checked; None where there is none."""
         while self.waiting:
             library.look_at_time()
-            part: Subproblem
-            _, _, stage, _, part = heapq.heappop(self.waiting)
-            if stage:
+            _, _, stage, _, held = heapq.heappop(self.waiting)
+            if stage == _FIRST:
                 self.costs.pop(0)
-                prove(self.paths, part)
-                return part
-            part = self.paths.first_of_its_cost(part)
-            self._put(part, 1, part.columns)
+                prove(self.paths, held.part)
+                taken: _Taken = held
+                return taken
+            if stage == _BRANCH:
+                self._put_branch(held[0], held[1] + 1)
+                self._follow(*held)
+            else:
+                taken = self._first_of_its_cost(held)
+                self._put(taken.part.cost, taken.part.columns, _FIRST, taken)
         return None
+
+    def _branching(self, part: Subproblem) -> "_Taken":
+        holder = self.paths.holders(part)
+        return _Taken(part, holder, self.paths.branches(part, holder))
+
+    def _first_of_its_cost(self, part: Subproblem) -> "_Taken":
+        """A part with that one of its best plans whose columns come first, and where others branch off from it."""
+        taken = self._branching(part)
+        ties = {branch.row for branch in taken.branches if not branch.more}
+        if not ties:
+            return taken
+        first = self.paths.first_of_its_cost(part, ties)
+        return taken if first.columns == part.columns else self._branching(first)
 
     def pairs(self, part: Subproblem) -> Tuple[List[int], List[int]]:
         """Rows and columns of a part's plan."""
         rows = [row for row, column in enumerate(part.columns) if column < self.paths.n_columns]
         return rows, [part.columns[row] for row in rows]
 
-    def _split(self, part: Subproblem, wanted: int) -> None:
-        """Puts in line the parts of all plans of a part but its best one, as far as they can be among so many that are
-        wanted. Where the row that differs stays out in the best plan, there is a part for each column that it may
-        have."""
-        paths, holder, closed = self.paths, self.paths.holders(part), self.paths.closed(part)
-        for row in range(part.first, paths.n_rows):
-            own, most = part.columns[row], self._most(part, wanted)
-            banned = part.banned if row == part.first else NOBODY
-            choices = [choice for choice in paths.choices(row) if choice[0] not in banned and choice[0] != own]
-            if own < paths.n_columns:
-                found = paths.search(part, holder, closed, row, choices, most)
-                if found.length is not None:
-                    self._wait(paths.after(part, found, row, row, banned | {own}))
-                elif most == INFINITE:
-                    prove_empty(paths, part, row, choices, found, closed)
-                closed.add(own)
-                continue
-            for column, cost in choices:
-                if cost - part.row_duals[row] - part.column_duals[column] <= most:
-                    found = paths.search(part, holder, closed, row, [(column, cost)], self._most(part, wanted))
-                    if found.length is not None:
-                        self._wait(paths.after(part, found, row, row + 1, NOBODY))
+    def _put_branch(self, taken: "_Taken", place: int) -> None:
+        """Puts a branch of a part in line, unless its plans can't be among those that are wanted: by what they cost at
+        least, and by the least columns that they can begin with."""
+        if place == len(taken.branches):
+            return
+        part, (more, row, choice) = taken.part, taken.branches[place]
+        if more <= self._most(part):
+            # Of the same cost there is no plan with a lower column.
+            column = choice[0] if choice else 0 if more else part.columns[row] + 1
+            cost = INFINITE if more == INFINITE else part.cost + more
+            self._put(cost, part.columns[:row] + [column], _BRANCH, (taken, place))
 
-    def _most(self, part: Subproblem, wanted: int) -> float:
-        """How long a path may be, so that what it leads to can be among so many that are wanted."""
+    def _follow(self, taken: "_Taken", place: int) -> None:
+        """Puts the part of the plans of a branch in line, if one can be among those that are wanted."""
+        part, (_, row, choice), paths, most = taken.part, taken.branches[place], self.paths, self._most(taken.part)
+        closed, banned = paths.closed(part, row), part.banned if row == part.first else NOBODY
+        banned = NOBODY if choice else banned | {part.columns[row]}
+        choices = [choice] if choice else [other for other in paths.choices(row) if other[0] not in banned]
+        found = paths.search(part, taken.holder, closed, row, choices, most)
+        if found.length is not None:
+            self._wait(paths.after(part, found, row, row + 1 if choice else row, banned))
+        elif most == INFINITE and not choice:
+            prove_empty(paths, part, row, choices, found, closed)
+
+    def _most(self, part: Subproblem) -> float:
+        """How long a path may be, so that what it leads to can be among the plans that are wanted."""
         longest = self.longest if self.longest == INFINITE else self.longest - (part.cost - self.whole.cost)
+        wanted = self.wanted
         return min(longest, self.costs[wanted - 1] - part.cost) if len(self.costs) >= wanted else longest
+
+
+class _Taken(NamedTuple):
+    """A part with the first one of its best plans, the row of each column, and where other plans branch off."""
+
+    part: Subproblem
+    holder: List[int]
+    branches: List[Branch]
 
 
 def plans_in_order(best: BestPlan, count: int) -> Iterator[Tuple[List[int], List[int]]]:
@@ -215,6 +248,14 @@ def near_pairs(problem: AssignmentProblem, duals: Duals, unit: Unit, count: int)
     return near, Fraction(bound - error)
 
 
+def _matrix_of(problem: AssignmentProblem) -> Any:
+    """The costs of a dense problem in an array of 64 bits, to be minimised; None where they aren't."""
+    costs = problem.costs.of_64_bits() if problem.numpy and problem.persons is None else None
+    if costs is None or problem.maximize and not (costs > -2**63).all():
+        return None
+    return (-costs if problem.maximize else costs).reshape(problem.n_rows, problem.n_columns)
+
+
 def _common(first: Unit, second: Unit) -> Unit:
     """The greatest unit of which two are multiples, which shows numbers as the first does."""
     if first.denominator % second.denominator == 0:
@@ -233,19 +274,32 @@ def _times(lists: List[Any], step: int) -> List[Any]:
 def prove(paths: Paths, part: Subproblem) -> None:
     """Lets the library check that a part's plan is a best one of the part, by the part's duals: of the problem that
     is left to the rows and columns that the part leaves free."""
-    taken, first = paths.closed(part), part.first
+    taken = paths.closed(part)
     free = [column for column in range(paths.n_columns) if column not in taken]
-    left = _left(paths, part, free)
-    rows = [row for row in range(first, paths.n_rows) if part.columns[row] < paths.n_columns]
-    numbers = {column: number for number, column in enumerate(free)}
-    found = check_problem(left, [row - first for row in rows], [numbers[part.columns[row]] for row in rows],
-                          [Fraction(-part.column_duals[column]) for column in free])
-    if not found:
-        raise RuntimeError("a plan was found to be the best of its part, and the library says otherwise: "
-                           f"{found.why}")
+    left, numbers = _left(paths, part, free), {column: number for number, column in enumerate(free)}
+    duals = [part.column_duals[column] for column in free]
+    own = [numbers.get(column, -1) for column in part.columns[part.first:]]
+    rows = [row for row, column in enumerate(own) if column >= 0]
+    if len(rows) < len(own) or not own or not _is_best(left, own, duals, part.row_duals[-1] if paths.columns_out
+                                                       else -max(duals)):
+        found = check_problem(left, rows, [own[row] for row in rows], [Fraction(-dual) for dual in duals])
+        if not found:
+            raise RuntimeError("a plan was found to be the best of its part, and the library says otherwise: "
+                               f"{found.why}")
     cost = sum(paths.cost(row, column) for row, column in enumerate(part.columns) if column < paths.n_columns)
     if cost != part.cost:
         raise RuntimeError(f"a plan was found to cost {part.cost}, and its pairs cost {cost}")
+
+
+def _is_best(left: AssignmentProblem, own: List[int], duals: List[int], out: int) -> bool:
+    """Whether the library takes these columns of the rows, none of which stays out, for a best plan by the duals, as
+    they are; not where numbers are out of its range."""
+    costs, prices = left.costs.of_64_bits(), [-dual - out for dual in duals]
+    if costs is None or max(prices) > GREATEST_PRICE or min(prices) < 0:
+        return False
+    code, _ = library.call("check", False, left.n_rows, left.n_columns, left.persons, left.objects, costs,
+                           array("I", [column + 1 for column in own]), array("q", prices))
+    return code == "BEST"
 
 
 def _left(paths: Paths, part: Subproblem, free: List[int]) -> AssignmentProblem:

@@ -1,10 +1,12 @@
 """Proofs person by person: a chain of splits, each with a person's tree, and after it one leaf that adds them up, or a
 tree over all variables. Needs NumPy and SciPy."""
 import importlib
+import time
 from typing import Any, Dict, List, NamedTuple, Optional, Sequence, Tuple
 
 from .model import Leaf, Limits, Part, Proof, Split, Terms, renamed
-from .persons import limits_of
+from .persons import limits_of, moved
+from .priced_trees import PricedTree, priced_tree
 from .prices import SCALE, Bound, Pricing
 from .trees import Open, Trees
 
@@ -12,36 +14,51 @@ np: Any = importlib.import_module("numpy")
 
 # What a person's least cost gives up, in parts of SCALE, so that her tree is smaller.
 _GIVE = 4
+# What all persons' least costs give up together above a tree with prices at its ends, and the part of the time in which
+# that is looked for.
+_GIVEN, _LOOKING_PART = 30, 0.5
 # A tree that fixes a person's variables has at most so many leaves. Those are fixed whose other values need, as the
 # relaxation shows, so great a part of what is wanted above its least cost: trees for more are large.
 _FIXING_LEAVES, _SHOWN_PART = 20, 0.65
 
 
 class _Link(NamedTuple):
-    """A split of a chain, one half of which is refuted: in the other half `row` holds."""
+    """A split of a chain, one half of which is refuted: in the other half `row` holds, which is about a person."""
 
     terms: Terms
     most: int
     refuted: Proof
     row: Limits
+    number: int
+
+
+class _Above(NamedTuple):
+    """The row of a split that stands above: about which person it is, and whether it leaves one choice for each of its
+    variables."""
+
+    row: Limits
+    number: int
+    fixes: bool
 
 
 class Chain:
     """Links over all persons, in a model of so many rows, with its cost row `cost <= target` after them."""
 
-    def __init__(self, pricing: Pricing, bound: Bound, target: int, deadline: float):
+    def __init__(self, pricing: Pricing, bound: Bound, target: int, deadline: float, above: Sequence["_Above"] = ()):
         self.pricing, self.bound, self.target, self.deadline = pricing, bound, target, deadline
+        # Rows of splits above the links.
+        self.above = above
         # Without costs there is no cost row, and the splits' rows follow the model's.
         self.has_costs = any(pricing.model.costs)
         self.cost_row = len(pricing.model.rows) - int(not self.has_costs)
-        self.costs = pricing.priced(bound.prices)
+        self.costs, self._each = pricing.priced(bound.prices), None
         self.links: List[_Link] = []
         # Of each person that has a link: its row, and the least that it shows.
         self.row_of: Dict[int, int] = {}
         self.least: Dict[int, int] = {}
 
     def next_row(self) -> int:
-        return self.cost_row + 1 + len(self.links)
+        return self.cost_row + 1 + len(self.above) + len(self.links)
 
     def spare(self) -> int:
         """By how much the bound is more than the target needs."""
@@ -61,14 +78,20 @@ class Chain:
             self._add_person(number, own, self.bound.least[number] - give)
 
     def _trees(self, number: int) -> Trees:
-        block = self.pricing.blocks[number]
-        return Trees(Part(block.rows, block.numbers, block.variables), self.deadline)
+        """Trees over a person's rows, and those of the splits above that are hers."""
+        block, first = self.pricing.blocks[number], self.cost_row + 1
+        own = [(first + place, one) for place, one in enumerate(self.above) if one.number == number]
+        part = Part([*block.rows, *(Limits(one.row.least, moved(one.row.terms, block.place), one.row.most)
+                                    for _, one in own)],
+                    [*block.numbers, *(place for place, _ in own)], block.variables)
+        fixing = [len(block.rows) + place for place, (_, one) in enumerate(own) if one.fixes]
+        return Trees(part, self.deadline, fixing)
 
     def _add_person(self, number: int, trees: Trees, least: int) -> None:
         tree, terms = trees.tree(self.costs[trees.part.variables], least - 1), self._terms(number)
         self.row_of[number], self.least[number] = self.next_row(), least
         self.links.append(_Link(terms, least - 1, renamed(tree, trees.part, self.next_row(), self.next_row() + 1),
-                                Limits(least, terms, None)))
+                                Limits(least, terms, None), number))
 
     def _terms(self, number: int) -> Terms:
         variables = self.pricing.blocks[number].variables
@@ -92,15 +115,33 @@ class Chain:
                                                                                              proof, link.refuted)
         return proof
 
+    def given(self) -> int:
+        """By how much the links show less than the bound."""
+        return sum(self.bound.least[number] - least for number, least in self.least.items())
+
+    def each(self) -> Any:
+        """For each variable the least costs at the prices of its person's months without it, and with it."""
+        if self._each is None:
+            self._each = self.pricing.stacked.with_and_without(self.costs)
+        return self._each
+
+    def add_mosts(self) -> None:
+        """Links that say what a person's months cost at the prices at most, where the target leaves room for no more,
+        and some need more."""
+        room = SCALE * self.target - self.bound.value + self.given()
+        for number, block in enumerate(self.pricing.blocks):
+            most = self.least.get(number, self.bound.least[number]) + room
+            if self.each()[:, block.variables].max() > most:
+                terms, last = self._terms(number), self.last((number, self.next_row()))
+                self.links.append(_Link(terms, most, last, Limits(None, terms, most), number))
+
     def add_fixing(self) -> List[int]:
         """Links that fix variables of persons whose other values need a cost beyond the target; the places of these
         links."""
-        total = self.bound.value - sum(self.bound.least) + sum(self.least.get(number, least)
-                                                               for number, least in enumerate(self.bound.least))
-        places, each = [], self.pricing.stacked.with_and_without(self.costs)
+        places, total = [], self.bound.value - self.given()
         for number in list(self.row_of):
             wanted = SCALE * self.target + 1 - total + self.least[number]
-            link = self._fixing(number, wanted, each[:, self.pricing.blocks[number].variables].tolist())
+            link = self._fixing(number, wanted, self.each()[:, self.pricing.blocks[number].variables].tolist())
             if link is not None:
                 places.append(len(self.links))
                 self.links.append(link)
@@ -126,8 +167,8 @@ class Chain:
             return None
         beyond = Split(self._terms(number), wanted - 1, renamed(tree, part, other + 1, other + 2),
                        self.last((number, other + 1)))
-        moved = tuple((block.variables[place], factor) for place, factor in terms)
-        return _Link(moved, most, beyond, Limits(None, moved, most))
+        fixed = tuple((block.variables[place], factor) for place, factor in terms)
+        return _Link(fixed, most, beyond, Limits(None, fixed, most), number)
 
 
 def chain(pricing: Pricing, bound: Bound, target: int, deadline: float) -> Proof:
@@ -138,6 +179,33 @@ def chain(pricing: Pricing, bound: Bound, target: int, deadline: float) -> Proof
         raise Open
     links.add_persons(links.spare())
     return links.joined(links.last())
+
+
+def chain_tree(pricing: Pricing, bound: Bound, target: int, deadline: float, most_leaves: int) -> Proof:
+    """The same where the prices alone don't show it: by a tree with prices of its own at each end, after links that say
+    what persons' months cost at the first prices, and what is fixed by that."""
+    now = time.monotonic()
+    tree = priced_tree(pricing, bound, target, _GIVEN, now + _LOOKING_PART * (deadline - now), most_leaves)
+    links = Chain(pricing, bound, target, deadline)
+    links.add_persons(_GIVEN)
+    links.add_mosts()
+    fixing = set(links.add_fixing())
+    above = [_Above(link.row, link.number, place in fixing) for place, link in enumerate(links.links)]
+    return links.joined(_with_ends(pricing, tree, target, deadline, above))
+
+
+def _with_ends(pricing: Pricing, tree: PricedTree, target: int, deadline: float, above: List[_Above]) -> Proof:
+    """The proof below some splits: at each end of the tree links by its prices."""
+    if isinstance(tree, Bound):
+        links = Chain(pricing, tree, target, deadline, above)
+        links.add_persons(links.spare())
+        return links.joined(links.last())
+    terms, number = ((tree.variable, 1),), pricing.number_of(tree.variable)
+    without = _Above(Limits(None, terms, 0), number, True)
+    taken = _Above(Limits(1, terms, None), number, False)
+    halves = [_with_ends(pricing, half, target, deadline, [*above, row])
+              for half, row in ((tree.without, without), (tree.taken, taken))]
+    return Split(terms, 0, halves[0], halves[1])
 
 
 class Closing:

@@ -237,6 +237,23 @@ def diagram_of(variables: int, rows: Sequence[Limits], most_nodes: int = MOST_NO
     return _reduced(layers, to, states.count)
 
 
+def narrowed(diagram: Diagram, least: Any, most: Any) -> Diagram:
+    """The diagram of those plans alone that are within bounds of the variables, each 0 or 1."""
+    alive, to = np.arange(diagram.widths[0]), []
+    for at, layer in enumerate(diagram.layers):
+        own, dead = diagram.to[at][:, alive], diagram.widths[at + 1]
+        own[1:][most[layer] == 0] = dead
+        for choice in np.flatnonzero(least[layer]).tolist():
+            own[np.arange(len(own)) != choice + 1] = dead
+        is_reached = np.zeros(dead + 1, dtype=bool)
+        is_reached[own] = True
+        alive = np.flatnonzero(is_reached[:-1])
+        number_of = np.full(dead + 1, len(alive), dtype=np.int32)
+        number_of[alive] = np.arange(len(alive))
+        to.append(number_of[own])
+    return _reduced(diagram.layers, to, len(alive))
+
+
 def _reduced(layers: List[List[int]], to: List[Any], ends: int) -> Diagram:
     """The diagram with nodes of a layer made one that lead to the same, and without dead ends."""
     after, widths = np.arange(ends + 1, dtype=np.int32), [ends]

@@ -9,14 +9,13 @@ import math
 import time
 from typing import Any, Callable, Dict, Iterator, List, NamedTuple, Optional, Sequence, Set
 
-from .diagrams import Diagram, diagram_of
+from .diagrams import Diagram, diagram_of, narrowed
+from .masters import Master, MasterProblem, PricedMonth
 from .model import Limits, Model
 from .persons import PersonBlock, blocks_of, limits_of, matrix_of, side_of
 from .stacked import TOO_MUCH, Stacked
 
 np: Any = importlib.import_module("numpy")
-sparse: Any = importlib.import_module("scipy.sparse")
-optimize: Any = importlib.import_module("scipy.optimize")
 
 # Prices are whole multiples of 1 / SCALE.
 SCALE = 960
@@ -29,14 +28,6 @@ _STEPS, _AIM, _GOES_ON, _VAIN, _SHORTER, _SHORTEST = 200, 0.01, 0.7, 5, 0.7, 0.0
 _KEPT = 40
 # The part of a master's prices in the first prices that are tried, and how that grows.
 _SMOOTHED, _LESS_SMOOTHED = 0.3, 1.05
-
-
-class PricedMonth(NamedTuple):
-    """A month of a block that meets the block's rows."""
-
-    taken: Any
-    cost: int
-    uses: Any
 
 
 class Bound(NamedTuple):
@@ -87,6 +78,10 @@ class Pricing:
         self.has_more = self.has_more or key not in self.mixed[number]
         return month
 
+    def number_of(self, variable: int) -> int:
+        """The number of a variable's block."""
+        return next(number for number, block in enumerate(self.blocks) if variable in block.place)
+
     def add_plan(self, plan: Any) -> None:
         """Keeps a plan's months."""
         taken = np.array(plan, dtype=np.int8)
@@ -129,10 +124,18 @@ class Pricing:
         for better in self._by_steps(best, prices, target, deadline):
             best = better
             yield best
-        near, step = best.prices / SCALE, _SMOOTHED
-        while not _reaches(best, target()) and time.monotonic() < deadline:
+        yield from self.by_masters(best, SCALE, target, deadline)
+
+    def by_masters(self, best: Bound, unit: int, target: Callable[[], Optional[int]], deadline: float,
+                   step: float = _SMOOTHED, rounds: int = 10**9) -> Iterator[Bound]:
+        """Better bounds by prices between the best ones and a master's, of which they take the part `step` at first,
+        until the master shows none that is better in whole units."""
+        near = best.prices / SCALE
+        for _ in range(rounds):
+            if _reaches(best, target()) or time.monotonic() > deadline:
+                return
             master = self.master()
-            if master is None or math.ceil(master.value - 1e-6) <= -(-best.value // SCALE):
+            if master is None or math.ceil(SCALE * master.value / unit - 1e-6) <= -(-best.value // unit):
                 return
             trial = (1 - step) * near + step * master.prices
             found = self.bound(self.rounded(trial))
@@ -175,6 +178,29 @@ class Pricing:
                          np.where((bound.prices < 0) | (bound.uses > self.most), self.most, bound.uses))
         return sides - bound.uses
 
+    def within(self, least: Any, most: Any) -> "Pricing":
+        """The same, where each variable has a least and a greatest value, 0 or 1. Persons without new bounds keep their
+        diagrams."""
+        own = copy.copy(self)
+        own.diagrams, own.mixed = list(self.diagrams), [set() for _ in self.blocks]
+        own.months = [dict(months) for months in self.months]
+        for number, block in enumerate(self.blocks):
+            low, high = least[block.variables], most[block.variables]
+            if low.any() or not high.all():
+                own.diagrams[number] = narrowed(self.diagrams[number], low, high)
+                own.months[number] = {key: month for key, month in own.months[number].items()
+                                      if (low <= month.taken).all() and (month.taken <= high).all()}
+        own.stacked = Stacked(own.diagrams, [block.variables for block in self.blocks])
+        return own
+
+    def keep_cheap(self, bound: Bound, most: int) -> None:
+        """Keeps no month that costs more than a block's least cost and so much at a bound's prices."""
+        costs = self.priced(bound.prices)
+        for block, least, months in zip(self.blocks, bound.least, self.months):
+            own = costs[block.variables]
+            for key in [key for key, month in months.items() if own @ month.taken > least + most]:
+                del months[key]
+
     def without_costs(self) -> "Pricing":
         """The same, without costs."""
         free = copy.copy(self)
@@ -195,17 +221,18 @@ class Pricing:
         master = self.master()
         return master is not None and master.missed > 1e-6
 
-    def master(self) -> Optional["Master"]:
+    def last_months(self) -> List[List[PricedMonth]]:
+        """Of each block the months that were the cheapest last."""
+        return [list(own.values())[-_KEPT:] for own in self.months]
+
+    def master(self) -> Optional[Master]:
         """The best mixture of the months that were the cheapest last, where a shared row may be missed at a high cost;
         None where it isn't found."""
-        last = [list(own.items())[-_KEPT:] for own in self.months]
-        self.mixed, self.has_more = [{key for key, _ in own} for own in last], False
-        months = [month for own in last for _, month in own]
-        uses = sparse.csc_matrix(np.array([month.uses for month in months]).reshape(len(months), -1).T)
-        found = _master(uses, np.array([month.cost for month in months], dtype=float), [len(own) for own in last],
-                        self.least, self.most)
+        last = [list(own)[-_KEPT:] for own in self.months]
+        self.mixed, self.has_more = [set(own) for own in last], False
+        found = MasterProblem(self.last_months(), self.least, self.most).solved()
         # Those that the mixture has are among the next one's.
-        keys = [(number, key) for number, own in enumerate(last) for key, _ in own]
+        keys = [(number, key) for number, own in enumerate(last) for key in own]
         for place in np.flatnonzero(found.parts > 0).tolist() if found is not None else ():
             number, key = keys[place]
             self.months[number][key] = self.months[number].pop(key)
@@ -218,34 +245,6 @@ class Pricing:
         for block, least in zip(self.blocks, bound.least):
             found[:, block.variables] -= least
         return np.minimum(found, TOO_MUCH) + bound.value
-
-
-class Master(NamedTuple):
-    """The value of the master problem, its dual prices of the shared rows, by how much it misses these, and how much of
-    each month it has."""
-
-    value: float
-    prices: Any
-    missed: float
-    parts: Any
-
-
-def _master(uses: Any, costs: Any, counts: List[int], least: Any, most: Any) -> Optional[Master]:
-    rows, columns = uses.shape
-    high = 50.0 * max(1.0, float(np.abs(costs).max(initial=1.0)) / 10)
-    low, up = np.flatnonzero(np.isfinite(least)), np.flatnonzero(np.isfinite(most))
-    every, number = sparse.identity(rows, format="csr"), np.repeat(np.arange(len(counts)), counts)
-    by_row = sparse.hstack([uses, every]).tocsr()
-    above = sparse.vstack([-by_row[low], sparse.hstack([uses, -every]).tocsr()[up]]).tocsc()
-    one_each = sparse.csc_matrix((np.ones(columns), (number, np.arange(columns))), (len(counts), columns + rows))
-    found = optimize.linprog(np.append(costs, np.full(rows, high)), A_ub=above, b_ub=np.append(-least[low], most[up]),
-                             A_eq=one_each, b_eq=np.ones(len(counts)), bounds=(0, None), method="highs")
-    if found.status != 0:
-        return None
-    prices = np.zeros(rows)
-    prices[low] -= found.ineqlin.marginals[:len(low)]
-    prices[up] += found.ineqlin.marginals[len(low):]
-    return Master(float(found.fun), prices, float(found.x[columns:].sum()), found.x[:columns])
 
 
 def _diagrams(blocks: Sequence[PersonBlock], deadline: float) -> List[Diagram]:

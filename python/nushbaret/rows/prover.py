@@ -5,7 +5,7 @@ import time
 from typing import Any, Iterator, List, Optional, Sequence
 
 from .certificate_check import meets
-from .chains import Closing, chain
+from .chains import Closing, chain, chain_tree
 from .highs import look_for_plans, tried
 from .model import Model, Part, Proof, flat, renamed
 from .persons import PersonBlock, blocks_of, cost_of, cost_row, limits_of
@@ -21,6 +21,8 @@ np: Any = importlib.import_module("numpy")
 _SMALL = 200
 _MOST_LEAVES = 5000
 _FEW_LEAVES = 40
+# A tree with prices at its ends has at most so many of them, and so many masters make the prices before it better.
+_PRICED_LEAVES, _MASTERS = 12, 40
 # The part of the time in which a proof that the plan is best is looked for, before a lesser one.
 _FIRST_PART = 0.6
 # The part of the time in which sums are looked at.
@@ -42,6 +44,8 @@ class Prover:
         self.whole = Trees(Part(self.rows, list(range(len(self.rows))), list(range(model.variables))), self.deadline)
         self.is_small = model.variables <= _SMALL
         self.bound: Optional[int] = None
+        # No plan costs so little, as a search says.
+        self.none: Optional[int] = None
 
     def left(self) -> float:
         return self.deadline - time.monotonic()
@@ -197,19 +201,29 @@ class Prover:
                 self.tell(chain(pricing, best, most, self.deadline), most)
             except Open:
                 pass
-        if not self.channel.is_over and not self.is_closed():
-            self.look_for_plan(pricing.reaches(best), least)
-        self.close(pricing, best)
+        if self.has_to_look():
+            best = self.look_for_plan(pricing, best, least)
+        self.close(pricing, self.close_by_prices(pricing, best))
 
-    def look_for_plan(self, reaches: Any, least: int) -> None:
-        """Looks for plans at the bound and near it."""
+    def has_to_look(self) -> bool:
+        """Whether a plan may be better than the one known, as far as searches say."""
+        known = self.channel.cost is not None and self.none is not None and self.channel.cost <= self.none + 1
+        return not (self.channel.is_over or self.is_closed() or known)
+
+    def look_for_plan(self, pricing: Pricing, best: Bound, least: int) -> Bound:
+        """Looks for plans at the bound and near it; the best prices. Where a search says that there is none at the
+        bound, and none is known, a proof of that comes before those near it."""
+        reaches = pricing.reaches(best)
         if not self.is_known(least):
             self.look_near(reaches, least, _AT_BOUND_PART)
+        if self.channel.cost is None and self.none == least:
+            best = self.close_by_prices(pricing, best)
         for percent in _NEAR:
-            if self.channel.cost is None:
+            if self.channel.cost is None and self.has_to_look():
                 self.look_near(reaches, least + abs(least) * percent // 100 + 2, _NEAR_PART)
-        if self.channel.cost is not None and not self.is_closed():
+        if self.channel.cost is not None and self.has_to_look():
             self.look_near(reaches, self.channel.cost - 1, _NEAR_PART)
+        return best
 
     def is_known(self, cost: int) -> bool:
         """Whether a plan that costs so little is known."""
@@ -221,8 +235,25 @@ class Prover:
         least = (reaches[0] > SCALE * most).astype(float)
         greatest = 1.0 - (reaches[1] > SCALE * most)
         if (least <= greatest).all():
-            self.say_found(tried(self.model.costs, [*self.rows, cost_row(self.model, most)], self.left() * part, least,
-                                 greatest).plan)
+            found = tried(self.model.costs, [*self.rows, cost_row(self.model, most)], self.left() * part, least,
+                          greatest)
+            self.say_found(found.plan)
+            if found.is_over and found.plan is None:
+                self.none = most
+
+    def close_by_prices(self, pricing: Pricing, best: Bound) -> Bound:
+        """Looks for a proof that no plan costs less than the one known, or as little as a search says that none costs,
+        by a small tree with prices at its ends; the best prices."""
+        target = self.none if self.channel.cost is None else self.channel.cost - 1
+        if target is None or self.bound is None or target < self.bound:
+            return best
+        for best in pricing.by_masters(best, 1, lambda: target, self.deadline, rounds=_MASTERS):
+            pass
+        try:
+            self.tell(chain_tree(pricing, best, target, self.deadline, _PRICED_LEAVES), target)
+        except Open:
+            pass
+        return best
 
     def close(self, pricing: Pricing, best: Bound) -> None:
         """Looks for a proof that the plan known is best; where that isn't found in a part of the time, for one that is

@@ -17,13 +17,14 @@ _DEAD, _END, _FIRST = 0, 1, 2
 
 
 class _Layer(NamedTuple):
-    """A layer of those diagrams that are so long: its nodes, where each choice leads from each, and of each diagram the
-    variable of each choice but the first, how many nodes there are and the first of them, from the layer's begin."""
+    """A layer of those diagrams that are so long: its nodes, where each choice leads from each, the variable of each
+    choice but the first, for each diagram and for each node, and the first node of each diagram, from the layer's
+    begin."""
 
     nodes: slice
     to: Any
     variables: Any
-    widths: Any
+    of_nodes: Any
     starts: Any
 
 
@@ -63,7 +64,8 @@ class Stacked:
             to[:len(own), start:start + widths[place]] = np.where(own == diagram.widths[-height], _DEAD,
                                                                   own + after[place])
             taken[:len(own) - 1, place] = [variables[place][variable] for variable in diagram.layers[-height]]
-        return _Layer(slice(size, size + sum(widths)), to, taken, np.array(widths), starts)
+        of_nodes = taken.repeat(widths, axis=1).astype(np.int32)
+        return _Layer(slice(size, size + sum(widths)), to, taken, of_nodes, starts)
 
     def _filled(self, costs: Any) -> Any:
         """The least cost from each node on, in as many bits as the costs have."""
@@ -71,9 +73,9 @@ class Stacked:
         values[_DEAD], values[_END] = TOO_MUCH if costs.dtype == np.int64 else _TOO_MUCH_SHORT, 0
         for layer in reversed(self.layers):
             least = values.take(layer.to[0])
-            for to, variables in zip(layer.to[1:], layer.variables):
+            for to, variables in zip(layer.to[1:], layer.of_nodes):
                 taken = values.take(to)
-                taken += costs[variables].repeat(layer.widths)
+                taken += costs.take(variables)
                 np.minimum(least, taken, out=least)
             values[layer.nodes] = least
         return values
@@ -113,7 +115,7 @@ class Stacked:
             for choice, to in enumerate(layer.to):
                 cost = before[layer.nodes]
                 if choice:
-                    cost = cost + costs[layer.variables[choice - 1]].repeat(layer.widths)
+                    cost = cost + costs[layer.of_nodes[choice - 1]]
                 least[choice] = np.minimum.reduceat(cost + filled[to], layer.starts)
                 np.minimum.at(before, to, cost)
             for choice, variables in enumerate(layer.variables, 1):

@@ -2,10 +2,12 @@
 import importlib
 import math
 import time
-from typing import Any, Dict, List, NamedTuple, Optional, Sequence, Tuple
+from fractions import Fraction
+from typing import Any, Dict, Iterator, List, NamedTuple, Optional, Sequence, Tuple
 
 from .model import Leaf, Limits, Part, Proof, Split, Terms
 from .persons import matrix_of
+from .simplex import Tableau, solved as solved_from, tableau_of
 
 np: Any = importlib.import_module("numpy")
 sparse: Any = importlib.import_module("scipy.sparse")
@@ -14,10 +16,14 @@ optimize: Any = importlib.import_module("scipy.optimize")
 # Multipliers are tried as whole multiples of one in so many.
 DENOMINATORS = (1, 2, 3, 4, 6, 8, 12, 16, 24, 32, 48, 64, 120, 1000, 10_000, 100_000, 1_000_000)
 _MOST = 2.0**62
+# And of a common denominator of theirs, as far as it and theirs are no greater.
+_MOST_DENOMINATOR, _MOST_COMMON = 1000, 10**9
 # So many of the longest sums, and so many of those farthest from whole numbers, are tried for a split.
 _CANDIDATES = 3
 # What counts as a gain at least.
 _LITTLE = 1e-6
+# Relaxations with a tableau of so few entries are solved by it.
+_MOST_ENTRIES = 60_000
 
 
 class Open(Exception):
@@ -42,11 +48,13 @@ class _SearchNode(NamedTuple):
 
 
 class Solved(NamedTuple):
-    """The relaxation's value (infinite where it has no point), its point, and multipliers of the rows."""
+    """The relaxation's value (infinite where it has no point), its point, multipliers of the rows, and the tableau
+    where it is small."""
 
     value: float
     point: Any
     multipliers: Any
+    tableau: Optional[Tableau] = None
 
 
 class _Candidate(NamedTuple):
@@ -78,6 +86,7 @@ class Trees:
         self.far = np.asarray(abs(self.matrix).sum(axis=1)).ravel() if part.rows else np.zeros(0)
         self.sums = [row for row in self.used if len(part.rows[row].terms) > 1
                      and all(abs(factor) == 1 for _, factor in part.rows[row].terms)]
+        self._prepare_tableau()
         self.leaves = 0
         # What a step of 1 of a candidate gained in the half below and above, by the candidates' keys.
         self.gains: Dict[int, List[float]] = {}
@@ -91,14 +100,14 @@ class Trees:
         self.gains = {}
         root = self._root()
         try:
-            return self._grown(root, self._solve(root))
+            return self._grown(root, self._solve(root, self._first_tableau()))
         except RecursionError:
             raise Open from None
 
     def relaxed(self, costs: Any) -> Solved:
         """The relaxation's value, its point, and multipliers, before any split."""
         self.costs, self.most = np.asarray(costs, dtype=np.int64), 0
-        return self._solve(self._root())
+        return self._solve(self._root(), self._first_tableau())
 
     def reached(self, costs: Any, wanted: int, part: float) -> Any:
         """For each variable whether its other value than that of the relaxation's point costs `wanted`, or at least a
@@ -129,6 +138,10 @@ class Trees:
 
     def _grown(self, node: _SearchNode, solved: Solved) -> Proof:
         leaf = self._leaf(node, solved)
+        if leaf is None and self.dense is not None and solved.value >= self._cut() - _LITTLE:
+            # The tableau's multipliers are rounded too much.
+            solved = self._solve(node)
+            leaf = self._leaf(node, solved)
         if leaf is not None:
             self.leaves += 1
             return leaf
@@ -144,7 +157,7 @@ class Trees:
         best: Optional[Tuple[float, Terms, int, List[Tuple[_SearchNode, Solved]]]] = None
         cut = self._cut()
         for candidate in self._worth_trying(solved, cut):
-            halves = self._both(node, candidate, solved.value, 0.0 if best is None else best[0])
+            halves = self._both(node, candidate, solved, 0.0 if best is None else best[0])
             if halves is None:
                 continue
             low, high = sorted(min(result.value, cut) for _, result in halves)
@@ -164,19 +177,19 @@ class Trees:
         """What a half needs to cost. Without costs a half that has a point costs 0."""
         return 1.0 if self.most is None else self.most + 1.0
 
-    def _both(self, node: _SearchNode, candidate: _Candidate, value: float, least: float
+    def _both(self, node: _SearchNode, candidate: _Candidate, solved: Solved, least: float
               ) -> Optional[List[Tuple[_SearchNode, Solved]]]:
         """The halves of a candidate, solved; None where the first shows that the product of their gains is `least` at
         most."""
-        cut = self._cut()
+        cut, value, start = self._cut(), solved.value, solved.tableau or self._first_tableau()
         below, above = self._halves(node, candidate)
-        first = self._solve(below)
+        first = self._solve(below, start)
         if _product(min(first.value, cut) - value, cut - value) <= least:
             # The other counts as alike.
             alike = (first.value - value) * (1 - candidate.above) / candidate.above
             self._learn(candidate, value, (first.value, value + alike))
             return None
-        second = self._solve(above)
+        second = self._solve(above, start)
         self._learn(candidate, value, (first.value, second.value))
         return [(below, first), (above, second)]
 
@@ -232,11 +245,50 @@ class Trees:
         places = np.flatnonzero(sides < np.inf)
         return places, sides[places]
 
-    def _solve(self, node: _SearchNode) -> Solved:
+    def _prepare_tableau(self) -> None:
+        """The rows of a tableau over the variables that aren't fixed, each over its greatest coefficient, and what the
+        fixed ones add to them; none where it is large."""
+        self.dense: Any = None
+        least, most = (np.array([side.bound for side in sides], dtype=float) for sides in self._fixed())
+        self.open = np.flatnonzero(least < most)
+        if 0 < len(self.used) * len(self.open) <= _MOST_ENTRIES:
+            rows = self.matrix[self.used].toarray()
+            self.scale = np.maximum(1.0, np.abs(rows).max(axis=1))
+            self.shift = rows @ np.where(least < most, 0.0, least)
+            self.dense = rows[:, self.open] / self.scale[:, None]
+
+    def _first_tableau(self) -> Optional[Tableau]:
+        """The tableau that relaxations begin with; none where there are no costs: reasons are those of HiGHS."""
+        return None if self.dense is None or self.most is None else tableau_of(self.dense, self.costs[self.open])
+
+    def _own_costs(self) -> Any:
+        return np.zeros(self.count) if self.most is None else self.costs
+
+    def _by_tableau(self, node: _SearchNode, least: Any, most: Any, start: Tableau) -> Optional[Solved]:
+        """The relaxation from a tableau of other bounds; None where that fails."""
+        low, high = (np.array([far if side is None else side.bound for side in map(sides.__getitem__, self.used)])
+                     for sides, far in ((node.low, -np.inf), (node.high, np.inf)))
+        ended = solved_from(start, np.append((low - self.shift) / self.scale, least[self.open]),
+                            np.append((high - self.shift) / self.scale, most[self.open]))
+        if ended is None:
+            return None
+        multipliers, point = np.zeros(len(self.part.rows)), least.copy()
+        multipliers[self.used] = ended.multipliers / self.scale
+        if ended.values is None:
+            return Solved(np.inf, None, multipliers)
+        point[self.open] = ended.values[len(self.used):]
+        return Solved(float(self._own_costs() @ point), point, multipliers, ended.tableau)
+
+    def _solve(self, node: _SearchNode, start: Optional[Tableau] = None) -> Solved:
+        """The relaxation at a node; from a tableau of other bounds where there is one."""
         least, most = (np.array([side.bound for side in sides], dtype=float) for sides in (node.least, node.most))
         if (least > most).any():
             return Solved(np.inf, None, np.zeros(len(self.part.rows)))
-        costs = np.zeros(self.count) if self.most is None else self.costs
+        found = None if start is None else self._by_tableau(node, least, most, start)
+        return found or self._by_highs(node, least, most)
+
+    def _by_highs(self, node: _SearchNode, least: Any, most: Any) -> Solved:
+        costs = self._own_costs()
         if not self.used:
             point = np.where(costs < 0, most, least)
             return Solved(float(costs @ point), point, np.zeros(len(self.part.rows)))
@@ -273,7 +325,7 @@ class Trees:
         is_costly = bool(np.isfinite(solved.value))
         if is_costly and (self.most is None or solved.value < self.most + 1e-6):
             return None
-        for denominator in DENOMINATORS:
+        for denominator in _denominators(solved.multipliers):
             if denominator * float(np.abs(self.costs).max(initial=1)) * self.count > _MOST:
                 return None
             whole = np.rint(solved.multipliers * denominator)
@@ -310,6 +362,17 @@ class Trees:
             elif side.row >= 0:
                 used[side.row] = used.get(side.row, 0) - weight
         return Leaf(tuple(used.items())) if bound > 0 else None
+
+
+def _denominators(values: Any) -> Iterator[int]:
+    """Denominators to try for values, at last one that they have in common, as far as theirs are small."""
+    yield from DENOMINATORS
+    common = 1
+    for value in values[values.nonzero()].tolist():
+        common = math.lcm(common, Fraction(value).limit_denominator(_MOST_DENOMINATOR).denominator)
+        if common > _MOST_COMMON:
+            return
+    yield common
 
 
 def _product(one: float, other: float) -> float:

@@ -7,7 +7,7 @@ from decimal import Decimal
 from unittest import mock
 
 import nushbaret
-from nushbaret.lap import ranking
+from nushbaret.lap import library, ranking
 from nushbaret.lap.paths import Paths, PathSearch
 from drawn import drawing, matrix
 from optional import np
@@ -172,24 +172,28 @@ class Checked(unittest.TestCase):
     def test_each_plan_is_checked(self):
         draw = drawing(35)
         for costs in (self.COSTS, matrix(draw, 9, 4, 5, 0.7), matrix(draw, 4, 9, 5, 0.7)):
-            with mock.patch.object(ranking, "check_problem", side_effect=ranking.check_problem) as check:
+            with mock.patch.object(library, "call", side_effect=library.call) as call:
                 plans = list(nushbaret.k_best(costs, 5, partial=True))
-            self.assertEqual(check.call_count, len(plans))
+            checks = [asked for asked in call.call_args_list if asked[0][0] == "check"]
+            self.assertEqual(len(checks), len(plans))
 
     def refused(self, name, wrong, said, costs=None):
         with mock.patch.object(Paths, name, wrong), self.assertRaisesRegex(RuntimeError, said):
             list(nushbaret.k_best(costs or self.COSTS, 6))
 
     def test_a_wrong_plan(self):
-        def turned(ranking, part):
+        def turned(ranking, part, ties):
             return part._replace(columns=part.columns[::-1])
         self.refused("first_of_its_cost", turned, "found to be the best of its part, and the library says otherwise: "
-                     "row 0")
+                     "row 0", [[1, 1, 9], [1, 1, 9], [9, 9, 1]])
 
     def test_a_wrong_cost(self):
-        def cheaper(ranking, part):
-            return part._replace(cost=part.cost - 1)
-        self.refused("first_of_its_cost", cheaper, "found to cost 4, and its pairs cost 5")
+        behind = Paths.after
+
+        def cheaper(ranking, part, *words):
+            found = behind(ranking, part, *words)
+            return found._replace(cost=found.cost - 1)
+        self.refused("after", cheaper, "found to cost 5, and its pairs cost 6")
 
     def test_wrong_duals(self):
         behind = Paths.after

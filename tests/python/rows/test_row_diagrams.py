@@ -8,14 +8,15 @@ import unittest
 from unittest import mock
 
 from nushbaret.rows.certificate_check import shows_here
-from nushbaret.rows.model import Certificate, Limits, Model, flat
+from nushbaret.rows.model import Certificate, Limits, Model, Row, flat
 import row_models as models
 
 if models.scipy:
     import numpy as np
     from nushbaret.rows import diagrams, prices
-    from nushbaret.rows.chains import Closing, chain
+    from nushbaret.rows.chains import Closing, chain, chain_tree
     from nushbaret.rows.model import Part
+    from nushbaret.rows.priced_trees import PricedSplit, priced_tree
     from nushbaret.rows.prices import SCALE, Pricing
     from nushbaret.rows.stacked import TOO_MUCH, Stacked
     from nushbaret.rows.trees import Open, Trees
@@ -48,6 +49,22 @@ class Diagrams(unittest.TestCase):
                 if found is not None:
                     self.assertEqual((found[0][0], costs_of[tuple(found[1].tolist())]), (min(costs_of.values()),) * 2)
                     self.check_each(model, costs_of, stacked.with_and_without(costs))
+
+    def test_narrowed(self):
+        """Within bounds of the variables a diagram has the plans that keep them."""
+        for seed in range(CASES):
+            with self.subTest(seed=seed):
+                draw = random.Random(seed)
+                model = models.drawn_model(draw)
+                model = model._replace(rows=tuple(row for row in model.rows if row.terms))
+                diagram = diagrams.diagram_of(model.variables, limits(model))
+                bounds = [draw.choice(((0, 1), (0, 1), (0, 0), (1, 1))) for _ in range(model.variables)]
+                least, most = np.array(bounds).T
+                costs = np.array([draw.randint(-9, 9) for _ in range(model.variables)], dtype=np.int64)
+                found = Stacked([diagrams.narrowed(diagram, least, most)], [range(model.variables)]).cheapest(costs)
+                wanted = min((int(costs @ np.array(plan)) for plan in models.plans(model)
+                              if all(low <= value <= high for value, (low, high) in zip(plan, bounds))), default=None)
+                self.assertEqual(None if found is None else found[0][0], wanted)
 
     def check_each(self, model, costs_of, found):
         for value, variable in itertools.product((0, 1), range(model.variables)):
@@ -144,6 +161,45 @@ class Prices(unittest.TestCase):
                 more.proof(5000)
             self.assertEqual(models.cost(model, more.trees.plan), least)
             self.assertTrue(models.meets(more.trees.plan, model.rows))
+
+    def rings(self):
+        """Persons in a ring who work one of two days: neighbours not together, which prices alone don't bound well."""
+        for seed in range(8):
+            draw, persons = random.Random(seed), 5 + seed % 3
+            rows = [Row(None, ((2 * person, 1), (2 * person + 1, 1)), 1, "a day", person) for person in range(persons)]
+            rows += [Row(None, ((2 * person + day, 1), (2 * ((person + 1) % persons) + day, 1)), 1)
+                     for person in range(persons) for day in range(2)]
+            yield Model(2 * persons, tuple(draw.randint(-9, -5) for _ in range(2 * persons)), tuple(rows),
+                        tuple(person for person in range(persons) for _ in range(2)))
+
+    def test_trees_with_prices_at_their_ends(self):
+        """From poor prices, too, a tree with prices at its ends shows the least cost, and never more. Changed proofs
+        show no more than a slow check lets them."""
+        draw, splits, refused = random.Random(1), 0, 0
+        for model, least in [*self.months(), *((model, models.least_cost(model)) for model in self.rings())]:
+            pricing = Pricing(model, end())
+            bound = pricing.bound(np.zeros(len(pricing.shared), dtype=np.int64))
+            splits += isinstance(priced_tree(pricing, bound, least - 1, 0, end(), 1000), PricedSplit)
+            shown = self.proof(model, lambda: chain_tree(pricing, bound, least - 1, end(), 1000), least - 1)
+            self.assertTrue(shows_here(shown))
+            with self.assertRaises(Open):
+                chain_tree(pricing, bound, least, end(), 1000)
+            for other in filter(None, (models.changed(draw, shown) for _ in range(5))):
+                refused += not shows_here(other)
+                self.assertEqual(shows_here(other), models.shows(other))
+        self.assertGreater(splits, 2)
+        self.assertGreater(refused, 20)
+
+    def test_leaves_of_a_tree_with_prices(self):
+        """A tree that may have no split is only found where the prices alone show the target."""
+        for model, least in self.months():
+            pricing = Pricing(model, end())
+            bound = pricing.bound(np.zeros(len(pricing.shared), dtype=np.int64))
+            try:
+                tree = priced_tree(pricing, bound, least - 1, 0, end(), 1)
+            except Open:
+                continue
+            self.assertGreater(tree.value, SCALE * (least - 1))
 
     def test_hours_may_be_left_out(self):
         """Where a diagram with all rows is too wide, bounds hold without those that weigh."""

@@ -3,6 +3,7 @@ use super::transcription::{Auction, PlainOffer, Round, auction_of, is_over, next
 use super::*;
 use assign_core::{Person, Prices};
 use bidder::{Ask, Offer};
+use candidates::CandidateLists;
 use scaled_values::Scaled;
 
 // Makes offers as another maker does, and takes each round in a plain auction too.
@@ -60,9 +61,11 @@ impl<O: Offering> Offering for Beside<O> {
         prices: &Prices,
         ask: Ask,
         persons: &[Person],
+        lists: &mut CandidateLists,
         offers: &mut Vec<Offer>,
     ) -> Result<(), AllocError> {
-        self.offering.make(scaled, prices, ask, persons, offers)?;
+        self.offering
+            .make(scaled, prices, ask, persons, lists, offers)?;
         self.same &= !is_over(&self.auction);
         let round = next_round(self.alloc, &mut self.auction)?;
         self.same &= is_round(&round, ask, prices, self.waiting, offers.as_slice());

@@ -6,6 +6,7 @@ use super::beside::agrees;
 use super::*;
 use assign_core::{Person, Prices};
 use bidder::{Ask, Offer};
+use candidates::CandidateLists;
 use scaled_values::Scaled;
 use std::test::Fail;
 
@@ -122,11 +123,12 @@ impl Offering for Counted {
         prices: &Prices,
         ask: Ask,
         persons: &[Person],
+        lists: &mut CandidateLists,
         offers: &mut Vec<Offer>,
     ) -> Result<(), AllocError> {
         self.made = self.made.wrapping_add(persons.len());
         self.most = self.most.max(persons.len());
-        Alone.make(scaled, prices, ask, persons, offers)
+        Alone.make(scaled, prices, ask, persons, lists, offers)
     }
 }
 

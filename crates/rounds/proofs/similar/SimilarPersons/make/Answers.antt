@@ -18,6 +18,6 @@ returns-clause-made g c =
     shared_offers s c.args.prices.now c.args.ask alike persons firsts places c.as_slice-3.result.now
     c.hand_out.new.offers.items (c.requires.similar.alike some) c.requires.can.numbers
     (subst (IsGathered alike persons firsts) (sym c.as_slice-4.ensures.value) gathered)
-    (c.as_slice-3.ensures.value ∙ c.in_ok-make.ensures ∙ ap offers c.as_slice-2.ensures.value)
+    (c.as_slice-3.ensures.value ∙ c.in_ok-make.ensures.made ∙ ap offers c.as_slice-2.ensures.value)
     c.in_ok-hand_out.ensures.long
     c.in_ok-hand_out.ensures.each
