@@ -8,7 +8,8 @@ use std::alloc::{AllocError, Global};
 pub struct Prepared {
     pub starts: Vec<usize>,
     pub columns: Vec<u32>,
-    pub costs: Vec<Cost>,
+    // Under Max; under Min they are read where they are.
+    turned: Vec<Cost>,
 }
 
 // Adds to the count of a row, at its number.
@@ -67,24 +68,35 @@ pub fn turned(sense: Sense, cost: Cost) -> Cost {
     }
 }
 
-// The costs as ones to minimise.
-fn costs_of(alloc: Global, lists: CountLists<'_>) -> Result<Vec<Cost>, AllocError> {
-    let mut costs = Vec::from_slice(alloc, lists.costs)?;
-    for cost in costs.as_mut_slice().iter_mut() {
-        *cost = turned(lists.sense, *cost);
+// The costs with the other sign.
+fn negated(alloc: Global, costs: &[Cost]) -> Result<Vec<Cost>, AllocError> {
+    let mut negated = Vec::from_slice(alloc, costs)?;
+    for cost in negated.as_mut_slice().iter_mut() {
+        *cost = cost.wrapping_neg();
     }
-    Ok(costs)
+    Ok(negated)
 }
 
 impl Prepared {
     pub fn of(alloc: Global, lists: CountLists<'_>) -> Result<Prepared, AllocError> {
         let starts = starts_of(alloc, lists)?;
         let columns = columns_of(alloc, lists)?;
-        let costs = costs_of(alloc, lists)?;
+        let turned = match lists.sense {
+            Sense::Min => Vec::new(alloc),
+            Sense::Max => negated(alloc, lists.costs)?,
+        };
         Ok(Prepared {
             starts,
             columns,
-            costs,
+            turned,
         })
+    }
+
+    /// The costs as ones to minimise.
+    pub fn costs<'a>(&'a self, lists: CountLists<'a>) -> &'a [Cost] {
+        match lists.sense {
+            Sense::Min => lists.costs,
+            Sense::Max => self.turned.as_slice(),
+        }
     }
 }

@@ -67,7 +67,7 @@ fn run(
     let problem = Problem {
         starts: prepared.starts.as_slice(),
         columns: prepared.columns.as_slice(),
-        costs: prepared.costs.as_slice(),
+        costs: prepared.costs(lists),
         row_least: lists.row_least,
         row_most: lists.row_most,
         column_least: lists.column_least,

@@ -2,7 +2,7 @@
 use super::offers::Offer;
 use super::problem::{Problem, Row};
 use super::state::{State, count_chosen};
-use super::values::{FAR, count_at, set_byte, set_count};
+use super::values::{FAR, count_at, price_at, set_byte, set_count};
 use search_base::{place_at, select};
 use std::alloc::{AllocError, Global};
 
@@ -31,12 +31,43 @@ fn value_of(state: &State, column: u32, cost: i64) -> i64 {
 }
 
 /// The values of a row's pairs.
-pub fn range_of(state: &mut State, row: Row<'_>) -> Range {
+pub fn range_of(problem: &Problem<'_>, state: &mut State, place: u32) -> Range {
+    let row = problem.row(place);
     if state.is_grouped {
-        grouped_range_of(state, row)
-    } else {
-        plain_range_of(state, row)
+        return grouped_range_of(state, row);
     }
+    match state.prices_of(place, row) {
+        Some(prices) => Range {
+            held: most_held(state, row, prices),
+            open: least_open(row.costs, prices, state.chosen(row)),
+        },
+        None => plain_range_of(state, row),
+    }
+}
+
+// The greatest value of the pairs that a row has, of columns with these prices.
+fn most_held(state: &State, row: Row<'_>, prices: &[i64]) -> i64 {
+    let mut most = i64::MIN;
+    let mut from = 0usize;
+    for _pair in row.columns {
+        let Some(place) = state.next_chosen(row, from) else {
+            return most;
+        };
+        let cost = row.costs.get(place).copied().unwrap_or(0);
+        most = most.max(cost.wrapping_add(price_at(prices, place)));
+        from = place.wrapping_add(1);
+    }
+    most
+}
+
+// The least value of the pairs that it may take.
+fn least_open(costs: &[i64], prices: &[i64], bytes: &[u8]) -> i64 {
+    let mut least = i64::MAX;
+    for ((cost, price), byte) in costs.iter().zip(prices).zip(bytes) {
+        let value = cost.wrapping_add(*price);
+        least = least.min(if *byte == 0 { value } else { i64::MAX });
+    }
+    least
 }
 
 fn plain_range_of(state: &State, row: Row<'_>) -> Range {
@@ -111,7 +142,7 @@ impl Answers {
         if state.is_grouped && !self.keeps_groups(state, row)? {
             return Ok(false);
         }
-        let range = range_of(state, row);
+        let range = range_of(problem, state, place);
         let outside = state.price(state.outside());
         let is_worse = (count > 0 && range.held > range.open)
             || (count < most && range.open < outside)

@@ -19,7 +19,8 @@ impl Auction {
         if state.held_of(row) > 0 {
             return two_best_open(pairs, self.groups.closed(state, pairs), prices, scale);
         }
-        match self.runs.run_of(row, pairs) {
+        let first = count_at(state.firsts.as_slice(), row as usize);
+        match self.runs.run_of(first, pairs) {
             Some(run) => run.two_best(),
             None => two_best_of_all(pairs, prices, scale),
         }
@@ -45,7 +46,7 @@ impl Auction {
             self.is_failed = true;
             return Ok(());
         }
-        let (column, pair) = match self.runs.column(row, pairs, two.place) {
+        let (column, pair) = match state.column_at(row, pairs, two.place) {
             Some(column) => (column, place_at(pairs.first.wrapping_add(two.place))),
             None => (outside, NOBODY),
         };

@@ -8,6 +8,7 @@ mod arranged;
 mod auction;
 mod bids;
 mod calls;
+mod chosen;
 mod cut;
 mod edges;
 mod groups;

@@ -1,5 +1,6 @@
 // Row numbers and column numbers: the duals of a plan at exact prices.
 use super::answers::{Range, range_of};
+use super::chosen::next_chosen;
 use super::problem::Problem;
 use super::state::State;
 use super::values::{add_count, count_at, set_price};
@@ -16,10 +17,13 @@ pub struct Numbers {
 // How many rows take each column.
 fn taken_of(alloc: Global, problem: &Problem<'_>, plan: &[u8]) -> Result<Vec<u32>, AllocError> {
     let mut taken = vec![in alloc; 0u32; problem.column_count()]?;
-    for (column, byte) in problem.columns.iter().zip(plan) {
-        if *byte != 0 {
-            add_count(taken.as_mut_slice(), *column as usize, 1);
-        }
+    let mut from = 0usize;
+    for _pair in plan {
+        let Some(pair) = next_chosen(plan, from) else {
+            break;
+        };
+        add_count(taken.as_mut_slice(), problem.column(place_at(pair)), 1);
+        from = pair.wrapping_add(1);
     }
     Ok(taken)
 }
@@ -75,7 +79,7 @@ impl Numbers {
 
     fn set_rows(&mut self, problem: &Problem<'_>, state: &mut State) {
         for row in 0..place_at(problem.row_count()) {
-            let rests = range_of(state, problem.row(row));
+            let rests = range_of(problem, state, row);
             let number = row_number(problem, state, row, rests);
             set_price(self.rows.as_mut_slice(), row as usize, number);
         }

@@ -65,7 +65,7 @@ impl Auction {
         arc_scans: ArcScans,
     ) -> Result<Auction, AllocError> {
         let groups = Groups::of(alloc, problem, state)?;
-        let runs = Runs::of(alloc, problem, layout.terms.scale)?;
+        let runs = Runs::of(alloc, problem, state, layout)?;
         Auction::new(alloc, layout.sizes, layout.terms, arc_scans, groups, runs)
     }
 

@@ -158,11 +158,14 @@ impl Repair {
         row: u32,
     ) -> Result<(), AllocError> {
         let pairs = problem.row(row);
-        for (k, (column, byte)) in pairs.columns.iter().zip(state.chosen(pairs)).enumerate() {
-            if *byte != 0 {
-                let pair = place_at(pairs.first.wrapping_add(k));
-                self.hold(*column as usize, Holder { row, pair })?;
-            }
+        let mut from = 0usize;
+        for _hand in 0..state.held_of(row) {
+            let Some(place) = state.next_chosen(pairs, from) else {
+                return Ok(());
+            };
+            let pair = place_at(pairs.first.wrapping_add(place));
+            self.hold(problem.column(pair), Holder { row, pair })?;
+            from = place.wrapping_add(1);
         }
         Ok(())
     }

@@ -1,8 +1,10 @@
 // Rows that list columns one after another: eight of their pairs are looked at together. Their costs
 // stand in half the memory, since looks wait for it most of all, and their values are doubles, of
 // which processors find the least at once.
+use super::layout::Layout;
 use super::offers::{NO_PLACE, Two};
-use super::problem::{Problem, Row, range_of};
+use super::problem::{Problem, Row};
+use super::state::State;
 use super::values::{FAR, count_at};
 use search_base::{NOBODY, place_at};
 use std::alloc::{AllocError, Global};
@@ -22,18 +24,16 @@ const MOST_COST: i64 = 0x7fff_ffff;
 // FAR.
 const FAR_DOUBLE: f64 = 2305843009213693952.0;
 
-/// The rows whose columns follow one another, and what their values are made of.
+/// What the values of rows are made of whose columns follow one another.
 #[derive(Drop)]
 pub struct Runs {
-    // The first column of each of these rows, nobody for others.
-    firsts: Vec<u32>,
     // All costs; empty where no row is looked at so.
     costs: Vec<i32>,
     prices: Vec<f64>,
     scale: f64,
 }
 
-// The first column of a row, or nobody where the others don't follow it.
+// The first column of a row, or nobody where the others don't follow it or are few.
 fn first_of(row: Row<'_>) -> u32 {
     if row.columns.len() < SHORTEST {
         return NOBODY;
@@ -48,7 +48,8 @@ fn first_of(row: Row<'_>) -> u32 {
     if differing == 0 { first } else { NOBODY }
 }
 
-fn firsts_of(alloc: Global, problem: &Problem<'_>) -> Result<Vec<u32>, AllocError> {
+/// The first column of each row whose columns follow one another, nobody for others and short ones.
+pub fn firsts_of(alloc: Global, problem: &Problem<'_>) -> Result<Vec<u32>, AllocError> {
     let mut firsts = Vec::with_capacity(alloc, problem.row_count())?;
     for row in 0..place_at(problem.row_count()) {
         firsts.push(first_of(problem.row(row)))?;
@@ -57,9 +58,13 @@ fn firsts_of(alloc: Global, problem: &Problem<'_>) -> Result<Vec<u32>, AllocErro
 }
 
 // Whether 32 bits hold all costs, and doubles hold them times the scale.
-fn are_short(costs: &[i64], scale: i64) -> bool {
-    let (least, greatest) = range_of(costs);
-    let most = MOST_WHOLE.checked_div(scale).unwrap_or(0).min(MOST_COST);
+fn are_short(layout: Layout) -> bool {
+    let greatest = layout.greatest;
+    let least = greatest.wrapping_sub(layout.spread);
+    let most = MOST_WHOLE
+        .checked_div(layout.terms.scale)
+        .unwrap_or(0)
+        .min(MOST_COST);
     least >= most.wrapping_neg() && greatest <= most
 }
 
@@ -219,16 +224,19 @@ impl Run<'_> {
 }
 
 impl Runs {
-    pub fn of(alloc: Global, problem: &Problem<'_>, scale: i64) -> Result<Runs, AllocError> {
-        let firsts = firsts_of(alloc, problem)?;
-        let is_any = firsts.iter().any(|first| *first != NOBODY);
+    pub fn of(
+        alloc: Global,
+        problem: &Problem<'_>,
+        state: &State,
+        layout: Layout,
+    ) -> Result<Runs, AllocError> {
+        let is_any = state.firsts.iter().any(|first| *first != NOBODY);
         let mut runs = Runs {
-            firsts,
             costs: Vec::new(alloc),
             prices: Vec::new(alloc),
-            scale: nearest_i64_to_f64(scale),
+            scale: nearest_i64_to_f64(layout.terms.scale),
         };
-        if is_any && are_short(problem.costs, scale) {
+        if is_any && are_short(layout) {
             runs.costs = short_of(alloc, problem.costs)?;
             runs.prices = vec![in alloc; 0.0; problem.column_count()]?;
         }
@@ -247,10 +255,10 @@ impl Runs {
         }
     }
 
-    /// The pairs of a row, if its columns follow one another.
+    /// The pairs of a row whose columns follow the first one.
     #[inline(always)]
-    pub fn run_of(&self, place: u32, row: Row<'_>) -> Option<Run<'_>> {
-        let first = *self.firsts.get(place as usize)? as usize;
+    pub fn run_of(&self, first: u32, row: Row<'_>) -> Option<Run<'_>> {
+        let first = first as usize;
         let count = row.columns.len();
         let costs = self.costs.get(row.first..row.first.saturating_add(count))?;
         let prices = self.prices.get(first..first.saturating_add(count))?;
@@ -260,17 +268,5 @@ impl Runs {
             prices,
             scale,
         })
-    }
-    /// The column at a place of a row.
-    #[inline(always)]
-    pub fn column(&self, place: u32, row: Row<'_>, at: usize) -> Option<usize> {
-        if at >= row.columns.len() {
-            return None;
-        }
-        let first = count_at(self.firsts.as_slice(), place as usize);
-        if first == NOBODY {
-            return Some(count_at(row.columns, at) as usize);
-        }
-        Some((first as usize).wrapping_add(at))
     }
 }

@@ -1,9 +1,11 @@
 // What the parts of a search share: the counts, the groups, the plan and the prices.
+use super::chosen::next_chosen;
 use super::problem::{Problem, Row};
+use super::runs::firsts_of;
 use super::values::{
     FAR, ONE_LESS, add_count, count_at, price_at, set_byte, set_count, set_price, short, signed,
 };
-use search_base::place_at;
+use search_base::{NOBODY, place_at};
 use std::alloc::{AllocError, Global};
 
 /// Counts that are no greater than what is listed, the groups' keys, the plan, how many columns each
@@ -21,6 +23,8 @@ pub struct State {
     /// columns.
     pub keys: Vec<u32>,
     pub is_grouped: bool,
+    /// The first column of each row whose columns follow one another, nobody for others and short ones.
+    pub firsts: Vec<u32>,
     stamps: Vec<u64>,
     stamp: u64,
 }
@@ -61,13 +65,37 @@ pub fn keys_of(alloc: Global, groups: &[u32], columns: usize) -> Result<Keys, Al
     Ok(Keys { keys, is_grouped })
 }
 
-// How many pairs list each column.
-fn listed_of(alloc: Global, problem: &Problem<'_>) -> Result<Vec<u32>, AllocError> {
-    let mut listed = vec![in alloc; 0u32; problem.column_count()]?;
-    for column in problem.columns {
-        add_count(listed.as_mut_slice(), *column as usize, 1);
+// Counts a row's pairs. Where its columns follow one another, only where that begins and ends.
+fn count_row(listed: &mut [u32], steps: &mut [u32], row: Row<'_>, first: u32) {
+    if first != NOBODY {
+        let first = first as usize;
+        add_count(steps, first, 1);
+        add_count(steps, first.saturating_add(row.columns.len()), ONE_LESS);
+        return;
     }
+    for column in row.columns {
+        add_count(listed, *column as usize, 1);
+    }
+}
+
+// How many pairs list each column.
+fn listed_of(alloc: Global, problem: &Problem<'_>, firsts: &[u32]) -> Result<Vec<u32>, AllocError> {
+    let mut listed = vec![in alloc; 0u32; problem.column_count()]?;
+    let mut steps = vec![in alloc; 0u32; problem.column_count()]?;
+    for (place, first) in firsts.iter().enumerate() {
+        let row = problem.row(place_at(place));
+        count_row(listed.as_mut_slice(), steps.as_mut_slice(), row, *first);
+    }
+    add_steps(listed.as_mut_slice(), steps.as_slice());
     Ok(listed)
+}
+
+fn add_steps(listed: &mut [u32], steps: &[u32]) {
+    let mut sum = 0u32;
+    for (count, step) in listed.iter_mut().zip(steps) {
+        sum = sum.wrapping_add(*step);
+        *count = count.wrapping_add(sum);
+    }
 }
 
 /// How many bytes aren't 0.
@@ -99,10 +127,11 @@ impl State {
             prices: vec![in alloc; 0i64; columns.saturating_add(1)]?,
             keys,
             is_grouped,
+            firsts: firsts_of(alloc, problem)?,
             stamps: vec![in alloc; 0u64; columns]?,
             stamp: 0,
         };
-        let listed = listed_of(alloc, problem)?;
+        let listed = listed_of(alloc, problem, state.firsts.as_slice())?;
         cut_to(state.column_most.as_mut_slice(), listed.as_slice());
         state.cut_rows(problem);
         Ok(state)
@@ -191,6 +220,33 @@ impl State {
             Some(byte) => *byte != 0,
             None => false,
         }
+    }
+
+    /// The prices of a row's columns, where these follow one another.
+    #[inline(always)]
+    pub fn prices_of(&self, place: u32, row: Row<'_>) -> Option<&[i64]> {
+        let first = *self.firsts.get(place as usize)? as usize;
+        self.prices
+            .get(first..first.saturating_add(row.columns.len()))
+    }
+
+    /// The column at a place of a row.
+    #[inline(always)]
+    pub fn column_at(&self, place: u32, row: Row<'_>, at: usize) -> Option<usize> {
+        if at >= row.columns.len() {
+            return None;
+        }
+        let first = count_at(self.firsts.as_slice(), place as usize);
+        if first == NOBODY {
+            return Some(count_at(row.columns, at) as usize);
+        }
+        Some((first as usize).wrapping_add(at))
+    }
+
+    /// The place in a row of its next chosen pair from this place on.
+    #[inline(always)]
+    pub fn next_chosen(&self, row: Row<'_>, from: usize) -> Option<usize> {
+        next_chosen(self.chosen(row), from)
     }
 
     /// The plan of a row.
