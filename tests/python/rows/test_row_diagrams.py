@@ -34,37 +34,35 @@ def limits(model):
 
 @unittest.skipUnless(models.scipy, "SciPy isn't there")
 class Diagrams(unittest.TestCase):
-    def test_cheapest(self):
+    def drawn(self):
+        """Drawn models without empty rows, with what draws on, costs, and a diagram of all rows."""
         for seed in range(CASES):
             with self.subTest(seed=seed):
                 draw = random.Random(seed)
                 model = models.drawn_model(draw)
                 model = model._replace(rows=tuple(row for row in model.rows if row.terms))
-                diagram, plans = diagrams.diagram_of(model.variables, limits(model)), models.plans(model)
-                stacked = Stacked([diagram], [range(model.variables)])
                 costs = np.array([draw.randint(-9, 9) for _ in range(model.variables)], dtype=np.int64)
-                costs_of = {plan: int(costs @ np.array(plan)) for plan in plans}
-                found = stacked.cheapest(costs)
-                self.assertEqual(found is None, not plans)
-                if found is not None:
-                    self.assertEqual((found[0][0], costs_of[tuple(found[1].tolist())]), (min(costs_of.values()),) * 2)
-                    self.check_each(model, costs_of, stacked.with_and_without(costs))
+                yield draw, model, costs, diagrams.diagram_of(model.variables, limits(model))
+
+    def test_cheapest(self):
+        for _, model, costs, diagram in self.drawn():
+            plans, stacked = models.plans(model), Stacked([diagram], [range(model.variables)])
+            costs_of = {plan: int(costs @ np.array(plan)) for plan in plans}
+            found = stacked.cheapest(costs)
+            self.assertEqual(found is None, not plans)
+            if found is not None:
+                self.assertEqual((found[0][0], costs_of[tuple(found[1].tolist())]), (min(costs_of.values()),) * 2)
+                self.check_each(model, costs_of, stacked.with_and_without(costs))
 
     def test_narrowed(self):
         """Within bounds of the variables a diagram has the plans that keep them."""
-        for seed in range(CASES):
-            with self.subTest(seed=seed):
-                draw = random.Random(seed)
-                model = models.drawn_model(draw)
-                model = model._replace(rows=tuple(row for row in model.rows if row.terms))
-                diagram = diagrams.diagram_of(model.variables, limits(model))
-                bounds = [draw.choice(((0, 1), (0, 1), (0, 0), (1, 1))) for _ in range(model.variables)]
-                least, most = np.array(bounds).T
-                costs = np.array([draw.randint(-9, 9) for _ in range(model.variables)], dtype=np.int64)
-                found = Stacked([diagrams.narrowed(diagram, least, most)], [range(model.variables)]).cheapest(costs)
-                wanted = min((int(costs @ np.array(plan)) for plan in models.plans(model)
-                              if all(low <= value <= high for value, (low, high) in zip(plan, bounds))), default=None)
-                self.assertEqual(None if found is None else found[0][0], wanted)
+        for draw, model, costs, diagram in self.drawn():
+            bounds = [draw.choice(((0, 1), (0, 1), (0, 0), (1, 1))) for _ in range(model.variables)]
+            least, most = np.array(bounds).T
+            found = Stacked([diagrams.narrowed(diagram, least, most)], [range(model.variables)]).cheapest(costs)
+            wanted = min((int(costs @ np.array(plan)) for plan in models.plans(model)
+                          if all(low <= value <= high for value, (low, high) in zip(plan, bounds))), default=None)
+            self.assertEqual(None if found is None else found[0][0], wanted)
 
     def check_each(self, model, costs_of, found):
         for value, variable in itertools.product((0, 1), range(model.variables)):
