@@ -283,11 +283,12 @@ class Assigner:
         shape = AssignmentProblem(len(self._costs), self._width, self._maximize, kinds.shape(numbers.decimals),
                                   labels=labels)
         rows, columns = proved.pairs_of(shape, answer)
-        own = [numbers.flat[numbers.place(row, column)] for row, column in zip(rows, columns)]
         if not hasattr(self._costs, "dtype"):
+            own = [numbers.flat[numbers.place(row, column)] for row, column in zip(rows, columns)]
             return proved.ResultParts(shape, answer, rows, columns, own, False)
         numpy: Any = reading.numpy_of(self._costs)
         rows, columns = (numpy.array(side, numpy.intp) for side in (rows, columns))
+        own = numpy.frombuffer(numbers.flat, numbers.flat.typecode)[numbers.place(rows, columns)].tolist()
         return proved.ResultParts(shape, answer, rows, columns, own, True)
 
 
@@ -328,8 +329,8 @@ class HeldCosts:
         self.n, self.m, self.is_turned, self.decimals, self.flat = n, m, is_turned, decimals, flat
         self.state: Optional[Tuple[Any, Any]] = None
 
-    def place(self, row: int, column: int) -> int:
-        """Where the cost of a pair stands."""
+    def place(self, row: Any, column: Any) -> Any:
+        """Where the cost of a pair stands, or of each pair of arrays."""
         return column * self.m + row if self.is_turned else row * self.m + column
 
     def _numbers(self, costs: Any) -> Any:
@@ -464,8 +465,10 @@ def doubles_of(row: Any) -> Optional[Any]:
             return None
         if row.ndim != 1 or row.dtype.kind not in "iuO" and row.dtype.str[1:] != "f8":
             return None
-        if row.dtype.kind == "f":
-            return array("d", row.astype("d").tobytes()) if (row == row).all() else None
+        if row.dtype.kind != "O":
+            is_held = (row == row).all() if row.dtype.kind == "f" else not row.size or (
+                -_MOST_WHOLE <= row.min() and row.max() <= _MOST_WHOLE)
+            return array("d", row.astype("d").tobytes()) if is_held else None
         row = row.tolist()
     if not all(type(cost) is float and cost == cost or type(cost) is int and abs(cost) <= _MOST_WHOLE for cost in row):
         return None

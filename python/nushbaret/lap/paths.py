@@ -3,11 +3,11 @@ a row gets another column at the least cost more. Rows and columns that stay out
 dummy row, which cost nothing."""
 import heapq
 from itertools import repeat
-from typing import AbstractSet, Any, Dict, FrozenSet, Iterable, List, NamedTuple, Optional, Sequence, Set, Tuple, Union
+from typing import AbstractSet, Any, Dict, FrozenSet, Iterable, Iterator, List, NamedTuple, Optional, Sequence, Set, Tuple, Union
 
 INFINITE = float("inf")
 # So many rows show what reduced costs are usual.
-SAMPLED_ROWS = 32
+_SAMPLED_ROWS = 32
 # So many rows of a matrix are looked at together.
 _ROWS_AT_ONCE = 64
 NOBODY: FrozenSet[int] = frozenset()
@@ -20,6 +20,28 @@ Length = Union[int, float]
 def _greatest(numbers: List[int]) -> int:
     """The greatest absolute value."""
     return max(max(numbers), -min(numbers))
+
+
+def _step(rows: int) -> int:
+    """One in so many rows shows what reduced costs are usual."""
+    return max(1, rows // _SAMPLED_ROWS)
+
+
+def usual_reduced_cost(numpy: Any, matrix: Any, rows: Any, columns: Any, count: int) -> Any:
+    """A reduced cost of a matrix up to which a row has about so many pairs, by arrays of duals: by some of the rows."""
+    costs, rows = matrix[::_step(len(matrix))], rows[::_step(len(matrix))]
+    reduced = (costs - rows[:, None] - columns).ravel()
+    place = min(count * len(costs), reduced.size) - 1
+    return numpy.partition(reduced, place)[place]
+
+
+def near_pairs_of(matrix: Any, rows: Any, limits: Any) -> Iterator[Tuple[Any, Any, Any]]:
+    """The pairs that cost at most what their row's dual and their column's limit are together: some rows at a time,
+    their costs, and the places of the pairs there."""
+    for first in range(0, len(matrix), _ROWS_AT_ONCE):
+        costs = matrix[first:first + _ROWS_AT_ONCE]
+        near, columns = (costs <= rows[first:first + _ROWS_AT_ONCE, None] + limits).nonzero()
+        yield costs, near, columns
 
 
 class Subproblem(NamedTuple):
@@ -56,30 +78,30 @@ class Branch(NamedTuple):
 
 class Paths:
     """The columns that each row may have, with their costs, and the paths along them. `rows_out` and `columns_out` say
-    whether some stay out. `matrix` has the costs in an array of 64 bits, if there is one."""
+    whether some stay out. `matrix` has the costs in an array of 64 bits of `numpy`, if there is one."""
 
-    def __init__(self, n_columns: int, lists: List[Any], rows_out: bool, columns_out: bool, matrix: Any = None):
+    def __init__(self, n_columns: int, lists: List[Any], rows_out: bool, columns_out: bool, matrix: Any = None,
+                 numpy: Any = None):
         self.n_rows, self.n_columns, self.rows_out, self.columns_out = len(lists), n_columns, rows_out, columns_out
-        self.lists, self.matrix = lists + [(range(n_columns if columns_out else 0), repeat(0))], matrix
+        self.lists = lists + [(range(n_columns if columns_out else 0), repeat(0))]
+        self.matrix, self.numpy = matrix, numpy
 
-    def usual_bound(self, rows: List[int], columns: List[int], count: int, numpy: Any = None) -> int:
+    def usual_bound(self, rows: List[int], columns: List[int], count: int) -> int:
         """A reduced cost up to which a row has about so many pairs: by some of the rows."""
-        some = range(0, self.n_rows, max(1, self.n_rows // SAMPLED_ROWS))
+        some, np = range(0, self.n_rows, _step(self.n_rows)), self.numpy
         if self.matrix is not None and _greatest(rows + columns) < 2**61:
             costs = self.matrix[::some.step]
             if max(int(costs.max()), -int(costs.min())) < 2**61:
-                reduced = costs - numpy.array(rows[:-1])[::some.step, None] - numpy.array(columns[:-1])
-                place = min(count * len(some), reduced.size) - 1
-                return int(numpy.partition(reduced.ravel(), place)[place])
+                return int(usual_reduced_cost(np, self.matrix, np.array(rows[:-1]), np.array(columns[:-1]), count))
         found: List[int] = heapq.nsmallest(count * len(some), (cost - columns[column] - rows[row] for row in some
                                                     for column, cost in zip(*self.lists[row])))
         return found[-1] if found else 0
 
-    def within(self, rows: List[int], columns: List[int], most: int, numpy: Any = None) -> "Paths":
+    def within(self, rows: List[int], columns: List[int], most: int) -> "Paths":
         """The paths along pairs of a reduced cost of at most so much: all that are no longer."""
         limits = [most + dual for dual in columns]
         if self.matrix is not None and _greatest(limits + rows) < 2**62:
-            lists = self._near_in_matrix(numpy, numpy.array(rows[:-1]), numpy.array(limits[:-1]))
+            lists = self._near_in_matrix(self.numpy.array(rows[:-1]), self.numpy.array(limits[:-1]))
             return Paths(self.n_columns, lists, self.rows_out, self.columns_out)
         lists = []
         for row, dual in enumerate(rows[:self.n_rows]):
@@ -88,13 +110,11 @@ class Paths:
             lists.append(([own[place] for place in places], [values[place] for place in places]))
         return Paths(self.n_columns, lists, self.rows_out, self.columns_out)
 
-    def _near_in_matrix(self, numpy: Any, rows: Any, limits: Any) -> List[Any]:
+    def _near_in_matrix(self, rows: Any, limits: Any) -> List[Any]:
         """Columns and costs of each row up to a limit of the column and a dual of the row together."""
         lists: List[Any] = []
-        for first in range(0, self.n_rows, _ROWS_AT_ONCE):
-            costs = self.matrix[first:first + _ROWS_AT_ONCE]
-            near, columns = (costs <= rows[first:first + _ROWS_AT_ONCE, None] + limits).nonzero()
-            ends = numpy.searchsorted(near, numpy.arange(len(costs) + 1)).tolist()
+        for costs, near, columns in near_pairs_of(self.matrix, rows, limits):
+            ends = self.numpy.searchsorted(near, self.numpy.arange(len(costs) + 1)).tolist()
             numbers, values = columns.tolist(), costs[near, columns].tolist()
             lists += [(numbers[begin:end], values[begin:end]) for begin, end in zip(ends, ends[1:])]
         return lists

@@ -25,7 +25,8 @@ from ..costs.problem import AssignmentProblem, costs_of_pairs, in_whole_numbers,
 from . import library
 from .duals import duals_of_whole
 from .matching import Group, prove_short
-from .paths import INFINITE, NOBODY, SAMPLED_ROWS, Branch, Choice, PathSearch, Paths, Subproblem
+from .paths import (INFINITE, NOBODY, Branch, Choice, PathSearch, Paths, Subproblem, near_pairs_of,
+                    usual_reduced_cost)
 from .plan_check import check_problem
 from .proved import Duals
 from .solving import BestPlan, least_sum
@@ -72,7 +73,8 @@ class Ranking:
         self.unit = _common(problem.unit, unit)
         step, of_duals = self.unit.denominator // problem.unit.denominator, self.unit.denominator // unit.denominator
         self.all_paths = Paths(problem.n_columns, _times(lists_of(problem), step), len(rows) < problem.n_rows,
-                               len(rows) < problem.n_columns, _matrix_of(problem) if step == 1 else None)
+                               len(rows) < problem.n_columns, _matrix_of(problem) if step == 1 else None,
+                               problem.numpy)
         self.paths, self.longest = self.all_paths, INFINITE
         own, cost = [problem.n_columns] * problem.n_rows, sum(in_unit(ratio, self.unit) for ratio in self.ratios)
         for row, column in zip(rows, columns):
@@ -98,8 +100,8 @@ class Ranking:
         rows, columns = self.whole.row_duals, self.whole.column_duals
         pairs = sum(len(values) for _, values in self.all_paths.lists[:-1])
         while count * self.all_paths.n_rows < pairs > _FEW:
-            self.longest = self.all_paths.usual_bound(rows, columns, count, self.problem.numpy)
-            self.paths = self.all_paths.within(rows, columns, self.longest, self.problem.numpy)
+            self.longest = self.all_paths.usual_bound(rows, columns, count)
+            self.paths = self.all_paths.within(rows, columns, self.longest)
             self._clear()
             yield False
             count *= _TIMES
@@ -236,13 +238,12 @@ def near_pairs(problem: AssignmentProblem, duals: Duals, unit: Unit, count: int)
     rows, columns = (numpy.array([dual / unit.denominator for dual in own]) for own in (duals.rows, duals.columns))
     # No reduced cost is rounded by as much, with the decimals that doubles print as.
     error = 2.0**-49 * float(abs(costs).max() + abs(rows).max() + abs(columns).max())
-    some = numpy.arange(0, problem.n_rows, max(1, problem.n_rows // SAMPLED_ROWS))
-    usual = numpy.partition((costs[some] - rows[some, None] - columns).ravel(), count * len(some))[count * len(some)]
-    bound = max(float(usual), 0.0) + 2 * error
-    places = [(first, (costs[first:first + 64] - rows[first:first + 64, None] - columns <= bound).nonzero())
-              for first in range(0, problem.n_rows, 64)]
-    persons = numpy.concatenate([found[0] + first for first, found in places])
-    objects = numpy.concatenate([found[1] for _, found in places])
+    bound = max(float(usual_reduced_cost(numpy, costs, rows, columns, count)), 0.0) + 2 * error
+    places, first = [], 0
+    for some, near, its_columns in near_pairs_of(costs, rows, columns + bound):
+        places.append((near + first, its_columns))
+        first += len(some)
+    persons, objects = map(numpy.concatenate, zip(*places))
     near = problem._replace(costs=problem.costs.at(persons * problem.n_columns + objects),
                             persons=(persons + 1).astype(numpy.uint32), objects=(objects + 1).astype(numpy.uint32))
     return near, Fraction(bound - error)
@@ -280,8 +281,8 @@ def prove(paths: Paths, part: Subproblem) -> None:
     duals = [part.column_duals[column] for column in free]
     own = [numbers.get(column, -1) for column in part.columns[part.first:]]
     rows = [row for row, column in enumerate(own) if column >= 0]
-    if len(rows) < len(own) or not own or not _is_best(left, own, duals, part.row_duals[-1] if paths.columns_out
-                                                       else -max(duals)):
+    out = part.row_duals[-1] if paths.columns_out else -max(duals, default=0)
+    if not (rows and len(rows) == len(own) and _is_best(left, own, duals, out)):
         found = check_problem(left, rows, [own[row] for row in rows], [Fraction(-dual) for dual in duals])
         if not found:
             raise RuntimeError("a plan was found to be the best of its part, and the library says otherwise: "

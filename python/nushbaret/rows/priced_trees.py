@@ -8,7 +8,7 @@ from typing import Any, Dict, List, NamedTuple, Optional, Sequence, Tuple, Union
 
 from .masters import Master, MasterProblem
 from .prices import SCALE, Bound, Pricing
-from .trees import Open
+from .trees import Open, product
 
 np: Any = importlib.import_module("numpy")
 
@@ -76,8 +76,9 @@ class PricedTrees:
         for variable in self._worth_trying(pricing, bound):
             halves = [self._half(pricing, bound, variable, value) for value in (0, 1)]
             gains = [min(half.bound.value - bound.value, wanted) for half in halves]
-            if max(gains) * _FAR > wanted and _product(gains, wanted) > most:
-                most, best = _product(gains, wanted), (variable, halves)
+            gain = product(*gains, _LITTLE * wanted)
+            if max(gains) * _FAR > wanted and gain > most:
+                most, best = gain, (variable, halves)
             if min(gains) >= wanted:
                 break
         if best is None:
@@ -100,9 +101,9 @@ class PricedTrees:
             gains = [wanted, wanted]
             for value in (0, 1):
                 gains[value] = min(wanted, problem.cost(number, place, value) - cost)
-                if len(best) == _TRIED and _product(gains, wanted) <= best[0]:
+                if len(best) == _TRIED and product(*gains, _LITTLE * wanted) <= best[0]:
                     break
-            products[pricing.blocks[number].variables[place]] = _product(gains, wanted)
+            products[pricing.blocks[number].variables[place]] = product(*gains, _LITTLE * wanted)
         return sorted(products, key=products.__getitem__, reverse=True)[:_TRIED]
 
     def _broken(self, pricing: Pricing, problem: MasterProblem, master: Master) -> List[Tuple[int, int]]:
@@ -132,12 +133,6 @@ class PricedTrees:
         empty = next(number for number, diagram in enumerate(within.diagrams) if diagram.widths[0] == 0)
         least[empty] += self.wanted - bound.value
         return bound._replace(value=self.wanted, least=least)
-
-
-def _product(gains: Sequence[float], wanted: float) -> float:
-    """What two halves gain, one times the other; what is no gain counts as a little of what is wanted."""
-    one, other = (max(gain, _LITTLE * wanted) for gain in gains)
-    return one * other
 
 
 def priced_tree(pricing: Pricing, bound: Bound, target: int, given: int, deadline: float,

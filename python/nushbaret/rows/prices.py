@@ -14,6 +14,7 @@ from .masters import Master, MasterProblem, PricedMonth
 from .model import Limits, Model
 from .persons import PersonBlock, blocks_of, limits_of, matrix_of, side_of
 from .stacked import TOO_MUCH, Stacked
+from .templates import Templates, keys_of
 
 np: Any = importlib.import_module("numpy")
 
@@ -59,13 +60,32 @@ class Pricing:
         self.costs = np.array(model.costs, dtype=np.int64)
         self.matrix = matrix_of(rows, model.variables).astype(np.int64)
         self.least, self.most = side_of(rows)
-        self.diagrams = _diagrams(self.blocks, deadline)
+        self.diagrams = self._diagrams(deadline)
         self.stacked = Stacked(self.diagrams, [block.variables for block in self.blocks])
         self.columns = [self.matrix[:, block.variables].tocsc() for block in self.blocks]
         self.months: List[Dict[bytes, PricedMonth]] = [{} for _ in self.blocks]
         # Of each block the months of the last mixture, and whether others were kept since.
         self.mixed: List[Set[bytes]] = [set() for _ in self.blocks]
         self.has_more = False
+
+    def _diagrams(self, deadline: float) -> List[Diagram]:
+        """The blocks' diagrams. Where one is too wide, or all take too long, the others are without rows that weigh
+        their variables, such as hours: then their least costs are bounds. Raises `TooWide` where these are too wide,
+        too, or the deadline has passed."""
+        columns = self.matrix.tocsc()
+        rows_of = [columns.indices[begin:end].tolist() for begin, end in zip(columns.indptr, columns.indptr[1:])]
+        templates = Templates(self.blocks, keys_of(self.blocks, self.model.days, rows_of))
+        now = time.monotonic()
+        exact_until, found, is_exact = now + (deadline - now) * _EXACT_PART, [], True
+        for number, block in enumerate(self.blocks):
+            count = len(block.variables)
+            exact = (templates.diagram_of(number) or diagram_of(count, block.rows)) if is_exact else None
+            is_exact = exact is not None and time.monotonic() < exact_until
+            diagram = exact or diagram_of(count, [row for row in block.rows if not _weighs(row)])
+            if diagram is None or time.monotonic() > deadline:
+                raise TooWide
+            found.append(diagram)
+        return found
 
     def add(self, number: int, taken: Any) -> PricedMonth:
         """Keeps a month of a block."""
@@ -245,22 +265,6 @@ class Pricing:
         for block, least in zip(self.blocks, bound.least):
             found[:, block.variables] -= least
         return np.minimum(found, TOO_MUCH) + bound.value
-
-
-def _diagrams(blocks: Sequence[PersonBlock], deadline: float) -> List[Diagram]:
-    """The blocks' diagrams. Where one is too wide, or all take too long, the others are without rows that weigh their
-    variables, such as hours: then their least costs are bounds. Raises `TooWide` where these are too wide, too, or the
-    deadline has passed."""
-    now = time.monotonic()
-    exact_until, found, is_exact = now + (deadline - now) * _EXACT_PART, [], True
-    for block in blocks:
-        exact = diagram_of(len(block.variables), block.rows) if is_exact else None
-        is_exact = exact is not None and time.monotonic() < exact_until
-        diagram = exact or diagram_of(len(block.variables), [row for row in block.rows if not _weighs(row)])
-        if diagram is None or time.monotonic() > deadline:
-            raise TooWide
-        found.append(diagram)
-    return found
 
 
 def _weighs(row: Limits) -> bool:

@@ -17,6 +17,9 @@ from .model import Model, Row
 _OWN_GROUP: int = getattr(subprocess, "CREATE_NEW_PROCESS_GROUP", 0)
 # Seconds that a process has to end after its last word.
 _LONGEST_END = 5.0
+# One thread for each process; and freed memory stays with it, as arrays come and go all the time (glibc heeds these).
+_ENVIRONMENT = {"OMP_NUM_THREADS": "1", "OPENBLAS_NUM_THREADS": "1", "MALLOC_TRIM_THRESHOLD_": str(2**30),
+                "MALLOC_MMAP_THRESHOLD_": str(2**25)}
 START = pathlib.Path(__file__).resolve().parent / "worker.py"
 # Seconds.
 _SHORT_WAIT = 0.01
@@ -38,11 +41,10 @@ class Worker:
     def start(self, first: Dict[str, Any]) -> None:
         """Starts the process, which no Ctrl-C of the terminal reaches: who started it ends it, or it ends when its
         input does. Raises RuntimeError where there is no Python to start."""
-        environment = {**os.environ, "OMP_NUM_THREADS": "1", "OPENBLAS_NUM_THREADS": "1"}
         try:
             self.process = subprocess.Popen(command(), stdin=subprocess.PIPE, stdout=subprocess.PIPE,
                                             stderr=subprocess.PIPE, text=True, encoding="utf-8",
-                                            errors="backslashreplace", env=environment, start_new_session=True,
+                                            errors="backslashreplace", env={**os.environ, **_ENVIRONMENT}, start_new_session=True,
                                             creationflags=_OWN_GROUP)
         except OSError as fault:
             raise RuntimeError(f"no process that finds plans can be started with {sys.executable}: {fault.strerror}"

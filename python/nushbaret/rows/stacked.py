@@ -19,7 +19,7 @@ _DEAD, _END, _FIRST = 0, 1, 2
 class _Layer(NamedTuple):
     """A layer of those diagrams that are so long: its nodes, where each choice leads from each, the variable of each
     choice but the first, for each diagram and for each node, and the first node of each diagram, from the layer's
-    begin."""
+    begin. Numbers have the bits of places in memory: others are copied whenever NumPy takes by them."""
 
     nodes: slice
     to: Any
@@ -49,13 +49,16 @@ class Stacked:
             self.layers.insert(0, layer)
         self.roots = np.array([after[place] for place in self.places], dtype=np.int64)
         self.values = {kind: np.zeros(size, dtype=kind) for kind in (np.int32, np.int64)}
+        widest = max((len(layer.of_nodes.T) for layer in self.layers), default=0)
+        # Room for what each choice costs.
+        self.rooms = {kind: np.zeros((2, widest), dtype=kind) for kind in (np.int32, np.int64)}
 
     def _layer(self, diagrams: Sequence[Diagram], variables: Sequence[Sequence[int]], after: Sequence[int], height: int,
                size: int) -> _Layer:
         """The layer of diagrams that is so far from the end, where their next ones begin at `after`."""
         widths = [diagram.widths[-1 - height] for diagram in diagrams]
         choices = max(len(diagram.to[-height]) for diagram in diagrams)
-        to = np.full((choices, sum(widths)), _DEAD, dtype=np.int32)
+        to = np.full((choices, sum(widths)), _DEAD, dtype=np.intp)
         # A choice that a diagram doesn't have is that of a variable after all.
         taken = np.full((choices - 1, len(diagrams)), self.count)
         starts = np.cumsum([0, *widths[:-1]])
@@ -64,7 +67,7 @@ class Stacked:
             to[:len(own), start:start + widths[place]] = np.where(own == diagram.widths[-height], _DEAD,
                                                                   own + after[place])
             taken[:len(own) - 1, place] = [variables[place][variable] for variable in diagram.layers[-height]]
-        of_nodes = taken.repeat(widths, axis=1).astype(np.int32)
+        of_nodes = taken.repeat(widths, axis=1).astype(np.intp)
         return _Layer(slice(size, size + sum(widths)), to, taken, of_nodes, starts)
 
     def _filled(self, costs: Any) -> Any:
@@ -72,12 +75,13 @@ class Stacked:
         values = self.values[costs.dtype.type]
         values[_DEAD], values[_END] = TOO_MUCH if costs.dtype == np.int64 else _TOO_MUCH_SHORT, 0
         for layer in reversed(self.layers):
-            least = values.take(layer.to[0])
+            least = values[layer.nodes]
+            more, taken = self.rooms[costs.dtype.type][:, :len(least)]
+            values.take(layer.to[0], out=least, mode="clip")
             for to, variables in zip(layer.to[1:], layer.of_nodes):
-                taken = values.take(to)
-                taken += costs.take(variables)
+                values.take(to, out=taken, mode="clip")
+                taken += costs.take(variables, out=more, mode="clip")
                 np.minimum(least, taken, out=least)
-            values[layer.nodes] = least
         return values
 
     def cheapest(self, costs: Any) -> Optional[Tuple[List[int], Any]]:

@@ -19,6 +19,7 @@ if models.scipy:
     from nushbaret.rows.priced_trees import PricedSplit, priced_tree
     from nushbaret.rows.prices import SCALE, Pricing
     from nushbaret.rows.stacked import TOO_MUCH, Stacked
+    from nushbaret.rows.templates import Templates
     from nushbaret.rows.trees import Open, Trees
 
 CASES = 300
@@ -34,37 +35,35 @@ def limits(model):
 
 @unittest.skipUnless(models.scipy, "SciPy isn't there")
 class Diagrams(unittest.TestCase):
-    def test_cheapest(self):
+    def drawn(self):
+        """Drawn models without empty rows, with what draws on, costs, and a diagram of all rows."""
         for seed in range(CASES):
             with self.subTest(seed=seed):
                 draw = random.Random(seed)
                 model = models.drawn_model(draw)
                 model = model._replace(rows=tuple(row for row in model.rows if row.terms))
-                diagram, plans = diagrams.diagram_of(model.variables, limits(model)), models.plans(model)
-                stacked = Stacked([diagram], [range(model.variables)])
                 costs = np.array([draw.randint(-9, 9) for _ in range(model.variables)], dtype=np.int64)
-                costs_of = {plan: int(costs @ np.array(plan)) for plan in plans}
-                found = stacked.cheapest(costs)
-                self.assertEqual(found is None, not plans)
-                if found is not None:
-                    self.assertEqual((found[0][0], costs_of[tuple(found[1].tolist())]), (min(costs_of.values()),) * 2)
-                    self.check_each(model, costs_of, stacked.with_and_without(costs))
+                yield draw, model, costs, diagrams.diagram_of(model.variables, limits(model))
+
+    def test_cheapest(self):
+        for _, model, costs, diagram in self.drawn():
+            plans, stacked = models.plans(model), Stacked([diagram], [range(model.variables)])
+            costs_of = {plan: int(costs @ np.array(plan)) for plan in plans}
+            found = stacked.cheapest(costs)
+            self.assertEqual(found is None, not plans)
+            if found is not None:
+                self.assertEqual((found[0][0], costs_of[tuple(found[1].tolist())]), (min(costs_of.values()),) * 2)
+                self.check_each(model, costs_of, stacked.with_and_without(costs))
 
     def test_narrowed(self):
         """Within bounds of the variables a diagram has the plans that keep them."""
-        for seed in range(CASES):
-            with self.subTest(seed=seed):
-                draw = random.Random(seed)
-                model = models.drawn_model(draw)
-                model = model._replace(rows=tuple(row for row in model.rows if row.terms))
-                diagram = diagrams.diagram_of(model.variables, limits(model))
-                bounds = [draw.choice(((0, 1), (0, 1), (0, 0), (1, 1))) for _ in range(model.variables)]
-                least, most = np.array(bounds).T
-                costs = np.array([draw.randint(-9, 9) for _ in range(model.variables)], dtype=np.int64)
-                found = Stacked([diagrams.narrowed(diagram, least, most)], [range(model.variables)]).cheapest(costs)
-                wanted = min((int(costs @ np.array(plan)) for plan in models.plans(model)
-                              if all(low <= value <= high for value, (low, high) in zip(plan, bounds))), default=None)
-                self.assertEqual(None if found is None else found[0][0], wanted)
+        for draw, model, costs, diagram in self.drawn():
+            bounds = [draw.choice(((0, 1), (0, 1), (0, 0), (1, 1))) for _ in range(model.variables)]
+            least, most = np.array(bounds).T
+            found = Stacked([diagrams.narrowed(diagram, least, most)], [range(model.variables)]).cheapest(costs)
+            wanted = min((int(costs @ np.array(plan)) for plan in models.plans(model)
+                          if all(low <= value <= high for value, (low, high) in zip(plan, bounds))), default=None)
+            self.assertEqual(None if found is None else found[0][0], wanted)
 
     def check_each(self, model, costs_of, found):
         for value, variable in itertools.product((0, 1), range(model.variables)):
@@ -118,6 +117,51 @@ class Trees_(unittest.TestCase):
                     self.assertLessEqual(min(prices), most)
                     counts[1] += 1
         self.assertGreater(min(counts), CASES // 20)
+
+
+@unittest.skipUnless(models.scipy, "SciPy isn't there")
+class Shared(unittest.TestCase):
+    """Diagrams that persons share."""
+
+    def ward(self, draw, persons):
+        """Persons who take shifts of two kinds on five days, at most one a day, not both on two days, two on three days
+        and some in all. Some lack some shifts, and rows in which a person has nothing are left out."""
+        shifts = [(day, kind) for day in range(5) for kind in range(2)]
+        ways = [([shift for shift in shifts if shift[0] == day], None, 1) for day in range(5)]
+        ways += [([(day, 1), (day + 1, 0)], None, 1) for day in range(4)]
+        ways += [([shift for shift in shifts if 0 <= shift[0] - day < 3], None, 2) for day in range(3)]
+        names, rows, days = [], [], []
+        for person in range(persons):
+            own = [shift for shift in shifts if draw.random() < 0.8] or shifts
+            place = {shift: len(names) + at for at, shift in enumerate(own)}
+            names += [(person, shift) for shift in own]
+            days += [day for day, _ in own]
+            for some, least, most in [*ways, (shifts, person % 2, 3 + person % 3 // 2)]:
+                terms = tuple((place[shift], 1) for shift in some if shift in place)
+                rows += [Row(least, terms, most, "a rule", person)] if terms else []
+        rows += [Row(1, tuple((at, 1) for at, (_, own) in enumerate(names) if own == shift), persons) for shift in shifts]
+        return Model(len(names), tuple(draw.randint(-9, 9) for _ in names), tuple(rows), tuple(name for name, _ in names),
+                     tuple(days))
+
+    def test_each_person_has_the_own_months(self):
+        made = []
+        for seed in range(40):
+            draw = random.Random(seed)
+            model = self.ward(draw, 8)
+            with mock.patch.object(Templates, "diagram_of", autospec=True, side_effect=Templates.diagram_of) as shared:
+                pricing = Pricing(model, end())
+            self.assertEqual(shared.call_count, 8)
+            for number, (block, diagram) in enumerate(zip(pricing.blocks, pricing.diagrams)):
+                made.append(Templates.diagram_of(shared.call_args[0][0], number) is not None)
+                own = Model(len(block.variables), (0,) * len(block.variables),
+                            tuple(Row(row.least, row.terms, row.most) for row in block.rows), (0,) * len(block.variables))
+                plans, stacked = models.plans(own), Stacked([diagram], [range(own.variables)])
+                for _ in range(5):
+                    costs = np.array([draw.randint(-9, 9) for _ in range(own.variables)], dtype=np.int64)
+                    (least,), found = stacked.cheapest(costs)
+                    self.assertEqual(least, min(int(costs @ np.array(plan)) for plan in plans))
+                    self.assertIn(tuple(found.tolist()), set(plans))
+        self.assertGreater(sum(made), len(made) // 2)
 
 
 @unittest.skipUnless(models.scipy, "SciPy isn't there")
