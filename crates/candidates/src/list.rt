@@ -25,8 +25,11 @@ use std::marker::Model;
 /// A value that no benefit is above.
 const TOP_VALUE: i64 = i64::MAX;
 
+/// A list that gave at most so many answers isn't made again at once.
+const FEW_ANSWERS: u8 = 2;
+
 /// The longest pause of a list that answers nothing.
-const LONGEST_PAUSE: u8 = 63;
+const LONGEST_PAUSE: u8 = 255;
 
 /// Some objects of a row with their benefits, and a bound on the row's other objects.
 #[derive(Drop)]
@@ -103,29 +106,36 @@ fn mark_at(objects: &[(Object, Benefit)], place: usize, narrow: &[i64]) -> Mark
     }
 }
 
-// The place of the last candidate in the order of values.
-fn last_of(objects: &[(Object, Benefit)], narrow: &[i64]) -> usize
-    requires some { 0 < length objects.now }
-    requires within { IsWithin (length narrow.now) objects.now }
-    requires benefits { All (λ e. IsBenefit e.1) objects.now }
-    requires narrow { All IsNarrow narrow.now }
-    ensures { result < length objects.now }
+// The place of the last of the values of `MOST_CANDIDATES` candidates and one more.
+fn last_of(values: &[i64; MOST_CANDIDATES + 1]) -> usize
+    ensures { result ≤ MOST_CANDIDATES }
 {
     let mut last = 0;
-    let mut least = value_at(objects, 0, narrow);
-    for i in 1..objects.len() {
-        let value = value_at(objects, i, narrow);
-        if value <= least {
+    let mut least = values[0];
+    for i in 1..MOST_CANDIDATES + 1 {
+        if values[i] <= least {
             last = i;
-            least = value;
+            least = values[i];
         }
     }
     last
 }
 
-// Takes the last candidate out, and gives the bound without it.
-fn drop_last(objects: &mut Vec<(Object, Benefit)>, bound: Option<Mark>, narrow: &[i64]) -> Mark
-    requires some { 0 < vec_len objects.old }
+// Takes out the value at a place; those after it move up.
+fn drop_value(values: &mut [i64; MOST_CANDIDATES + 1], place: usize) {
+    for i in place..MOST_CANDIDATES {
+        values[i] = values[i + 1];
+    }
+}
+
+// Takes out the candidate at a place, and gives a bound without it.
+fn drop_at(
+    objects: &mut Vec<(Object, Benefit)>,
+    place: usize,
+    bound: Option<Mark>,
+    narrow: &[i64],
+) -> Mark
+    requires place { place < vec_len objects.old }
     requires within { IsWithin (length narrow.now) objects.old.items }
     requires benefits { All (λ e. IsBenefit e.1) objects.old.items }
     requires narrow { All IsNarrow narrow.now }
@@ -135,10 +145,22 @@ fn drop_last(objects: &mut Vec<(Object, Benefit)>, bound: Option<Mark>, narrow: 
         → AreCandidates row narrow.now (record { objects = objects.old.items; bound = bound })
         → AreCandidates row narrow.now (record { objects = objects.new.items; bound = Some result }) }
 {
-    let place = last_of(objects.as_slice(), narrow);
     let mark = mark_at(objects.as_slice(), place, narrow);
     objects.remove(place);
     mark.or_first(bound)
+}
+
+// The least value of some candidates.
+fn least_of(objects: &[(Object, Benefit)], narrow: &[i64]) -> i64
+    requires within { IsWithin (length narrow.now) objects.now }
+    requires benefits { All (λ e. IsBenefit e.1) objects.now }
+    requires narrow { All IsNarrow narrow.now }
+{
+    let mut least = i64::MAX;
+    for i in 0..objects.len() {
+        least = least.min(value_at(objects, i, narrow));
+    }
+    least
 }
 
 // Where to start a new bound: below the least value of a full list, since prices rise and the
@@ -151,9 +173,8 @@ fn start_of(objects: &[(Object, Benefit)], narrow: &[i64]) -> Option<Mark>
     if objects.len() < MOST_CANDIDATES {
         return None;
     }
-    let least = value_at(objects, last_of(objects, narrow), narrow);
     Some(Mark {
-        value: least.saturating_sub(1),
+        value: least_of(objects, narrow).saturating_sub(1),
         object: Object(0),
     })
 }
@@ -181,6 +202,14 @@ fn limit_of(bound: &Option<Mark>, object: Object) -> i64
             }
         }
     }
+}
+
+// What a reading of a row keeps: an object whose value isn't above the limit is passed over. No
+// proof needs the values of the candidates; they spare reads of prices.
+#[derive(Drop)]
+struct Reading {
+    limit: i64,
+    values: [i64; MOST_CANDIDATES + 1],
 }
 
 impl Candidates {
@@ -218,6 +247,11 @@ impl Candidates {
         None
     }
 
+    /// Whether it waits to be made again. It then answers nothing: its values have only fallen.
+    pub fn is_waiting(&self) -> bool {
+        self.waiting > 0
+    }
+
     /// Counts an answer.
     pub fn count_answer(&mut self)
         ensures { self.new ≡ self.old }
@@ -225,7 +259,7 @@ impl Candidates {
         self.answers = self.answers.saturating_add(1);
     }
 
-    /// Whether to make a list again that doesn't answer. One that answered less than twice waits
+    /// Whether to make a list again that doesn't answer. One that gave `FEW_ANSWERS` or fewer waits
     /// twice as many bids and one more than before, up to `LONGEST_PAUSE`.
     pub fn is_due(&mut self) -> bool
         ensures { self.new ≡ self.old }
@@ -234,8 +268,8 @@ impl Candidates {
             self.waiting -= 1;
             return self.waiting == 0;
         }
-        self.pause = if self.answers > 1 {
-            self.pause / 2
+        self.pause = if self.answers > FEW_ANSWERS {
+            0
         } else {
             self.pause.min(LONGEST_PAUSE / 2) * 2 + 1
         };
@@ -243,52 +277,69 @@ impl Candidates {
         self.waiting == 0
     }
 
-    // Takes in one more object of the row, whose number is above those before it. Returns the new
-    // limit.
-    fn take_in(&mut self, object: Object, benefit: Benefit, narrow: &[i64], limit: i64) -> i64
+    // Takes in one more object of the row, whose number is above those before it.
+    fn take_in(
+        &mut self,
+        object: Object,
+        benefit: Benefit,
+        narrow: &[i64],
+        reading: &mut Reading,
+    )
         requires object { IsNumber (length narrow.now) object }
         requires benefit { IsBenefit benefit }
         requires narrow { All IsNarrow narrow.now }
         requires row { IsBenefitRow (length narrow.now) self.old.objects }
         ensures { (row : Listing) → IsRising (row ++ (object, benefit) ∷ []) → All (λ e. e.0 < object) row
-            → IsReading row narrow.now self.old limit
-            → IsReading (row ++ (object, benefit) ∷ []) narrow.now self.new result }
+            → IsReading row narrow.now self.old reading.old.limit
+            → IsReading (row ++ (object, benefit) ∷ []) narrow.now self.new reading.new.limit }
     {
+        let count = self.objects.len();
+        reading.values[count] = benefit - narrow[object.place()];
         self.objects.push_reserved((object, benefit));
-        if self.objects.len() <= MOST_CANDIDATES {
-            return limit;
+        if count < MOST_CANDIDATES {
+            return;
         }
-        self.bound = Some(drop_last(&mut self.objects, self.bound, narrow));
-        limit_of(&self.bound, object)
+        let place = last_of(&reading.values);
+        drop_value(&mut reading.values, place);
+        self.bound = Some(drop_at(&mut self.objects, place, self.bound, narrow));
+        reading.limit = limit_of(&self.bound, object);
     }
 
-    // Reads one more object of the row, whose number is above those before it. Returns the new
-    // limit: an object whose value isn't above it is passed over.
-    fn read(&mut self, object: Object, benefit: Benefit, narrow: &[i64], limit: i64) -> i64
+    // Reads one more object of the row, whose number is above those before it.
+    fn read(
+        &mut self,
+        object: Object,
+        benefit: Benefit,
+        narrow: &[i64],
+        reading: &mut Reading,
+    )
         requires object { IsNumber (length narrow.now) object }
         requires benefit { IsBenefit benefit }
         requires narrow { All IsNarrow narrow.now }
         requires row { IsBenefitRow (length narrow.now) self.old.objects }
         ensures { (row : Listing) → IsRising (row ++ (object, benefit) ∷ []) → All (λ e. e.0 < object) row
-            → IsReading row narrow.now self.old limit
-            → IsReading (row ++ (object, benefit) ∷ []) narrow.now self.new result }
+            → IsReading row narrow.now self.old reading.old.limit
+            → IsReading (row ++ (object, benefit) ∷ []) narrow.now self.new reading.new.limit }
     {
-        if is_within(limit, benefit, narrow[object.place()]) {
-            return limit;
+        if is_within(reading.limit, benefit, narrow[object.place()]) {
+            return;
         }
-        self.take_in(object, benefit, narrow, limit)
+        self.take_in(object, benefit, narrow, reading);
     }
 
-    // Starts over, with no object read. Returns the limit.
-    fn restart(&mut self, narrow: &[i64]) -> i64
+    // Starts over, with no object read.
+    fn restart(&mut self, narrow: &[i64]) -> Reading
         requires row { IsBenefitRow (length narrow.now) self.old.objects }
         requires narrow { All IsNarrow narrow.now }
-        ensures { IsReading [] narrow.now self.new result }
+        ensures { IsReading [] narrow.now self.new result.limit }
     {
         self.bound = start_of(self.objects.as_slice(), narrow);
         self.objects.clear();
         self.answers = 0;
-        limit_of(&self.bound, Object(0))
+        Reading {
+            limit: limit_of(&self.bound, Object(0)),
+            values: [0; MOST_CANDIDATES + 1],
+        }
     }
 
     // Makes the candidates those of a row at narrow prices.
@@ -298,10 +349,10 @@ impl Candidates {
         requires narrow { All IsNarrow narrow.now }
         ensures { AreCandidates row.now narrow.now self.new }
     {
-        let mut limit = self.restart(narrow);
+        let mut reading = self.restart(narrow);
         for i in 0..row.len() {
             let (object, benefit) = row[i];
-            limit = self.read(object, benefit, narrow, limit);
+            self.read(object, benefit, narrow, &mut reading);
         }
     }
 
@@ -322,47 +373,49 @@ impl Candidates {
         }
     }
 
-    // Reads the objects of a full row from one place to another, after those before them. Returns
-    // the new limit.
+    // Reads the objects of a full row from one place to another, after those before them.
     fn read_each(
         &mut self,
         benefits: &[Benefit],
         narrow: &[i64],
         from: usize,
         to: usize,
-        limit: i64,
-    ) -> i64
+        reading: &mut Reading,
+    )
         requires long { length benefits.now ≡ length narrow.now }
         requires few { length benefits.now ≤ MOST_PERSONS }
         requires benefits { All IsBenefit benefits.now }
         requires narrow { All IsNarrow narrow.now }
         requires from { from ≤ to }
         requires to { to ≤ length benefits.now }
-        requires reading { IsReading (row_from 1 (take from benefits.now)) narrow.now self.old limit }
-        ensures { IsReading (row_from 1 (take to benefits.now)) narrow.now self.new result }
+        requires reading { IsReading (row_from 1 (take from benefits.now)) narrow.now self.old reading.old.limit }
+        ensures { IsReading (row_from 1 (take to benefits.now)) narrow.now self.new reading.new.limit }
     {
-        let mut reached = limit;
         for i in from..to {
-            reached = self.read(Object(i as u16 + 1), benefits[i], narrow, reached);
+            self.read(Object(i as u16 + 1), benefits[i], narrow, reading);
         }
-        reached
     }
 
     // Reads a block of objects of a full row, and passes over it if none is above the limit.
-    // Returns the new limit.
-    fn read_block(&mut self, benefits: &[Benefit], narrow: &[i64], from: usize, limit: i64) -> i64
+    fn read_block(
+        &mut self,
+        benefits: &[Benefit],
+        narrow: &[i64],
+        from: usize,
+        reading: &mut Reading,
+    )
         requires long { length benefits.now ≡ length narrow.now }
         requires few { length benefits.now ≤ MOST_PERSONS }
         requires benefits { All IsBenefit benefits.now }
         requires narrow { All IsNarrow narrow.now }
         requires room { from + LANES ≤ length benefits.now }
-        requires reading { IsReading (row_from 1 (take from benefits.now)) narrow.now self.old limit }
-        ensures { IsReading (row_from 1 (take (from + LANES) benefits.now)) narrow.now self.new result }
+        requires reading { IsReading (row_from 1 (take from benefits.now)) narrow.now self.old reading.old.limit }
+        ensures { IsReading (row_from 1 (take (from + LANES) benefits.now)) narrow.now self.new reading.new.limit }
     {
-        if none_above(benefits, narrow, from, limit) {
-            return limit;
+        if none_above(benefits, narrow, from, reading.limit) {
+            return;
         }
-        self.read_each(benefits, narrow, from, from + LANES, limit)
+        self.read_each(benefits, narrow, from, from + LANES, reading);
     }
 
     // Makes the candidates those of a full row at narrow prices.
@@ -374,13 +427,13 @@ impl Candidates {
         requires list { IsBenefitRow (length narrow.now) self.old.objects }
         ensures { AreCandidates (row_from 1 benefits.now) narrow.now self.new }
     {
-        let mut limit = self.restart(narrow);
+        let mut reading = self.restart(narrow);
         let mut at = 0;
         while benefits.len() - at >= LANES {
-            limit = self.read_block(benefits, narrow, at, limit);
+            self.read_block(benefits, narrow, at, &mut reading);
             at += LANES;
         }
-        self.read_each(benefits, narrow, at, benefits.len(), limit);
+        self.read_each(benefits, narrow, at, benefits.len(), &mut reading);
     }
 
     /// Makes the candidates those of a row that lists all objects, given as the benefits of objects

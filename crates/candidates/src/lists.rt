@@ -74,9 +74,11 @@ fn best_with(
 {
     // For the proof only: the rows are those of a problem.
     let _n = scaled.n();
-    if let Some(best) = list.best_two_listed(prices) {
-        list.count_answer();
-        return Some(best);
+    if !list.is_waiting() {
+        if let Some(best) = list.best_two_listed(prices) {
+            list.count_answer();
+            return Some(best);
+        }
     }
     if list.is_due() {
         return refill(list, scaled, prices, person);

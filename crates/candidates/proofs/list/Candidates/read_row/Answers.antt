@@ -10,8 +10,8 @@ use Rattle.candidates.proofs.Reading.{candidates_row}
 use Rattle.candidates.proofs.Taken.{taken_on, taken_rising, taken_row}
 use Rattle.candidates.proofs.list.Candidates.read_row.Goals as goal
 
-pub read-limit-requires-clause-row : goal.read-limit-requires-clause-row
-read-limit-requires-clause-row c =
+pub read-requires-clause-row : goal.read-requires-clause-row
+read-requires-clause-row c =
     let row = c.args.row.now in
     let n = length c.args.narrow.now in
     candidates_row n (take c.loop-i.i row) c.args.narrow.now c.loop-i.self (taken_row n row c.loop-i.i c.loop-i.auto.i-end c.requires.row)
@@ -26,13 +26,11 @@ loop-i-preserved c =
     let e = c.index-row-i-in-loop-i.result in
     let lt : i < length row = c.loop-i-test.true in
     let g : SFits w64 (get_or row i e).1 = search rules in
-    let f : SFits w64 c.loop-i.limit = search rules in
-    let h : SFits w64 c.read-limit.result = search rules in
-    let step = simp to_z-of_z at c.read-limit.ensures in
+    let step = simp to_z-of_z at c.read.ensures in
     let on = taken_on row i d e lt in
-    simp to_z-of_z (subst (λ l. IsReading l q c.read-limit.new.self c.read-limit.result) (sym on)
+    subst (λ l. IsReading l q c.read.new.self c.read.new.reading.limit) (sym on)
     (step (take i row) (subst IsRising on (taken_rising row (i + 1) (omega (arith, lt)) c.requires.row.rising)) (taken_below row i d c.requires.row.rising lt)
-    c.loop-i.invariant))
+    c.loop-i.invariant)
 
 pub returns : goal.returns
 returns c =
