@@ -278,13 +278,7 @@ impl Candidates {
     }
 
     // Takes in one more object of the row, whose number is above those before it.
-    fn take_in(
-        &mut self,
-        object: Object,
-        benefit: Benefit,
-        narrow: &[i64],
-        reading: &mut Reading,
-    )
+    fn take_in(&mut self, object: Object, benefit: Benefit, narrow: &[i64], reading: &mut Reading)
         requires object { IsNumber (length narrow.now) object }
         requires benefit { IsBenefit benefit }
         requires narrow { All IsNarrow narrow.now }
@@ -306,13 +300,7 @@ impl Candidates {
     }
 
     // Reads one more object of the row, whose number is above those before it.
-    fn read(
-        &mut self,
-        object: Object,
-        benefit: Benefit,
-        narrow: &[i64],
-        reading: &mut Reading,
-    )
+    fn read(&mut self, object: Object, benefit: Benefit, narrow: &[i64], reading: &mut Reading)
         requires object { IsNumber (length narrow.now) object }
         requires benefit { IsBenefit benefit }
         requires narrow { All IsNarrow narrow.now }
