@@ -1,31 +1,35 @@
 // Lists of candidates.
 ghost use Rattle.std.specs.Vec.{vec_capacity};
-ghost use Rattle.std.specs.Prelude.{slice_index_or, pos, neg_ℤ, ◌^◌, ◌+◌, ◌≡◌, ℕ, ℤ, ◌+ℤ◌, ◌<◌, ◌≤◌, ◌≤ℤ◌, ◌<ℤ◌, ◌⊎◌, List, [], ◌∷◌, ◌++◌, length, take, All, IfOk, IsTrue, MatchOption, vec_len};
+ghost use Rattle.std.specs.Prelude.{slice_index_or, ◌+◌, ◌≡◌, ℕ, ℤ, ◌+ℤ◌, ◌-ℤ◌, ◌<◌, ◌≤◌, ◌≤ℤ◌, ◌<ℤ◌, ◌⊎◌, List, [], ◌∷◌, ◌++◌, length, take, All, IfOk, IsTrue, MatchOption, vec_len};
 ghost use Rattle.assign_core.specs.Numbered.{IsNumber};
 ghost use Rattle.assign_core.specs.Rows.{Listing, IsRising, IsWithin};
 ghost use Rattle.assign_core.specs.declared.numbers.TheConstants.{MOST_PERSONS};
 ghost use Rattle.bidder.specs.declared.skipping.TheConstants.{LANES};
 ghost use Rattle.assign_core.specs.Dense.{row_from};
 ghost use Rattle.assign_core.specs.Benefits.{IsBenefit};
-ghost use Rattle.assign_core.specs.Prices.{IsNarrow, IsPrice, price_of};
+ghost use Rattle.assign_core.specs.Prices.{IsNarrow, price_of};
 ghost use Rattle.scaled_values.specs.Scaled.{IsBenefitRow};
 ghost use Rattle.bidder.specs.BestTwo.{IsBestTwo, best_two};
 ghost use Rattle.candidates.specs.declared.mark.Mark.{Mark};
-ghost use Rattle.candidates.specs.Marks.{IsNotBefore, IsUpTo};
-ghost use Rattle.candidates.specs.Candidates.{AreCandidates, FitAnyRow, IsBeyond, IsLimitBelow};
+ghost use Rattle.candidates.specs.Marks.{IsUpTo};
+ghost use Rattle.candidates.specs.Candidates.{AreCandidates, FitAnyRow, IsBeyond};
+ghost use Rattle.candidates.specs.inside.Reading.{IsLimitAfter, IsReading};
 
 use super::limits::MOST_CANDIDATES;
 use super::mark::Mark;
-use assign_core::{Benefit, Numbered, Object, Price, Prices};
+use assign_core::{Benefit, Numbered, Object, Prices};
 use bidder::{BestTwo, LANES, best_two, best_two_full, none_above};
 use std::alloc::{AllocError, Global};
 use std::marker::Model;
 
 /// A value that no benefit is above.
-const TOP_VALUE: i128 = 1 << 64;
+const TOP_VALUE: i64 = i64::MAX;
+
+/// A list that gave at most so many answers isn't made again at once.
+const FEW_ANSWERS: u8 = 2;
 
 /// The longest pause of a list that answers nothing.
-const LONGEST_PAUSE: u8 = 63;
+const LONGEST_PAUSE: u8 = 255;
 
 /// Some objects of a row with their benefits, and a bound on the row's other objects.
 #[derive(Drop)]
@@ -53,13 +57,17 @@ impl Model for Candidates {
     ghost invariant = { λ c. (vec_len c.objects ≤ MOST_CANDIDATES) × (MOST_CANDIDATES < vec_capacity c.objects) };
 }
 
-// An object's value.
-fn value_of(benefit: Benefit, price: Price) -> i128
-    requires benefit { IsBenefit benefit }
-    requires price { IsPrice price }
-    ensures { result +ℤ price ≡ benefit }
+// A candidate's value at its narrow price.
+fn value_at(objects: &[(Object, Benefit)], place: usize, narrow: &[i64]) -> i64
+    requires place { place < length objects.now }
+    requires within { IsWithin (length narrow.now) objects.now }
+    requires benefits { All (λ e. IsBenefit e.1) objects.now }
+    requires narrow { All IsNarrow narrow.now }
+    ensures { (d : ℕ × ℤ) → let e = slice_index_or objects.now place d in
+        result +ℤ price_of narrow.now e.0 ≡ e.1 }
 {
-    i128::from(benefit) - price
+    let (object, benefit) = objects[place];
+    benefit - narrow[object.place()]
 }
 
 // Whether a best two comes before a mark.
@@ -67,7 +75,8 @@ fn is_before(best: i128, object: Object, second: i128, mark: &Mark) -> bool
     ensures yes { IsTrue result → (mark.now.value ≤ℤ second)
         × ((mark.now.value <ℤ best) ⊎ (object ≤ mark.now.object)) }
 {
-    mark.value <= second && (mark.value < best || object.number() <= mark.object.number())
+    let value = i128::from(mark.value);
+    value <= second && (value < best || object.number() <= mark.object.number())
 }
 
 // Whether a best two of the candidates comes before the bound.
@@ -84,112 +93,123 @@ fn is_beyond(bound: &Option<Mark>, best: &BestTwo) -> bool
 }
 
 // The place of a candidate in the order of values.
-fn mark_at(objects: &[(Object, Benefit)], place: usize, prices: &Prices) -> Mark
-    requires place { place < length objects.now }
-    requires within { IsWithin (length prices.now) objects.now }
-    requires benefits { All (λ e. IsBenefit e.1) objects.now }
-    ensures { (d : ℕ × ℤ) → IsUpTo prices.now result (slice_index_or objects.now place d) }
-{
-    let (object, benefit) = objects[place];
-    Mark {
-        value: value_of(benefit, prices.price(object)),
-        object,
-    }
-}
-
-// A candidate's benefit less its narrow price.
-fn near_value(objects: &[(Object, Benefit)], place: usize, narrow: &[i64]) -> i64
+fn mark_at(objects: &[(Object, Benefit)], place: usize, narrow: &[i64]) -> Mark
     requires place { place < length objects.now }
     requires within { IsWithin (length narrow.now) objects.now }
     requires benefits { All (λ e. IsBenefit e.1) objects.now }
     requires narrow { All IsNarrow narrow.now }
+    ensures { (d : ℕ × ℤ) → IsUpTo narrow.now result (slice_index_or objects.now place d) }
 {
-    let (object, benefit) = objects[place];
-    benefit - narrow[object.place()]
+    Mark {
+        value: value_at(objects, place, narrow),
+        object: objects[place].0,
+    }
 }
 
-// The place of the last candidate in the order of values, in 64 bits: where prices are too great
-// for these, of any candidate.
-fn last_of(objects: &[(Object, Benefit)], prices: &Prices) -> usize
-    requires some { 0 < length objects.now }
-    requires within { IsWithin (length prices.now) objects.now }
-    requires benefits { All (λ e. IsBenefit e.1) objects.now }
-    ensures { result < length objects.now }
+// The place of the last of the values of `MOST_CANDIDATES` candidates and one more.
+fn last_of(values: &[i64; MOST_CANDIDATES + 1]) -> usize
+    ensures { result ≤ MOST_CANDIDATES }
 {
-    let narrow = prices.narrow();
     let mut last = 0;
-    let mut least = near_value(objects, 0, narrow);
-    for i in 1..objects.len() {
-        let value = near_value(objects, i, narrow);
-        if value <= least {
+    let mut least = values[0];
+    for i in 1..MOST_CANDIDATES + 1 {
+        if values[i] <= least {
             last = i;
-            least = value;
+            least = values[i];
         }
     }
     last
 }
 
-// Takes the last candidate out, and gives the bound without it.
-fn drop_last(objects: &mut Vec<(Object, Benefit)>, bound: Option<Mark>, prices: &Prices) -> Mark
-    requires some { 0 < vec_len objects.old }
-    requires within { IsWithin (length prices.now) objects.old.items }
+// Takes out the value at a place; those after it move up.
+fn drop_value(values: &mut [i64; MOST_CANDIDATES + 1], place: usize) {
+    for i in place..MOST_CANDIDATES {
+        values[i] = values[i + 1];
+    }
+}
+
+// Takes out the candidate at a place, and gives a bound without it.
+fn drop_at(
+    objects: &mut Vec<(Object, Benefit)>,
+    place: usize,
+    bound: Option<Mark>,
+    narrow: &[i64],
+) -> Mark
+    requires place { place < vec_len objects.old }
+    requires within { IsWithin (length narrow.now) objects.old.items }
     requires benefits { All (λ e. IsBenefit e.1) objects.old.items }
+    requires narrow { All IsNarrow narrow.now }
     ensures len { vec_len objects.new + 1 ≡ vec_len objects.old }
     ensures capacity { vec_capacity objects.new ≡ vec_capacity objects.old }
     ensures candidates { (row : Listing) → IsRising row
-        → AreCandidates row prices.now (record { objects = objects.old.items; bound = bound })
-        → AreCandidates row prices.now (record { objects = objects.new.items; bound = Some result }) }
+        → AreCandidates row narrow.now (record { objects = objects.old.items; bound = bound })
+        → AreCandidates row narrow.now (record { objects = objects.new.items; bound = Some result }) }
 {
-    let place = last_of(objects.as_slice(), prices);
-    let mark = mark_at(objects.as_slice(), place, prices);
+    let mark = mark_at(objects.as_slice(), place, narrow);
     objects.remove(place);
     mark.or_first(bound)
 }
 
-// Where to start a new bound: at the least value of a full list, since prices rise and the list's
-// objects are in the row.
-fn start_of(objects: &[(Object, Benefit)], prices: &Prices) -> Option<Mark>
-    requires within { IsWithin (length prices.now) objects.now }
+// The least value of some candidates.
+fn least_of(objects: &[(Object, Benefit)], narrow: &[i64]) -> i64
+    requires within { IsWithin (length narrow.now) objects.now }
     requires benefits { All (λ e. IsBenefit e.1) objects.now }
+    requires narrow { All IsNarrow narrow.now }
+{
+    let mut least = i64::MAX;
+    for i in 0..objects.len() {
+        least = least.min(value_at(objects, i, narrow));
+    }
+    least
+}
+
+// Where to start a new bound: below the least value of a full list, since prices rise and the
+// list's objects are in the row.
+fn start_of(objects: &[(Object, Benefit)], narrow: &[i64]) -> Option<Mark>
+    requires within { IsWithin (length narrow.now) objects.now }
+    requires benefits { All (λ e. IsBenefit e.1) objects.now }
+    requires narrow { All IsNarrow narrow.now }
 {
     if objects.len() < MOST_CANDIDATES {
         return None;
     }
-    let last = mark_at(objects, last_of(objects, prices), prices);
     Some(Mark {
-        value: last.value,
-        object: Object(u16::MAX),
+        value: least_of(objects, narrow).saturating_sub(1),
+        object: Object(0),
     })
 }
 
-// Whether the bound is there and an object's place doesn't come before it.
-fn is_covered(bound: &Option<Mark>, own: &Mark) -> bool
-    ensures { IsTrue result → (mark : Mark) × (bound.now ≡ Some mark) × IsNotBefore own.now mark }
+// Whether an object's value isn't above the limit.
+fn is_within(limit: i64, benefit: Benefit, narrow: i64) -> bool
+    requires benefit { IsBenefit benefit }
+    requires narrow { IsNarrow narrow }
+    ensures { IsTrue result → (benefit -ℤ narrow) ≤ℤ limit }
 {
-    match bound {
-        None => false,
-        Some(mark) => own.is_not_before(mark),
-    }
+    benefit - narrow <= limit
 }
 
-// A number of 64 bits that only lower values aren't above.
-fn lower_than(value: i128) -> i64
-    ensures { (v : ℤ) → neg_ℤ (pos (2 ^ 63)) <ℤ v → v ≤ℤ result → v <ℤ value }
-{
-    if value <= i128::from(i64::MIN) || i128::from(i64::MAX) < value {
-        return i64::MIN;
-    }
-    (value - 1) as i64
-}
-
-// A limit in 64 bits: a value up to it is lower than the bound's.
-fn limit_below(bound: &Option<Mark>) -> i64
-    ensures { IsLimitBelow bound.now result }
+// A limit for the values of objects above this one.
+fn limit_of(bound: &Option<Mark>, object: Object) -> i64
+    ensures { IsLimitAfter bound.now object result }
 {
     match bound {
         None => i64::MIN,
-        Some(mark) => lower_than(mark.value),
+        Some(mark) => {
+            if mark.object.number() <= object.number() {
+                mark.value
+            } else {
+                i64::MIN
+            }
+        }
     }
+}
+
+// What a reading of a row keeps: an object whose value isn't above the limit is passed over. No
+// proof needs the values of the candidates; they spare reads of prices.
+#[derive(Drop)]
+struct Reading {
+    limit: i64,
+    values: [i64; MOST_CANDIDATES + 1],
 }
 
 impl Candidates {
@@ -227,6 +247,11 @@ impl Candidates {
         None
     }
 
+    /// Whether it waits to be made again. It then answers nothing: its values have only fallen.
+    pub fn is_waiting(&self) -> bool {
+        self.waiting > 0
+    }
+
     /// Counts an answer.
     pub fn count_answer(&mut self)
         ensures { self.new ≡ self.old }
@@ -234,7 +259,7 @@ impl Candidates {
         self.answers = self.answers.saturating_add(1);
     }
 
-    /// Whether to make a list again that doesn't answer. One that answered less than twice waits
+    /// Whether to make a list again that doesn't answer. One that gave `FEW_ANSWERS` or fewer waits
     /// twice as many bids and one more than before, up to `LONGEST_PAUSE`.
     pub fn is_due(&mut self) -> bool
         ensures { self.new ≡ self.old }
@@ -243,8 +268,8 @@ impl Candidates {
             self.waiting -= 1;
             return self.waiting == 0;
         }
-        self.pause = if self.answers > 1 {
-            self.pause / 2
+        self.pause = if self.answers > FEW_ANSWERS {
+            0
         } else {
             self.pause.min(LONGEST_PAUSE / 2) * 2 + 1
         };
@@ -252,40 +277,76 @@ impl Candidates {
         self.waiting == 0
     }
 
-    // Reads one more object of the row, whose number is above those before it.
-    fn read(&mut self, object: Object, benefit: Benefit, prices: &Prices)
-        requires object { IsNumber (length prices.now) object }
+    // Takes in one more object of the row, whose number is above those before it.
+    fn take_in(&mut self, object: Object, benefit: Benefit, narrow: &[i64], reading: &mut Reading)
+        requires object { IsNumber (length narrow.now) object }
         requires benefit { IsBenefit benefit }
-        requires row { IsBenefitRow (length prices.now) self.old.objects }
+        requires narrow { All IsNarrow narrow.now }
+        requires row { IsBenefitRow (length narrow.now) self.old.objects }
         ensures { (row : Listing) → IsRising (row ++ (object, benefit) ∷ []) → All (λ e. e.0 < object) row
-            → AreCandidates row prices.now self.old
-            → AreCandidates (row ++ (object, benefit) ∷ []) prices.now self.new }
+            → IsReading row narrow.now self.old reading.old.limit
+            → IsReading (row ++ (object, benefit) ∷ []) narrow.now self.new reading.new.limit }
     {
-        let own = Mark {
-            value: value_of(benefit, prices.price(object)),
-            object,
-        };
-        if is_covered(&self.bound, &own) {
+        let count = self.objects.len();
+        reading.values[count] = benefit - narrow[object.place()];
+        self.objects.push_reserved((object, benefit));
+        if count < MOST_CANDIDATES {
             return;
         }
-        self.objects.push_reserved((object, benefit));
-        if self.objects.len() > MOST_CANDIDATES {
-            self.bound = Some(drop_last(&mut self.objects, self.bound, prices));
+        let place = last_of(&reading.values);
+        drop_value(&mut reading.values, place);
+        self.bound = Some(drop_at(&mut self.objects, place, self.bound, narrow));
+        reading.limit = limit_of(&self.bound, object);
+    }
+
+    // Reads one more object of the row, whose number is above those before it.
+    fn read(&mut self, object: Object, benefit: Benefit, narrow: &[i64], reading: &mut Reading)
+        requires object { IsNumber (length narrow.now) object }
+        requires benefit { IsBenefit benefit }
+        requires narrow { All IsNarrow narrow.now }
+        requires row { IsBenefitRow (length narrow.now) self.old.objects }
+        ensures { (row : Listing) → IsRising (row ++ (object, benefit) ∷ []) → All (λ e. e.0 < object) row
+            → IsReading row narrow.now self.old reading.old.limit
+            → IsReading (row ++ (object, benefit) ∷ []) narrow.now self.new reading.new.limit }
+    {
+        if is_within(reading.limit, benefit, narrow[object.place()]) {
+            return;
         }
+        self.take_in(object, benefit, narrow, reading);
     }
 
     // Starts over, with no object read.
-    fn restart(&mut self, prices: &Prices)
-        requires { IsBenefitRow (length prices.now) self.old.objects }
-        ensures { (q : List ℤ) → AreCandidates [] q self.new }
+    fn restart(&mut self, narrow: &[i64]) -> Reading
+        requires row { IsBenefitRow (length narrow.now) self.old.objects }
+        requires narrow { All IsNarrow narrow.now }
+        ensures { IsReading [] narrow.now self.new result.limit }
     {
-        self.bound = start_of(self.objects.as_slice(), prices);
+        self.bound = start_of(self.objects.as_slice(), narrow);
         self.objects.clear();
         self.answers = 0;
+        Reading {
+            limit: limit_of(&self.bound, Object(0)),
+            values: [0; MOST_CANDIDATES + 1],
+        }
+    }
+
+    // Makes the candidates those of a row at narrow prices.
+    fn read_row(&mut self, row: &[(Object, Benefit)], narrow: &[i64])
+        requires row { IsBenefitRow (length narrow.now) row.now }
+        requires list { IsBenefitRow (length narrow.now) self.old.objects }
+        requires narrow { All IsNarrow narrow.now }
+        ensures { AreCandidates row.now narrow.now self.new }
+    {
+        let mut reading = self.restart(narrow);
+        for i in 0..row.len() {
+            let (object, benefit) = row[i];
+            self.read(object, benefit, narrow, &mut reading);
+        }
     }
 
     /// Makes the candidates those of a row at these prices, and finds its best object and the
-    /// second value; `None` for an empty row. It takes no memory.
+    /// second value; `None` for an empty row. It takes no memory, and reads the row in 64 bits: no
+    /// narrow price is above its own, so candidates at narrow prices are candidates.
     pub fn refill(&mut self, row: &[(Object, Benefit)], prices: &Prices) -> Option<BestTwo>
         requires row { IsBenefitRow (length prices.now) row.now }
         requires list { IsBenefitRow (length prices.now) self.old.objects }
@@ -293,11 +354,7 @@ impl Candidates {
         ensures best { MatchOption result (row.now ≡ []) (IsBestTwo row.now prices.now) }
         ensures only { result ≡ best_two row.now prices.now }
     {
-        self.restart(prices);
-        for i in 0..row.len() {
-            let (object, benefit) = row[i];
-            self.read(object, benefit, prices);
-        }
+        self.read_row(row, prices.narrow());
         match self.best_two_listed(prices) {
             Some(best) => Some(best),
             None => best_two(row, prices),
@@ -305,38 +362,71 @@ impl Candidates {
     }
 
     // Reads the objects of a full row from one place to another, after those before them.
-    fn read_each(&mut self, benefits: &[Benefit], prices: &Prices, from: usize, to: usize)
-        requires long { length benefits.now ≡ length prices.now }
+    fn read_each(
+        &mut self,
+        benefits: &[Benefit],
+        narrow: &[i64],
+        from: usize,
+        to: usize,
+        reading: &mut Reading,
+    )
+        requires long { length benefits.now ≡ length narrow.now }
         requires few { length benefits.now ≤ MOST_PERSONS }
         requires benefits { All IsBenefit benefits.now }
+        requires narrow { All IsNarrow narrow.now }
         requires from { from ≤ to }
         requires to { to ≤ length benefits.now }
-        requires candidates { AreCandidates (row_from 1 (take from benefits.now)) prices.now self.old }
-        ensures { AreCandidates (row_from 1 (take to benefits.now)) prices.now self.new }
+        requires reading { IsReading (row_from 1 (take from benefits.now)) narrow.now self.old reading.old.limit }
+        ensures { IsReading (row_from 1 (take to benefits.now)) narrow.now self.new reading.new.limit }
     {
         for i in from..to {
-            self.read(Object(i as u16 + 1), benefits[i], prices);
+            self.read(Object(i as u16 + 1), benefits[i], narrow, reading);
         }
     }
 
-    // Reads a block of objects of a full row, and passes over it if all are lower than the bound.
-    fn read_block(&mut self, benefits: &[Benefit], prices: &Prices, from: usize)
-        requires long { length benefits.now ≡ length prices.now }
+    // Reads a block of objects of a full row, and passes over it if none is above the limit.
+    fn read_block(
+        &mut self,
+        benefits: &[Benefit],
+        narrow: &[i64],
+        from: usize,
+        reading: &mut Reading,
+    )
+        requires long { length benefits.now ≡ length narrow.now }
         requires few { length benefits.now ≤ MOST_PERSONS }
         requires benefits { All IsBenefit benefits.now }
+        requires narrow { All IsNarrow narrow.now }
         requires room { from + LANES ≤ length benefits.now }
-        requires candidates { AreCandidates (row_from 1 (take from benefits.now)) prices.now self.old }
-        ensures { AreCandidates (row_from 1 (take (from + LANES) benefits.now)) prices.now self.new }
+        requires reading { IsReading (row_from 1 (take from benefits.now)) narrow.now self.old reading.old.limit }
+        ensures { IsReading (row_from 1 (take (from + LANES) benefits.now)) narrow.now self.new reading.new.limit }
     {
-        if none_above(benefits, prices.narrow(), from, limit_below(&self.bound)) {
+        if none_above(benefits, narrow, from, reading.limit) {
             return;
         }
-        self.read_each(benefits, prices, from, from + LANES);
+        self.read_each(benefits, narrow, from, from + LANES, reading);
+    }
+
+    // Makes the candidates those of a full row at narrow prices.
+    fn read_full(&mut self, benefits: &[Benefit], narrow: &[i64])
+        requires long { length benefits.now ≡ length narrow.now }
+        requires few { length benefits.now ≤ MOST_PERSONS }
+        requires benefits { All IsBenefit benefits.now }
+        requires narrow { All IsNarrow narrow.now }
+        requires list { IsBenefitRow (length narrow.now) self.old.objects }
+        ensures { AreCandidates (row_from 1 benefits.now) narrow.now self.new }
+    {
+        let mut reading = self.restart(narrow);
+        let mut at = 0;
+        while benefits.len() - at >= LANES {
+            self.read_block(benefits, narrow, at, &mut reading);
+            at += LANES;
+        }
+        self.read_each(benefits, narrow, at, benefits.len(), &mut reading);
     }
 
     /// Makes the candidates those of a row that lists all objects, given as the benefits of objects
     /// 1, 2, .., at these prices, and finds its best object and the second value; `None` for an
-    /// empty row. It takes no memory.
+    /// empty row. It takes no memory, and reads the row in 64 bits.
     pub fn refill_full(&mut self, benefits: &[Benefit], prices: &Prices) -> Option<BestTwo>
         requires long { length benefits.now ≡ length prices.now }
         requires benefits { All IsBenefit benefits.now }
@@ -348,13 +438,7 @@ impl Candidates {
     {
         // For the proof only: the number of prices is in range.
         let _table = prices.as_slice();
-        self.restart(prices);
-        let mut at = 0;
-        while benefits.len() - at >= LANES {
-            self.read_block(benefits, prices, at);
-            at += LANES;
-        }
-        self.read_each(benefits, prices, at, benefits.len());
+        self.read_full(benefits, prices.narrow());
         match self.best_two_listed(prices) {
             Some(best) => Some(best),
             None => best_two_full(benefits, prices),

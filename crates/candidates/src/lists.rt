@@ -18,9 +18,6 @@ use std::marker::Model;
 /// Rows of at most as many pairs have no list, and are read whole each time.
 pub const SHORT_ROW: usize = 48;
 
-/// Problems of at most as many persons have no lists: they gain little, and similar rows lose.
-pub const FEW_PERSONS: u16 = 1024;
-
 /// The candidates of persons 1, 2, .., while nobody has taken them.
 #[derive(Drop)]
 pub struct CandidateLists {
@@ -74,9 +71,11 @@ fn best_with(
 {
     // For the proof only: the rows are those of a problem.
     let _n = scaled.n();
-    if let Some(best) = list.best_two_listed(prices) {
-        list.count_answer();
-        return Some(best);
+    if !list.is_waiting() {
+        if let Some(best) = list.best_two_listed(prices) {
+            list.count_answer();
+            return Some(best);
+        }
     }
     if list.is_due() {
         return refill(list, scaled, prices, person);
@@ -147,14 +146,13 @@ impl CandidateLists {
         }
     }
 
-    /// Lists for persons 1, 2, .. of a problem with many persons: as many as memory allows.
+    /// Lists for persons 1, 2, .. of a problem: as many as memory allows.
     pub fn new(alloc: Global, scaled: &Scaled) -> CandidateLists
         ensures { (prices : List ℤ) → IsTable prices → length prices ≡ length scaled.now.problem
             → HaveCandidates scaled.now prices result }
     {
-        if scaled.n() <= FEW_PERSONS {
-            return CandidateLists::none(alloc);
-        }
+        // For the proof only: the rows are those of a problem.
+        let _n = scaled.n();
         let mut lists = Vec::new(alloc);
         fill(alloc, scaled, &mut lists);
         CandidateLists { lists }
