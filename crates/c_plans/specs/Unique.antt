@@ -41,7 +41,7 @@ unique_input sense n m of_persons of_objects costs buffers = record {
 pub record ShowsOnly (l : ListedCosts) (xs : List ℕ) (prices : List ℤ) (before after : UniqueBuffers) (code : ℤ) : Type 0 where
   pub is : code ≡ pos 0
   pub proof : IsOptimum l xs prices
-  pub ranked : AreRanked true (pos 1) l xs prices after.ranks
+  pub ranked : AreRanked true (pos 1) l xs prices after.ranks 0 []
   pub only : IsOnlyBest l.sense l.rows xs
   pub stays : after ≡ record before { ranks = after.ranks }
 

@@ -3,6 +3,7 @@
 #![tactic(auto)]
 
 mod free;
+mod further;
 mod law;
 mod pairs;
 mod rank;

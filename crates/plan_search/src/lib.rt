@@ -10,4 +10,4 @@ mod search;
 mod values;
 mod walk;
 
-pub use search::{Found, find_other};
+pub use search::{Found, Shown, find_other};

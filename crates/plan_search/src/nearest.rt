@@ -142,12 +142,6 @@ impl Nearest {
         self.heap.clear();
     }
 
-    // How many arcs a node has.
-    fn width(&self, arcs: &Arcs, node: usize) -> u64 {
-        arcs.start(node.wrapping_add(1))
-            .saturating_sub(arcs.start(node)) as u64
-    }
-
     /// Looks for a lesser cycle through a node, along nodes that the walk hasn't left, with so many looks at
     /// most.
     pub fn search(
@@ -167,7 +161,7 @@ impl Nearest {
                 break;
             }
             if length == self.distance(node) {
-                *arc_scans = arc_scans.saturating_sub(self.width(arcs, node).saturating_add(1));
+                *arc_scans = arc_scans.saturating_sub(arcs.width(node).saturating_add(1));
                 self.look(arcs, walk, first, node, length)?;
             }
         }

@@ -14,5 +14,11 @@ loop-j-preserved c =
     let in_range = simp to_z-of_z at c.is_free.ensures.in_range in
     let both = simp to_z-of_z at c.is_free.ensures.free in
     let here = both.0 c.if-not-is_free.false in
-    let at : IsFreeAt p.bound c.args.owned.now p.prices.now p.ranks.now j = record { in_range = in_range; unowned = elim here.0 [ inl owned ↦ inl (numbered-next c.args.owned.now j false ∙ owned) | inr zero ↦ inr zero ]; free = here.1 } in
+    let low = simp to_z-of_z at c.is_low.ensures in
+    let at : IsFreeAt c.args.owned.now p j = record {
+      in_range = in_range;
+      unowned = elim here.0 [ inl owned ↦ inl (numbered-next c.args.owned.now j false ∙ owned) | inr zero ↦ inr zero ];
+      unpriced = elim (c.is_unpriced.ensures.0 here.1.0) [ inl owned ↦ inl (numbered-next c.args.owned.now j false ∙ owned) | inr zero ↦ inr zero ];
+      free = λ below stays. here.1.1 (low.1 (below, stays));
+    } in
     below_more _ _ c.loop-j.invariant at
