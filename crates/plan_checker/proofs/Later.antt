@@ -22,15 +22,15 @@ module _ (p : Plan) (i k : ℕ) (cost : ℤ) where
   pub dearer : (t : ℕ) → t < p.count → IsOpenBefore t → own_other_sum p t i ≤ℤ other_sum p t k cost →
       (other_sum p t k cost <ℤ (own_other_sum p t i +ℤ p.bound) → ⊥) → RisesLater p i k cost
   dearer t lt before low far = record {
-    proved = λ s room open. elim (cases_lt s t) [
-        | inl earlier ↦ (before s earlier).0
-        | inr past ↦ elim (cases_lt t s) [
-          | inl later ↦ absurd (far (open t later))
-          | inr upto ↦ let e : t ≡ s = omega arith in subst (λ z. own_other_sum p z i ≤ℤ other_sum p z k cost) e low
-        ]
-      ];
-    higher = λ open. absurd (far (open t lt));
+    proved = λ s room still. elim (cases_lt s t) [
+      | inl earlier ↦ (before s earlier).0
+      | inr past ↦ elim (cases_lt t s) [
+        | inl later ↦ absurd (far (still t later))
+        | inr upto ↦ let e : t ≡ s = omega arith in subst (λ z. own_other_sum p z i ≤ℤ other_sum p z k cost) e low
+      ]
+    ];
+    higher = λ still. absurd (far (still t lt));
   }
 
   pub open_by_all : IsOpenBefore p.count → RisesLater p i k cost ↔ IsHigher p i k
-  open_by_all before = ((λ r. r.higher (stays p.count before)), (λ h. record { proved = λ t lt open. (before t lt).0; higher = λ open. h }))
+  open_by_all before = ((λ r. r.higher (stays p.count before)), (λ h. record { proved = λ t lt still. (before t lt).0; higher = λ still. h }))

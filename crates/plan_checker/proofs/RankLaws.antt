@@ -12,7 +12,7 @@ use Rattle.assign_core.specs.declared.sense.Sense.{Sense}
 use Rattle.assign_core.specs.declared.sense.Sense.TheVariants.{Min, Max}
 use Rattle.assign_core.specs.declared.numbers.TheConstants.{GREATEST_COST}
 use Rattle.assign_core.specs.Numbered.{IsNumber}
-use Rattle.assign_core.specs.Rows.{HasCosts, IsCost, Listing, listed_in, listed_or_zero}
+use Rattle.assign_core.specs.Rows.{HasCosts, Listing, listed_in, listed_or_zero}
 use Rattle.assign_core.specs.Assignment.{AreListed, IsAssignment, IsBest}
 use Rattle.assign_core.specs.Prices.{price_of}
 use Rattle.assign_core.proofs.Distinct.{sum_z}
@@ -23,15 +23,14 @@ use Rattle.cost_lists.specs.declared.numbers.TheConstants.{GREATEST_PRICE}
 use Rattle.cost_lists.specs.Blocks.{reduced_sum}
 use Rattle.cost_lists.specs.Exact.{AreFree, IsChoice, IsOptimum, IsPriceInLimits}
 use Rattle.cost_lists.specs.ListedCosts.{AreInLimits, ListedCosts}
-use Rattle.cost_lists.specs.Own.{minimised}
 use Rattle.cost_lists.specs.Source.{part_of}
 use Rattle.cost_lists.proofs.ExactDuality.{best_exact, some_cost}
 use Rattle.cost_lists.proofs.Owns.{turned_order, turned_range}
 use Rattle.plan_checker.specs.declared.rank.TheConstants.{NO_BOUND}
-use Rattle.plan_checker.specs.Next.{IsBestBy, IsOnlyAssignment, excess}
+use Rattle.plan_checker.specs.Next.{excess}
 use Rattle.plan_checker.specs.Ranks.{AreRanked, IsLow, IsOpen, RanksMeanAlone, RanksMeanKept, RanksMeanNext, RanksMeanOnly, rank_of, step_of}
 use Rattle.plan_checker.proofs.Covered.{IsWithout, absent, but, but_least, covered, held, number_held, taken}
-use Rattle.plan_checker.proofs.PairSums.{AreUp, reduced, sum_alone, sum_over, sum_reduced, sums_up}
+use Rattle.plan_checker.proofs.PairSums.{AreUp, reduced, sum_alone, sum_reduced, sums_up}
 
 -- a choice has the least sum, by turned costs
 choice_low : (sense : Sense) (prices : List ℤ) (row : Listing) (x : ℕ) → IsChoice sense prices row x → (k : ℕ) (c : ℤ) → listed_in row k ≡ Some c →
@@ -153,13 +152,14 @@ module _ (l : ListedCosts) (xs : List ℕ) (limits : AreInLimits l) (a : IsAssig
     }
 
     list_bounds : (t : ℕ) → t < count → BoundBefore t → Bounds (list_at t)
+    unfolding open_at
     list_bounds t lt before = record {
       in_range = part_limits l.m t others r.priced.in_range;
       free = r.priced.free t lt;
       up = λ i below. elim (eqb_tells (get_or ys i 0) (get_or xs i 0)) [
-          | inl e ↦ let same = ap (reduced l.sense (list_at t) (get_or l.rows i [])) e.1 in omega (arith, ints)
-          | inr e ↦ r.proved t (suc i) (get_or ys i 0) lt (open_at t before i below) e.1
-        ];
+        | inl e ↦ let same = ap (reduced l.sense (list_at t) (get_or l.rows i [])) e.1 in omega (arith, ints)
+        | inr e ↦ r.proved t (suc i) (get_or ys i 0) lt (open_at t before i below) e.1
+      ];
     }
 
     bound_before : (t : ℕ) → t ≤ count → BoundBefore t
@@ -187,7 +187,7 @@ module _ (l : ListedCosts) (xs : List ℕ) (limits : AreInLimits l) (a : IsAssig
     ]
 
     low_left : (j : ℕ) → Contains xs j → IsWithout j ys → IsLow bound l.m prices count others j
-    low_left j c none = record { first = left prices (optimum_bounds prices o) j c none; others = λ t lt. left (list_at t) (all_bound t lt) j c none }
+    low_left j c none = record { first = left prices (optimum_bounds prices o) j c none; later = λ t lt. left (list_at t) (all_bound t lt) j c none }
 
     ranks_fall : sum_z (rank_of ranks) ys ≤ℤ sum_z (rank_of ranks) xs
     ranks_fall =

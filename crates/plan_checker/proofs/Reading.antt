@@ -30,7 +30,7 @@ use Rattle.cost_lists.proofs.Owns.{own_numbered_is, turned_order, turned_range}
 use Rattle.cost_lists.proofs.Triples.{place_of_triple, triples_among}
 use Rattle.block_checker.proofs.GivenPairs.{pair_read, row_read}
 use Rattle.plan_checker.specs.declared.rises.Plan.{Plan}
-use Rattle.plan_checker.specs.Ranks.{IsInCore, IsLow, IsOpen, IsRank, ProveOpen, RanksRise, own_sum, rank_of, step_of}
+use Rattle.plan_checker.specs.Ranks.{IsInCore, IsLow, IsRank, ProveOpen, RanksRise, own_sum, rank_of}
 use Rattle.plan_checker.specs.inside.Rises.{IsFreeAt, IsPlan, IsSum, PairsRise, Rises, RisesLater, RowRises, RowsRise, StaysLow, StaysOpen, object_at, other_price_at, own_other_sum, price_at, rank_at, sum_at}
 
 pub listed_long : (rows : List Listing) (xs : List ℕ) → AreListed rows xs → length xs ≡ length rows
@@ -149,22 +149,22 @@ module _ (l : ListedCosts) (p : Plan) (are : IsPlan (length l.rows) l.m p) (same
   all_shown : ((i k : ℕ) (c : ℤ) → listed_in (row_of l.rows i) k ≡ Some c → IsRead i k c) → AreShown
   all_shown read = (
     (λ t i k lt o other.
-    let c : ℤ = o.core.cost in
-    let r = read i k c o.core.listed in
-    let later = shown i k c r.person r.object r.rises o.core.low other in
-    let proved = later.proved t lt (stays_open t i k c r.person o.low) in
-    let sum = other_sum_is t i r.person in
-    let price = other_is t k in
-    let turned = ap (λ z. minimised z c) same in
-    omega (arith, ints)),
+        let c : ℤ = o.core.cost in
+        let r = read i k c o.core.listed in
+        let later = shown i k c r.person r.object r.rises o.core.low other in
+        let proved = later.proved t lt (stays_open t i k c r.person o.low) in
+        let sum = other_sum_is t i r.person in
+        let price = other_is t k in
+        let turned = ap (λ z. minimised z c) same in
+        omega (arith, ints)),
     (λ i k o other.
-    let c : ℤ = o.core.cost in
-    let r = read i k c o.core.listed in
-    let later = shown i k c r.person r.object r.rises o.core.low other in
-    let here = later.higher (stays_open p.count i k c r.person o.low) in
-    let from = own_rank_is i r.person in
-    let to = rank_is k r.object in
-    omega (arith, ints)),
+        let c : ℤ = o.core.cost in
+        let r = read i k c o.core.listed in
+        let later = shown i k c r.person r.object r.rises o.core.low other in
+        let here = later.higher (stays_open p.count i k c r.person o.low) in
+        let from = own_rank_is i r.person in
+        let to = rank_is k r.object in
+        omega (arith, ints)),
   )
 
   -- and the other way: a pair may be given at a cost that isn't its best one
@@ -302,7 +302,7 @@ module _ (n m : ℕ) (xs : List ℕ) (owned : List Bool) (p : Plan) (long : leng
         let rank = numbered-index p.ranks.now j (pos 0) (pos 0) first (let e = are.ranks_long in omega arith) in
         let price = numbered-index p.prices.now j (pos 0) (pos 0) first (let e = are.prices_long in omega arith) in
         let below = low.first in
-        let stays : StaysLow p (j - 1) = λ t lt. let here = low.others t lt in let is = list_is t j ∙ sym (ap (other_price_at p t) e) in omega (arith, ints) in
+        let stays : StaysLow p (j - 1 + 1) = λ t lt. let here = low.later t lt in let is = list_is t j ∙ sym (ap (other_price_at p t) e) in omega (arith, ints) in
         let up = (h (j - 1) (omega arith)).free (omega (arith, ints)) stays in
         omega (arith, ints);
   }
@@ -315,12 +315,15 @@ module _ (n m : ℕ) (xs : List ℕ) (owned : List Bool) (p : Plan) (long : leng
       record {
         in_range = h.in_range j (pos 0) (let e = are.ranks_long in omega arith);
         unowned = elim (h.unowned (j + 1) number) [ inl owned ↦ inl ((marks (j + 1)).1 owned) | inr zero ↦ inr (sym rank ∙ zero) ];
-        unpriced = elim (marked_or_not (numbered owned (j + 1) false)) [ inl owned ↦ inl owned | inr none ↦ inr (λ t below. elim (h.unpriced t below (j + 1) number) [
-          | inl owned ↦ absurd (none ((marks (j + 1)).1 owned))
-          | inr zero ↦ sym (list_is t (j + 1)) ∙ zero
-        ]) ];
+        unpriced = elim (marked_or_not (numbered owned (j + 1) false)) [
+          | inl owned ↦ inl owned
+          | inr none ↦ inr (λ t below. elim (h.unpriced t below (j + 1) number) [
+            | inl owned ↦ absurd (none ((marks (j + 1)).1 owned))
+            | inr zero ↦ sym (list_is t (j + 1)) ∙ zero
+          ])
+        ];
         free = λ below stays.
-            let up = h.free (j + 1) number (record { first = omega (arith, ints); others = λ t lt. let here = stays t lt in let is = list_is t (j + 1) in omega (arith, ints) }) in
+            let up = h.free (j + 1) number (record { first = omega (arith, ints); later = λ t lt. let here = stays t lt in let is = list_is t (j + 1) in omega (arith, ints) }) in
             omega (arith, ints);
       }
 

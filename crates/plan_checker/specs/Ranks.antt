@@ -66,7 +66,7 @@ RanksRise strict bound l xs prices ranks count others =
 -- the price of object j is below a bound, and also by each further list
 pub record IsLow (bound : ℤ) (m : ℕ) (prices : List ℤ) (count : ℕ) (others : List ℤ) (j : ℕ) : Type 0 where
   pub first : price_of prices j <ℤ bound
-  pub others : (t : ℕ) → t < count → price_of (part_of m t others) j <ℤ bound
+  pub later : (t : ℕ) → t < count → price_of (part_of m t others) j <ℤ bound
 
 -- a rank for each object, and further lists of prices, which prove the assignment among the pairs that are
 -- still open below a bound: ranks rise where a pair stays open, and the rank is 0 where nobody owns the

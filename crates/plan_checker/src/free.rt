@@ -1,5 +1,5 @@
 // Ranks of objects that nobody owns, and of those whose price is below a bound.
-ghost use Rattle.std.specs.Prelude.{◌≡◌, ◌↔◌, ◌⊎◌, ◌+◌, ◌≤◌, ◌≤ℤ◌, ◌<ℤ◌, ◌<◌, ℕ, pos, IsTrue, length, slice_index_or};
+ghost use Rattle.std.specs.Prelude.{◌≡◌, ◌↔◌, ◌⊎◌, ◌≤◌, ◌≤ℤ◌, ◌<ℤ◌, ◌<◌, ℕ, pos, IsTrue, length};
 ghost use Rattle.assign_core.specs.Numbered.{IsNumber};
 ghost use Rattle.plan_checker.specs.Ranks.{IsRank};
 ghost use Rattle.plan_checker.specs.inside.Rises.{HasNoPrice, IsFreeAt, IsPlan, StaysLow};
@@ -7,24 +7,22 @@ ghost use Rattle.plan_checker.specs.inside.Rises.{HasNoPrice, IsFreeAt, IsPlan, 
 use super::further::{has_no_price, stays_low};
 use super::rank::Rank;
 use super::rises::Plan;
-use cost_lists::GREATEST_NUMBER;
+use cost_lists::{GREATEST_NUMBER, Object, Price};
 
-// Whether the price of the object at a place is below the bound, and stays so.
-fn is_low(plan: Plan<'_>, place: usize) -> bool
-    requires plan { (n m : ℕ) × IsPlan n m plan × IsNumber m (place + 1) }
-    ensures { IsTrue result
-        ↔ ((slice_index_or plan.entry.prices.now place (pos 0) <ℤ plan.entry.bound)
-        × StaysLow plan.entry place) }
+// Whether the price of an object is below the bound, and stays so.
+fn is_low(plan: Plan<'_>, price: Price, object: Object) -> bool
+    requires plan { (n m : ℕ) × IsPlan n m plan × IsNumber m object }
+    ensures { IsTrue result ↔ ((price <ℤ plan.entry.bound) × StaysLow plan.entry object) }
 {
-    plan.prices[place] < plan.bound && stays_low(plan, place)
+    price < plan.bound && stays_low(plan, object)
 }
 
 // Whether an object that isn't owned has price 0 by each further list.
-fn is_unpriced(plan: Plan<'_>, owned: bool, place: usize) -> bool
-    requires plan { (n m : ℕ) × IsPlan n m plan × IsNumber m (place + 1) }
-    ensures { IsTrue result ↔ (IsTrue owned ⊎ HasNoPrice plan.entry place) }
+fn is_unpriced(plan: Plan<'_>, owned: bool, object: Object) -> bool
+    requires plan { (n m : ℕ) × IsPlan n m plan × IsNumber m object }
+    ensures { IsTrue result ↔ (IsTrue owned ⊎ HasNoPrice plan.entry object) }
 {
-    owned || has_no_price(plan, place)
+    owned || has_no_price(plan, object)
 }
 
 // Whether the rank of an object may stand with these prices.
@@ -44,8 +42,9 @@ pub fn are_free(owned: &[bool], plan: Plan<'_>) -> bool
     ensures { IsTrue result ↔ ((j : ℕ) → j < length owned.now → IsFreeAt owned.now plan.entry j) }
 {
     for j in 0..owned.len() {
-        let unpriced = is_unpriced(plan, owned[j], j);
-        let low = is_low(plan, j);
+        let object = j as u32 + 1;
+        let unpriced = is_unpriced(plan, owned[j], object);
+        let low = is_low(plan, plan.prices[j], object);
         if !is_free(owned[j], unpriced, low, plan.ranks[j]) {
             return false;
         }

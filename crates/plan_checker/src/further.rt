@@ -1,5 +1,5 @@
 // Further lists of prices, one after the other.
-ghost use Rattle.std.specs.Prelude.{◌≡◌, ◌↔◌, ◌+◌, ◌<◌, ℕ, IsTrue, All, length};
+ghost use Rattle.std.specs.Prelude.{◌≡◌, ◌↔◌, ◌<◌, ℕ, IsTrue, All};
 ghost use Rattle.assign_core.specs.Numbered.{IsNumber};
 ghost use Rattle.cost_lists.specs.Exact.{IsPriceInLimits};
 ghost use Rattle.plan_checker.specs.inside.Rises.{HasNoPrice, IsPlan, StaysLow, other_price_at};
@@ -36,13 +36,13 @@ pub fn other_price(plan: Plan<'_>, list: usize, object: Object) -> Price
     part(plan.others, list, plan.prices.len())[object as usize - 1]
 }
 
-// Whether the price of the object at a place is below the bound by each further list.
-pub fn stays_low(plan: Plan<'_>, place: usize) -> bool
-    requires plan { (n m : ℕ) × IsPlan n m plan × IsNumber m (place + 1) }
-    ensures { IsTrue result ↔ StaysLow plan.entry place }
+// Whether the price of an object is below the bound by each further list.
+pub fn stays_low(plan: Plan<'_>, object: Object) -> bool
+    requires plan { (n m : ℕ) × IsPlan n m plan × IsNumber m object }
+    ensures { IsTrue result ↔ StaysLow plan.entry object }
 {
     for list in 0..plan.count {
-        if other_price(plan, list, place as u32 + 1) >= plan.bound {
+        if other_price(plan, list, object) >= plan.bound {
             return false;
         }
     }
@@ -50,12 +50,12 @@ pub fn stays_low(plan: Plan<'_>, place: usize) -> bool
 }
 
 // Whether it is 0 by each.
-pub fn has_no_price(plan: Plan<'_>, place: usize) -> bool
-    requires plan { (n m : ℕ) × IsPlan n m plan × IsNumber m (place + 1) }
-    ensures { IsTrue result ↔ HasNoPrice plan.entry place }
+pub fn has_no_price(plan: Plan<'_>, object: Object) -> bool
+    requires plan { (n m : ℕ) × IsPlan n m plan × IsNumber m object }
+    ensures { IsTrue result ↔ HasNoPrice plan.entry object }
 {
     for list in 0..plan.count {
-        if other_price(plan, list, place as u32 + 1) != 0 {
+        if other_price(plan, list, object) != 0 {
             return false;
         }
     }

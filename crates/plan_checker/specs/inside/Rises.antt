@@ -89,18 +89,18 @@ PairsRise p pairs =
     (q : ℕ) → q < length pairs.persons.now →
     Rises p (slice_index_or pairs.persons.now q 0) (slice_index_or pairs.objects.now q 0) (slice_index_or pairs.costs.now q (pos 0))
 
--- the price of the object at place j stays below the bound by each further list
+-- the price of object j stays below the bound by each further list
 abbrev pub StaysLow : Plan → ℕ → Type 0
-StaysLow p j = (t : ℕ) → t < p.count → other_price_at p t (j + 1) <ℤ p.bound
+StaysLow p j = (t : ℕ) → t < p.count → other_price_at p t j <ℤ p.bound
 
 -- each further list has price 0 for it
 abbrev pub HasNoPrice : Plan → ℕ → Type 0
-HasNoPrice p j = (t : ℕ) → t < p.count → other_price_at p t (j + 1) ≡ pos 0
+HasNoPrice p j = (t : ℕ) → t < p.count → other_price_at p t j ≡ pos 0
 
--- by its mark, prices and rank: an object that isn't owned has rank 0 and further prices 0, and one whose
+-- by the mark, prices and rank at a place: an object that isn't owned has rank 0 and further prices 0, and one whose
 -- price stays below the bound a rank from 0
 pub record IsFreeAt (owned : List Bool) (p : Plan) (j : ℕ) : Type 0 where
   pub in_range : IsRank (slice_index_or p.ranks.now j (pos 0))
   pub unowned : IsMarked owned (j + 1) ⊎ (slice_index_or p.ranks.now j (pos 0) ≡ pos 0)
-  pub unpriced : IsMarked owned (j + 1) ⊎ HasNoPrice p j
-  pub free : slice_index_or p.prices.now j (pos 0) <ℤ p.bound → StaysLow p j → pos 0 ≤ℤ slice_index_or p.ranks.now j (pos 0)
+  pub unpriced : IsMarked owned (j + 1) ⊎ HasNoPrice p (j + 1)
+  pub free : slice_index_or p.prices.now j (pos 0) <ℤ p.bound → StaysLow p (j + 1) → pos 0 ≤ℤ slice_index_or p.ranks.now j (pos 0)

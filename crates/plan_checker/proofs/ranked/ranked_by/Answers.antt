@@ -44,15 +44,15 @@ returns c =
     let same = free_same (length l.rows) l.m c.args.plan.objects.now owned c.args.plan long c.requires.plan marks in
     let free = same.0 (c.are_free.ensures.0 c.if-not-are_free.false) in (
       (λ yes.
-      let rise = c.all_rise.ensures.0 yes in
-      record {
-        long = c.requires.plan.ranks_long;
-        in_range = free.in_range;
-        priced = record { long = c.requires.plan.others_long; in_range = c.requires.plan.others_in; free = free.unpriced };
-        proved = rise.0;
-        rise = rise.1;
-        unowned = free.unowned;
-        free = free.free;
-      }),
+          let rise = c.all_rise.ensures.0 yes in
+          record {
+            long = c.requires.plan.ranks_long;
+            in_range = free.in_range;
+            priced = record { long = c.requires.plan.others_long; in_range = c.requires.plan.others_in; free = free.unpriced };
+            proved = rise.0;
+            rise = rise.1;
+            unowned = free.unowned;
+            free = free.free;
+          }),
       (λ r. c.all_rise.ensures.1 (r.proved, r.rise)),
     )

@@ -8,6 +8,12 @@ use Rattle.plan_checker.proofs.Reading.{sum_in}
 use Rattle.plan_checker.proofs.rises.pair_rises.Goals as goal
 use Rattle.plan_checker.proofs.rises.pair_rises.Goals.{then-not-is_below-via-then-not-is_below, then-not-is_below-via-else-not-is_below+then-object-own}
 
+pub sum_of-own_sum-requires-clause-cost : goal.sum_of-own_sum-requires-clause-cost
+sum_of-own_sum-requires-clause-cost c =
+    let a : SFits w64 (get_or c.args.plan.own.now (c.args.person - 1) (pos 0)) = search rules in
+    let cost : IsCost (get_or c.args.plan.own.now (c.args.person - 1) (pos 0)) = search rules in
+    simp to_z-of_z cost
+
 pub is_below-requires-clause-sum : goal.is_below-requires-clause-sum
 is_below-requires-clause-sum c =
     let p = c.args.plan in

@@ -1,4 +1,3 @@
-use Rattle.std.proofs.Common.{ℕ, ◌<◌}
 use Rattle.plan_checker.proofs.Later.{IsOpenBefore}
 use Rattle.plan_checker.proofs.rises.rises_later.Given as goal
 
