@@ -1,5 +1,5 @@
 -- Answers to whether a plan is the only best one.
-use Rattle.std.specs.Prelude.{◌≢◌, ℕ, ℤ, pos, List, true}
+use Rattle.std.specs.Prelude.{◌≢◌, ℕ, ℤ, pos, List, [], true}
 use Rattle.cost_lists.specs.Exact.{IsOptimum}
 use Rattle.cost_lists.specs.ListedCosts.{ListedCosts}
 use Rattle.exact_checker.specs.Verdicts.{IsVerdict}

@@ -65,7 +65,12 @@ fn answer_of(
         }
         return Ok(Answer::Open);
     }
-    if let Some(Shown { ranks, .. }) = shown {
+    if let Some(shown) = shown {
+        let Shown {
+            ranks,
+            count: _count,
+            others: _others,
+        } = shown;
         let by = ranks.as_slice();
         if are_ranked(alloc, lists, objects, prices, by, 0, &[], true, 1)? {
             return Ok(Answer::Only(ranks));

@@ -121,7 +121,9 @@ fn next_cost(
     };
     let (ranks, others) = (shown.ranks.as_slice(), shown.others.as_slice());
     let (count, margin) = (shown.count, cost.margin);
-    if !are_ranked(alloc, lists, objects, prices, ranks, count, others, true, margin)? {
+    if !are_ranked(
+        alloc, lists, objects, prices, ranks, count, others, true, margin,
+    )? {
         return Ok(None);
     }
     Ok(Some(cost))
@@ -143,7 +145,9 @@ fn is_alone(
     ranks_mean_alone();
     let (ranks, others) = (shown.ranks.as_slice(), shown.others.as_slice());
     let count = shown.count;
-    are_ranked(alloc, lists, objects, prices, ranks, count, others, true, NO_BOUND)
+    are_ranked(
+        alloc, lists, objects, prices, ranks, count, others, true, NO_BOUND,
+    )
 }
 
 // Searches for the next best plan, and checks what was found.
