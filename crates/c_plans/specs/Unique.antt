@@ -21,8 +21,8 @@ pub record UniqueBuffers : Type 0 where
   pub ranks : List ℤ
   pub info : Info
 
--- what a caller gives: a problem of either form, a buffer with an object for each person, and one with a
--- rank for each object
+-- what a caller gives: a problem of either form, a buffer with an object for each person, and one
+-- with a rank for each object
 abbrev pub unique_input : ℕ → ℕ → ℕ → List ℕ → List ℕ → List ℤ → UniqueBuffers → InputLists
 unique_input sense n m of_persons of_objects costs buffers = record {
   form = either_form of_persons of_objects costs;

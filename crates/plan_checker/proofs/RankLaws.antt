@@ -1,5 +1,5 @@
--- An assignment that costs little more than an optimal one has pairs of the core alone; ranks rise along these,
--- and their sum doesn't.
+-- An assignment that costs little more than an optimal one has pairs of the core alone; ranks rise
+-- along these, and their sum doesn't.
 use Rattle.std.proofs.Common.{◌≡◌, ◌≢◌, ℕ, ℤ, pos, ◌+ℤ◌, ◌≤ℤ◌, ◌<ℤ◌, ◌<◌, ◌*◌, ◌^◌, zero, suc, List, [], ◌∷◌, Some, IsSome, Bool, true, false, length, get_or}
 use Rattle.std.proofs.Common.{◌⊎◌, inl, inr, drop, refl, arith, ap, subst, ◌≤◌}
 use Rattle.std.specs.List.{All, Contains}

@@ -263,8 +263,8 @@ marked_or_not : (mark : Bool) → (mark ≡ true) ⊎ ((mark ≡ true) → ⊥)
 marked_or_not true = inl refl
 marked_or_not false = inr (λ e. absurd (true≢false (sym e)))
 
--- what the ranks and further lists have of objects, by place: ranks in range, ranks and further prices of unowned
--- objects, and ranks of those whose price stays below the bound
+-- what the ranks and further lists have of objects, by place: ranks in range, ranks and further
+-- prices of unowned objects, and ranks of those whose price stays below the bound
 pub record AreFreeRanks (m : ℕ) (xs : List ℕ) (p : Plan) : Type 0 where
   pub in_range : All IsRank p.ranks.now
   pub unowned : AreFree m p.ranks.now xs

@@ -34,8 +34,8 @@ fn is_free(owned: bool, unpriced: bool, low: bool, rank: Rank) -> bool
     (owned || rank == 0) && unpriced && (!low || rank >= 0)
 }
 
-// Whether each object has rank 0 and no further prices if it isn't marked, and a rank from 0 if its price
-// stays below the bound.
+// Whether each object has rank 0 and no further prices if it isn't marked, and a rank from 0 if its
+// price stays below the bound.
 pub fn are_free(owned: &[bool], plan: Plan<'_>) -> bool
     requires plan { (n : ℕ) × IsPlan n (length owned.now) plan }
     requires few { length owned.now ≤ GREATEST_NUMBER }

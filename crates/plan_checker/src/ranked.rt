@@ -16,8 +16,8 @@ use cost_lists::{CostLists, Object, Price, Source};
 use dual_checker::mark_numbers;
 use std::alloc::{AllocError, Global};
 
-// Whether the further lists prove the optimum among the pairs that are open, and ranks rise in those that
-// stay open.
+// Whether the further lists prove the optimum among the pairs that are open, and ranks rise in
+// those that stay open.
 fn all_rise(lists: &CostLists<'_>, plan: Plan<'_>) -> bool
     requires plan { IsPlan (length lists.now.rows) lists.now.m plan }
     requires sense { plan.sense ≡ lists.now.sense }
@@ -35,7 +35,8 @@ fn all_rise(lists: &CostLists<'_>, plan: Plan<'_>) -> bool
     }
 }
 
-// Whether ranks of the right number are ranks of an optimum's objects. No object is marked at first.
+// Whether ranks of the right number are ranks of an optimum's objects. No object is marked at
+// first.
 fn ranked_by(owned: &mut [bool], lists: &CostLists<'_>, plan: Plan<'_>) -> bool
     requires owned { owned.old ≡ replicate lists.now.m false }
     requires sense { plan.sense ≡ lists.now.sense }
@@ -61,11 +62,12 @@ fn has_parts(length: usize, count: usize, m: usize) -> bool
     count.checked_mul(m) == Some(length)
 }
 
-/// Whether these are ranks of the objects of an optimum below a bound, strict ones if that is wanted, with so
-/// many further lists of prices. All lists may have any length, and hold any numbers.
+/// Whether these are ranks of the objects of an optimum below a bound, strict ones if that is
+/// wanted, with so many further lists of prices. All lists may have any length, and hold any
+/// numbers.
 ///
-/// The time is linear in the costs, and in the further lists for each pair of the core; the memory is 8 bytes
-/// a person and 1 an object.
+/// The time is linear in the costs, and in the further lists for each pair of the core; the memory
+/// is 8 bytes a person and 1 an object.
 ///
 /// # Errors
 /// `AllocError` if memory is refused.

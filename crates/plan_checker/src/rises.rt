@@ -11,7 +11,8 @@ use assign_core::{Cost, Sense};
 use cost_lists::{Object, Person, Price};
 use exact_checker::sum_of;
 
-// An optimum with ranks and some further lists of prices. The own costs are turned, so that less is better.
+// An optimum with ranks and some further lists of prices. The own costs are turned, so that less is
+// better.
 #[derive(Clone, Copy)]
 pub struct Plan<'a> {
     pub sense: Sense,
@@ -42,8 +43,8 @@ fn is_above(own: Rank, other: Rank, is_strict: bool) -> bool
     if is_strict { own < other } else { own <= other }
 }
 
-// Whether a pair of the core is dearer than the own one by each further list that the lists before leave it
-// to, and if it stays open by all the object's rank rises.
+// Whether a pair of the core is dearer than the own one by each further list that the lists before
+// leave it to, and if it stays open by all the object's rank rises.
 fn rises_later(plan: Plan<'_>, person: Person, object: Object, cost: Cost) -> bool
     requires plan { (n m : ℕ) × IsPlan n m plan × IsNumber n person × IsNumber m object }
     requires cost { IsCost cost }
@@ -68,8 +69,8 @@ fn rises_later(plan: Plan<'_>, person: Person, object: Object, cost: Cost) -> bo
     is_above(from, to, plan.is_strict)
 }
 
-// Whether the reduced cost of a pair reaches the bound, or the object is the person's own, or the further
-// lists and the ranks show that it rises.
+// Whether the reduced cost of a pair reaches the bound, or the object is the person's own, or the
+// further lists and the ranks show that it rises.
 pub fn pair_rises(plan: Plan<'_>, person: Person, object: Object, cost: Cost) -> bool
     requires plan { (n m : ℕ) × IsPlan n m plan × IsNumber n person × IsNumber m object }
     requires cost { IsCost cost }

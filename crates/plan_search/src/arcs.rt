@@ -4,9 +4,9 @@ use assign_core::{Cost, Sense};
 use cost_lists::{Object, Pairs, Price, Source};
 use std::alloc::{AllocError, Global};
 
-/// Nodes are the persons by their places, and after them one for all objects that nobody owns. From a
-/// person arcs go to the owners of the other objects of its core, and weigh the reduced cost; from the last
-/// node to each person whose object has a price below the bound, and weigh the price.
+/// Nodes are the persons by their places, and after them one for all objects that nobody owns. From
+/// a person arcs go to the owners of the other objects of its core, and weigh the reduced cost;
+/// from the last node to each person whose object has a price below the bound, and weigh the price.
 #[derive(Drop)]
 pub struct Arcs {
     /// Where the arcs of each node begin, and where the last ones end.
@@ -60,8 +60,8 @@ impl Arcs {
         value_at(self.owners.as_slice(), place_of(object), 0)
     }
 
-    /// The middle one of the least reduced costs that aren't below the bound, or the least one if the middle
-    /// person has none.
+    /// The middle one of the least reduced costs that aren't below the bound, or the least one if
+    /// the middle person has none.
     pub fn middle(&self, alloc: Global) -> Result<Cost, AllocError> {
         let mut above = Vec::from_slice(alloc, self.above.as_slice())?;
         above.sort_unstable();
@@ -162,8 +162,8 @@ fn least_sum(sense: Sense, costs: &[Cost], prices: &[Price]) -> Cost {
     least
 }
 
-// Adds the objects after some first ones whose reduced costs are below the bound, and returns the least of
-// the others.
+// Adds the objects after some first ones whose reduced costs are below the bound, and returns the
+// least of the others.
 fn add_block(
     arcs: &mut Arcs,
     best: Best<'_>,

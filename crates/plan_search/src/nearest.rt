@@ -101,8 +101,8 @@ impl Nearest {
         Ok(())
     }
 
-    // Looks at the arcs of a node at a distance from the first one. A path is no use that can't come back
-    // by less than the least cycle.
+    // Looks at the arcs of a node at a distance from the first one. A path is no use that can't
+    // come back by less than the least cycle.
     fn look(
         &mut self,
         arcs: &Arcs,
@@ -142,8 +142,8 @@ impl Nearest {
         self.heap.clear();
     }
 
-    /// Looks for a lesser cycle through a node, along nodes that the walk hasn't left, with so many looks at
-    /// most.
+    /// Looks for a lesser cycle through a node, along nodes that the walk hasn't left, with so many
+    /// looks at most.
     pub fn search(
         &mut self,
         arcs: &Arcs,

@@ -1,4 +1,5 @@
-// Further prices that prove the same plan, by which the arcs into some nodes weigh the margin or more.
+// Further prices that prove the same plan, by which the arcs into some nodes weigh the margin or
+// more.
 use super::arcs::{Arcs, Best};
 use super::values::{place_of, set_value, value_at};
 use assign_core::Cost;
@@ -89,8 +90,8 @@ impl Pricing {
         Ok(())
     }
 
-    // Goes along an arc, and returns whether it doesn't come back by less than the margin. Arcs into cut nodes
-    // have the margin to spare.
+    // Goes along an arc, and returns whether it doesn't come back by less than the margin. Arcs
+    // into cut nodes have the margin to spare.
     fn step(
         &mut self,
         first: usize,

@@ -39,8 +39,8 @@ fn ranks_of(alloc: Global, arcs: &Arcs, walk: &Walk, m: usize) -> Result<Vec<i32
     Ok(ranks)
 }
 
-// Looks for the least cycle among those that a node reaches: at each node that closes one, which the walk
-// leaves then.
+// Looks for the least cycle among those that a node reaches: at each node that closes one, which
+// the walk leaves then.
 fn search_from(
     nearest: &mut Nearest,
     walk: &mut Walk,
@@ -144,8 +144,8 @@ fn cut_all(
 // There are so many further prices at most.
 const MOST_PRICES: usize = 1 << 24;
 
-// Ranks of the core below a margin, with further lists of prices: each leaves fewer arcs open, until these have
-// no cycle.
+// Ranks of the core below a margin, with further lists of prices: each leaves fewer arcs open,
+// until these have no cycle.
 fn show(
     alloc: Global,
     core: Arcs,
@@ -184,7 +184,8 @@ struct Least {
     core: Arcs,
 }
 
-// Searches wider and wider cores, up to a bound, for the least cycle; `None` if the arc scans are spent.
+// Searches wider and wider cores, up to a bound, for the least cycle; `None` if the arc scans are
+// spent.
 fn search(
     alloc: Global,
     source: Source<'_>,
@@ -240,12 +241,12 @@ fn search_all(
     Ok(Found { other, shown })
 }
 
-/// Searches for another plan than this best one, which the prices prove: for the least one, if it costs less
-/// than a bound more, with so many looks at arcs.
+/// Searches for another plan than this best one, which the prices prove: for the least one, if it
+/// costs less than a bound more, with so many looks at arcs.
 ///
-/// The time of each pass is linear in the costs, and for listed pairs as that of sorting those below the
-/// bound; two are the rule. The memory is 12 bytes for each pair of the core, and some 80 a person and an
-/// object.
+/// The time of each pass is linear in the costs, and for listed pairs as that of sorting those
+/// below the bound; two are the rule. The memory is 12 bytes for each pair of the core, some 80 a
+/// person and an object, and 8 for each of at most 2^24 further prices.
 ///
 /// # Errors
 /// `AllocError` if memory is refused.

@@ -17,7 +17,8 @@ pub record IsSum (s : ℤ) : Type 0 where
   pub least : neg_ℤ GREATEST_COST ≤ℤ s
   pub greatest : s ≤ℤ (GREATEST_COST +ℤ GREATEST_PRICE)
 
--- n persons' objects and costs, ranks of m objects, and prices of these, with further lists of prices
+-- n persons' objects and costs, ranks of m objects, and prices of these, with further lists of
+-- prices
 pub record IsPlan (n m : ℕ) (p : Plan) : Type 0 where
   pub own_long : length p.own.now ≡ n
   pub objects_long : length p.objects.now ≡ n
@@ -55,17 +56,18 @@ other_sum p t k cost = minimised p.sense cost +ℤ other_price_at p t k
 abbrev pub own_other_sum : Plan → ℕ → ℕ → ℤ
 own_other_sum p t i = slice_index_or p.own.now (i - 1) (pos 0) +ℤ other_price_at p t (object_at p i)
 
--- by the first t further lists the reduced cost of object k is below the bound for person i at this cost
+-- by the first t further lists the reduced cost of object k is below the bound for person i at this
+-- cost
 abbrev pub StaysOpen : Plan → ℕ → ℕ → ℕ → ℤ → Type 0
 StaysOpen p t i k cost = (s : ℕ) → s < t → other_sum p s k cost <ℤ (own_other_sum p s i +ℤ p.bound)
 
--- the rank of object k is higher than that of the own one for person i; where ranks aren't strict it may be
--- the same
+-- the rank of object k is higher than that of the own one for person i; where ranks aren't strict
+-- it may be the same
 abbrev pub IsHigher : Plan → ℕ → ℕ → Type 0
 IsHigher p i k = (rank_at p (object_at p i) +ℤ step_of p.is_strict) ≤ℤ rank_at p k
 
--- as long as the pair stays open no further list shows that it costs less than the own one, and if it stays
--- open by all the rank is higher
+-- as long as the pair stays open no further list shows that it costs less than the own one, and if
+-- it stays open by all the rank is higher
 pub record RisesLater (p : Plan) (i k : ℕ) (cost : ℤ) : Type 0 where
   pub proved : (t : ℕ) → t < p.count → StaysOpen p t i k cost → own_other_sum p t i ≤ℤ other_sum p t k cost
   pub higher : StaysOpen p p.count i k cost → IsHigher p i k
@@ -97,8 +99,8 @@ StaysLow p j = (t : ℕ) → t < p.count → other_price_at p t j <ℤ p.bound
 abbrev pub HasNoPrice : Plan → ℕ → Type 0
 HasNoPrice p j = (t : ℕ) → t < p.count → other_price_at p t j ≡ pos 0
 
--- by the mark, prices and rank at a place: an object that isn't owned has rank 0 and further prices 0, and one whose
--- price stays below the bound a rank from 0
+-- by the mark, prices and rank at a place: an object that isn't owned has rank 0 and further prices
+-- 0, and one whose price stays below the bound a rank from 0
 pub record IsFreeAt (owned : List Bool) (p : Plan) (j : ℕ) : Type 0 where
   pub in_range : IsRank (slice_index_or p.ranks.now j (pos 0))
   pub unowned : IsMarked owned (j + 1) ⊎ (slice_index_or p.ranks.now j (pos 0) ≡ pos 0)
