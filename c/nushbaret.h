@@ -278,8 +278,8 @@ int32_t nushbaret_unique(uint32_t sense, size_t n, size_t m,
    any other             as in nushbaret_check
 
    The search looks at pairs at most so often, in addition to its passes over all, or it ends with NUSHBARET_UNDECIDED;
-   UINT64_MAX sets no end. The code is the same where it found no prices by which objects can be ordered: in some six of a
-   hundred drawn problems of up to 6 persons with few costs. */
+   UINT64_MAX sets no end. The code is the same where the proof would take more than 2^24 further prices, 128 MB, or prices
+   above NUSHBARET_GREATEST_PRICE (neither was seen). */
 int32_t nushbaret_next(uint32_t sense, size_t n, size_t m,
     const uint32_t *of_persons, size_t of_persons_count,
     const uint32_t *of_objects, size_t of_objects_count,

@@ -21,8 +21,8 @@ pub record UniqueBuffers : Type 0 where
   pub ranks : List ℤ
   pub info : Info
 
--- what a caller gives: a problem of either form, a buffer with an object for each person, and one with a
--- rank for each object
+-- what a caller gives: a problem of either form, a buffer with an object for each person, and one
+-- with a rank for each object
 abbrev pub unique_input : ℕ → ℕ → ℕ → List ℕ → List ℕ → List ℤ → UniqueBuffers → InputLists
 unique_input sense n m of_persons of_objects costs buffers = record {
   form = either_form of_persons of_objects costs;
@@ -41,7 +41,7 @@ unique_input sense n m of_persons of_objects costs buffers = record {
 pub record ShowsOnly (l : ListedCosts) (xs : List ℕ) (prices : List ℤ) (before after : UniqueBuffers) (code : ℤ) : Type 0 where
   pub is : code ≡ pos 0
   pub proof : IsOptimum l xs prices
-  pub ranked : AreRanked true (pos 1) l xs prices after.ranks
+  pub ranked : AreRanked true (pos 1) l xs prices after.ranks 0 []
   pub only : IsOnlyBest l.sense l.rows xs
   pub stays : after ≡ record before { ranks = after.ranks }
 

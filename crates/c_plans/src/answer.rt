@@ -7,7 +7,7 @@ ghost use Rattle.c_plans.specs.Answers.{IsAnswer, IsOtherOptimum};
 use cost_lists::{CostLists, Object, Price};
 use exact_checker::{Verdict, check};
 use plan_checker::{Rank, are_ranked};
-use plan_search::{Found, find_other};
+use plan_search::{Found, Shown, find_other};
 use std::alloc::{AllocError, Global};
 
 /// Whether a plan is the only best one.
@@ -58,19 +58,21 @@ fn answer_of(
     requires { IsOptimum lists.now objects.now prices.now }
     ensures { IfOk result (IsAnswer lists.now objects.now prices.now) }
 {
-    let Found {
-        other,
-        ranks,
-        prices: _prices,
-    } = find_other(alloc, lists, objects, prices, 1, u64::MAX)?;
+    let Found { other, shown } = find_other(alloc, lists, objects, prices, 1, u64::MAX)?;
     if let Some(other) = other {
         if is_other(alloc, lists, objects, prices, other.as_slice())? {
             return Ok(Answer::Other(other));
         }
         return Ok(Answer::Open);
     }
-    if let Some(ranks) = ranks {
-        if are_ranked(alloc, lists, objects, prices, ranks.as_slice(), true, 1)? {
+    if let Some(shown) = shown {
+        let Shown {
+            ranks,
+            count: _count,
+            others: _others,
+        } = shown;
+        let by = ranks.as_slice();
+        if are_ranked(alloc, lists, objects, prices, by, 0, &[], true, 1)? {
             return Ok(Answer::Only(ranks));
         }
     }

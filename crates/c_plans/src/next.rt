@@ -6,15 +6,14 @@ ghost use Rattle.cost_lists.specs.ListedCosts.{ListedCosts};
 ghost use Rattle.cost_lists.specs.Own.{minimised};
 ghost use Rattle.exact_checker.specs.Verdicts.{IsVerdict};
 ghost use Rattle.plan_checker.specs.Next.{IsOnlyAssignment};
-ghost use Rattle.plan_checker.specs.Ranks.{AreRanked};
 ghost use Rattle.c_plans.specs.NextAnswers.{CostsMore, IsNext, IsNextAnswer};
 
 use super::answer::differ;
 use assign_core::{Cost, Sense};
 use cost_lists::{CostLists, Object, Price};
 use exact_checker::{Verdict, check};
-use plan_checker::{NO_BOUND, Rank, are_ranked, ranks_mean_alone, ranks_mean_next};
-use plan_search::{Found, find_other};
+use plan_checker::{NO_BOUND, are_ranked, ranks_mean_alone, ranks_mean_next};
+use plan_search::{Found, Shown, find_other};
 use std::alloc::{AllocError, Global};
 
 /// What another plan costs.
@@ -99,36 +98,16 @@ fn cost_of(
     }
 }
 
-// Whether prices prove the plan, and these are its strict ranks below a margin.
-fn are_shown(
-    alloc: Global,
-    lists: &CostLists<'_>,
-    objects: &[Object],
-    prices: &[Price],
-    ranks: &[Rank],
-    margin: Cost,
-) -> Result<bool, AllocError>
-    ensures optimum { IfOk result (λ are. IsTrue are → IsOptimum lists.now objects.now prices.now) }
-    ensures ranked { IfOk result (λ are. IsTrue are
-        → AreRanked true margin lists.now objects.now prices.now ranks.now) }
-{
-    let verdict = check(alloc, lists, objects, prices)?;
-    if verdict != Verdict::Yes {
-        return Ok(false);
-    }
-    are_ranked(alloc, lists, objects, prices, ranks, true, margin)
-}
-
-// What another plan costs, if prices and ranks of the best one show that it is a next best one.
+// What another plan costs, if ranks and further lists of prices show that it is a next best one.
 fn next_cost(
     alloc: Global,
     lists: &CostLists<'_>,
     objects: &[Object],
     prices: &[Price],
-    ranks: &[Rank],
+    shown: &Shown,
     other: &[Object],
 ) -> Result<Option<NextCost>, AllocError>
-    requires { AreListed lists.now.rows objects.now }
+    requires { IsOptimum lists.now objects.now prices.now }
     ensures { IfOk result (λ found. IfSome found (IsNext lists.now objects.now other.now)) }
 {
     // These calls show the prover what ranks mean.
@@ -140,26 +119,35 @@ fn next_cost(
     let Some(cost) = cost_of(alloc, lists, objects, other)? else {
         return Ok(None);
     };
-    if !are_shown(alloc, lists, objects, prices, ranks, cost.margin)? {
+    let (ranks, others) = (shown.ranks.as_slice(), shown.others.as_slice());
+    let (count, margin) = (shown.count, cost.margin);
+    if !are_ranked(
+        alloc, lists, objects, prices, ranks, count, others, true, margin,
+    )? {
         return Ok(None);
     }
     Ok(Some(cost))
 }
 
-// Whether prices and ranks show that there is no other plan.
+// Whether ranks and further lists of prices show that there is no other plan.
 fn is_alone(
     alloc: Global,
     lists: &CostLists<'_>,
     objects: &[Object],
     prices: &[Price],
-    ranks: &[Rank],
+    shown: &Shown,
 ) -> Result<bool, AllocError>
+    requires { IsOptimum lists.now objects.now prices.now }
     ensures { IfOk result (λ is. IsTrue is → IsOnlyAssignment lists.now.rows objects.now) }
 {
     // These calls show the prover what ranks mean.
     let _persons = lists.persons();
     ranks_mean_alone();
-    are_shown(alloc, lists, objects, prices, ranks, NO_BOUND)
+    let (ranks, others) = (shown.ranks.as_slice(), shown.others.as_slice());
+    let count = shown.count;
+    are_ranked(
+        alloc, lists, objects, prices, ranks, count, others, true, NO_BOUND,
+    )
 }
 
 // Searches for the next best plan, and checks what was found.
@@ -173,23 +161,18 @@ fn next_of(
     requires { IsOptimum lists.now objects.now prices.now }
     ensures { IfOk result (IsNextAnswer lists.now objects.now prices.now) }
 {
-    let Found {
-        other,
-        ranks,
-        prices: shown,
-    } = find_other(alloc, lists, objects, prices, NO_BOUND, arc_scans)?;
-    let Some(ranks) = ranks else {
+    let Found { other, shown } = find_other(alloc, lists, objects, prices, NO_BOUND, arc_scans)?;
+    let Some(shown) = shown else {
         return Ok(Next::Open);
     };
-    let (shown, ranks) = (shown.as_slice(), ranks.as_slice());
     if let Some(other) = other {
-        let found = next_cost(alloc, lists, objects, shown, ranks, other.as_slice())?;
+        let found = next_cost(alloc, lists, objects, prices, &shown, other.as_slice())?;
         return match found {
             Some(cost) => Ok(Next::Another(other, cost)),
             None => Ok(Next::Open),
         };
     }
-    if is_alone(alloc, lists, objects, shown, ranks)? {
+    if is_alone(alloc, lists, objects, prices, &shown)? {
         return Ok(Next::Alone);
     }
     Ok(Next::Open)

@@ -1,9 +1,9 @@
 // Laws on the best assignments.
 ghost use Rattle.plan_checker.specs.Ranks.{RanksMeanAlone, RanksMeanKept, RanksMeanNext, RanksMeanOnly};
 
-/// If the objects of an optimal assignment have strict ranks below a bound, each other assignment costs at
-/// least so much more: a cheaper one has pairs of the core alone, whose ranks rise, and rising ranks don't
-/// have the same sum.
+/// If the objects of an optimal assignment have strict ranks below a bound, each other assignment
+/// costs at least so much more: a cheaper one has pairs alone that each list of prices leaves open,
+/// whose ranks rise, and rising ranks don't have the same sum.
 pub fn ranks_mean_next()
     ensures { RanksMeanNext }
 {}

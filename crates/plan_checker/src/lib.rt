@@ -1,8 +1,10 @@
-//! Checks what is said about a best plan: that it is the only one, and which persons' objects can change
-//! in another one as good. Ranks of objects prove both.
+//! Checks what is said about a best plan: that it is the only one, by how much each other one costs
+//! more, and which persons' objects can change in one as good. Ranks of objects prove it, if need
+//! be with further lists of prices.
 #![tactic(auto)]
 
 mod free;
+mod further;
 mod law;
 mod pairs;
 mod rank;

@@ -3,14 +3,16 @@ ghost use Rattle.std.specs.Prelude.{◌≡◌, ◌↔◌, ◌+ℤ◌, ◌≤ℤ�
 ghost use Rattle.assign_core.specs.Numbered.{IsNumber};
 ghost use Rattle.assign_core.specs.Rows.{IsCost};
 ghost use Rattle.plan_checker.specs.Ranks.{step_of};
-ghost use Rattle.plan_checker.specs.inside.Rises.{IsPlan, IsSum, Rises};
+ghost use Rattle.plan_checker.specs.inside.Rises.{IsPlan, IsSum, Rises, RisesLater};
 
+use super::further::other_price;
 use super::rank::Rank;
 use assign_core::{Cost, Sense};
 use cost_lists::{Object, Person, Price};
 use exact_checker::sum_of;
 
-// An optimum with ranks. The own costs are turned, so that less is better.
+// An optimum with ranks and some further lists of prices. The own costs are turned, so that less is
+// better.
 #[derive(Clone, Copy)]
 pub struct Plan<'a> {
     pub sense: Sense,
@@ -18,6 +20,8 @@ pub struct Plan<'a> {
     pub objects: &'a [Object],
     pub prices: &'a [Price],
     pub ranks: &'a [Rank],
+    pub count: usize,
+    pub others: &'a [Price],
     pub is_strict: bool,
     pub bound: Cost,
 }
@@ -39,8 +43,34 @@ fn is_above(own: Rank, other: Rank, is_strict: bool) -> bool
     if is_strict { own < other } else { own <= other }
 }
 
-// Whether the reduced cost of a pair reaches the bound, or the object is the person's own, or the object's
-// rank rises.
+// Whether a pair of the core is dearer than the own one by each further list that the lists before
+// leave it to, and if it stays open by all the object's rank rises.
+fn rises_later(plan: Plan<'_>, person: Person, object: Object, cost: Cost) -> bool
+    requires plan { (n m : ℕ) × IsPlan n m plan × IsNumber n person × IsNumber m object }
+    requires cost { IsCost cost }
+    ensures { IsTrue result ↔ RisesLater plan.entry person object cost }
+{
+    let place = person as usize - 1;
+    let own = plan.objects[place];
+    for list in 0..plan.count {
+        let sum = sum_of(plan.sense, cost, other_price(plan, list, object));
+        let own_sum = sum_of(Sense::Min, plan.own[place], other_price(plan, list, own));
+        if sum < own_sum {
+            return false;
+        }
+        if !is_below(sum, own_sum, plan.bound) {
+            return true;
+        }
+    }
+    let (from, to) = (
+        plan.ranks[own as usize - 1],
+        plan.ranks[object as usize - 1],
+    );
+    is_above(from, to, plan.is_strict)
+}
+
+// Whether the reduced cost of a pair reaches the bound, or the object is the person's own, or the
+// further lists and the ranks show that it rises.
 pub fn pair_rises(plan: Plan<'_>, person: Person, object: Object, cost: Cost) -> bool
     requires plan { (n m : ℕ) × IsPlan n m plan × IsNumber n person × IsNumber m object }
     requires cost { IsCost cost }
@@ -53,9 +83,5 @@ pub fn pair_rises(plan: Plan<'_>, person: Person, object: Object, cost: Cost) ->
     if !is_below(sum, own_sum, plan.bound) || object == own {
         return true;
     }
-    let (from, to) = (
-        plan.ranks[own as usize - 1],
-        plan.ranks[object as usize - 1],
-    );
-    is_above(from, to, plan.is_strict)
+    rises_later(plan, person, object, cost)
 }

@@ -4,9 +4,9 @@ use assign_core::{Cost, Sense};
 use cost_lists::{Object, Pairs, Price, Source};
 use std::alloc::{AllocError, Global};
 
-/// Nodes are the persons by their places, and after them one for all objects that nobody owns. From a
-/// person arcs go to the owners of the other objects of its core, and weigh the reduced cost; from the last
-/// node to each person whose object has a price below the bound, and weigh the price.
+/// Nodes are the persons by their places, and after them one for all objects that nobody owns. From
+/// a person arcs go to the owners of the other objects of its core, and weigh the reduced cost;
+/// from the last node to each person whose object has a price below the bound, and weigh the price.
 #[derive(Drop)]
 pub struct Arcs {
     /// Where the arcs of each node begin, and where the last ones end.
@@ -29,6 +29,12 @@ impl Arcs {
     /// How many nodes there are.
     pub fn nodes(&self) -> usize {
         self.starts.len().wrapping_sub(1)
+    }
+
+    /// How many arcs a node has.
+    pub fn width(&self, node: usize) -> u64 {
+        self.start(node.wrapping_add(1))
+            .saturating_sub(self.start(node)) as u64
     }
 
     /// The object of the arc of a node at a place among all arcs, if the node has it.
@@ -54,8 +60,8 @@ impl Arcs {
         value_at(self.owners.as_slice(), place_of(object), 0)
     }
 
-    /// The middle one of the least reduced costs that aren't below the bound, or the least one if the middle
-    /// person has none.
+    /// The middle one of the least reduced costs that aren't below the bound, or the least one if
+    /// the middle person has none.
     pub fn middle(&self, alloc: Global) -> Result<Cost, AllocError> {
         let mut above = Vec::from_slice(alloc, self.above.as_slice())?;
         above.sort_unstable();
@@ -64,16 +70,33 @@ impl Arcs {
         Ok(if middle == Cost::MAX { least } else { middle })
     }
 
-    // Adds an arc.
-    fn push(&mut self, object: Object, weight: Cost) -> Result<(), AllocError> {
+    /// Adds an arc of the last node that was begun.
+    pub fn push(&mut self, object: Object, weight: Cost) -> Result<(), AllocError> {
         self.objects.push(object)?;
         self.weights.push(weight)?;
         Ok(())
     }
 
+    /// Begins the arcs of the next node, or ends the last one's.
+    pub fn begin_node(&mut self) -> Result<(), AllocError> {
+        self.starts.push(self.objects.len())?;
+        Ok(())
+    }
+
+    /// No arcs between the same nodes.
+    pub fn without(&self, alloc: Global) -> Result<Arcs, AllocError> {
+        Ok(Arcs {
+            starts: Vec::new(alloc),
+            objects: Vec::new(alloc),
+            weights: Vec::new(alloc),
+            owners: Vec::from_slice(alloc, self.owners.as_slice())?,
+            above: Vec::new(alloc),
+        })
+    }
+
     // Adds the arcs of a node of a greater core whose weight is below a bound.
     fn add_below(&mut self, all: &Arcs, node: usize, bound: Cost) -> Result<(), AllocError> {
-        self.starts.push(self.objects.len())?;
+        self.begin_node()?;
         for arc in all.start(node)..all.start(node.wrapping_add(1)) {
             if all.weight(arc) < bound {
                 let object = value_at(all.objects.as_slice(), arc, 0);
@@ -85,17 +108,11 @@ impl Arcs {
 
     /// The arcs whose weight is below a lower bound.
     pub fn below(&self, alloc: Global, bound: Cost) -> Result<Arcs, AllocError> {
-        let mut arcs = Arcs {
-            starts: Vec::new(alloc),
-            objects: Vec::new(alloc),
-            weights: Vec::new(alloc),
-            owners: Vec::from_slice(alloc, self.owners.as_slice())?,
-            above: Vec::new(alloc),
-        };
+        let mut arcs = self.without(alloc)?;
         for node in 0..self.nodes() {
             arcs.add_below(self, node, bound)?;
         }
-        arcs.starts.push(arcs.objects.len())?;
+        arcs.begin_node()?;
         Ok(arcs)
     }
 }
@@ -145,8 +162,8 @@ fn least_sum(sense: Sense, costs: &[Cost], prices: &[Price]) -> Cost {
     least
 }
 
-// Adds the objects after some first ones whose reduced costs are below the bound, and returns the least of
-// the others.
+// Adds the objects after some first ones whose reduced costs are below the bound, and returns the
+// least of the others.
 fn add_block(
     arcs: &mut Arcs,
     best: Best<'_>,
@@ -185,7 +202,7 @@ fn add_row(
     let sum = value_at(best.sums, place, 0);
     let mut above = Cost::MAX;
     let mut first: Object = 0;
-    arcs.starts.push(arcs.objects.len())?;
+    arcs.begin_node()?;
     for (costs, prices) in row
         .chunks(BLOCK as usize)
         .zip(best.prices.chunks(BLOCK as usize))
@@ -280,14 +297,14 @@ fn add_pairs(
 
 // The arcs of the last node.
 fn add_last(arcs: &mut Arcs, best: Best<'_>, bound: Cost) -> Result<(), AllocError> {
-    arcs.starts.push(arcs.objects.len())?;
+    arcs.begin_node()?;
     for object in best.objects {
         let price = value_at(best.prices, place_of(*object), Cost::MAX);
         if price < bound {
             arcs.push(*object, price)?;
         }
     }
-    arcs.starts.push(arcs.objects.len())?;
+    arcs.begin_node()?;
     Ok(())
 }
 

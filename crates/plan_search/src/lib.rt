@@ -1,6 +1,6 @@
-//! Searches the pairs of low reduced cost (the core of a best plan) for the next best plan, or for ranks of
-//! the objects that show that there is none below a bound. What it finds proves nothing: `plan_checker`
-//! checks it.
+//! Searches the pairs of low reduced cost (the core of a best plan) for the next best plan, and for
+//! prices and ranks of the objects that show that there is none below a bound. What it finds proves
+//! nothing: `plan_checker` checks it.
 #![tactic(auto)]
 
 mod arcs;
@@ -10,4 +10,4 @@ mod search;
 mod values;
 mod walk;
 
-pub use search::{Found, find_other};
+pub use search::{Found, Shown, find_other};

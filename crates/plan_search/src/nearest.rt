@@ -101,8 +101,8 @@ impl Nearest {
         Ok(())
     }
 
-    // Looks at the arcs of a node at a distance from the first one. A path is no use that can't come back
-    // by less than the least cycle.
+    // Looks at the arcs of a node at a distance from the first one. A path is no use that can't
+    // come back by less than the least cycle.
     fn look(
         &mut self,
         arcs: &Arcs,
@@ -142,14 +142,8 @@ impl Nearest {
         self.heap.clear();
     }
 
-    // How many arcs a node has.
-    fn width(&self, arcs: &Arcs, node: usize) -> u64 {
-        arcs.start(node.wrapping_add(1))
-            .saturating_sub(arcs.start(node)) as u64
-    }
-
-    /// Looks for a lesser cycle through a node, along nodes that the walk hasn't left, with so many looks at
-    /// most.
+    /// Looks for a lesser cycle through a node, along nodes that the walk hasn't left, with so many
+    /// looks at most.
     pub fn search(
         &mut self,
         arcs: &Arcs,
@@ -167,7 +161,7 @@ impl Nearest {
                 break;
             }
             if length == self.distance(node) {
-                *arc_scans = arc_scans.saturating_sub(self.width(arcs, node).saturating_add(1));
+                *arc_scans = arc_scans.saturating_sub(arcs.width(node).saturating_add(1));
                 self.look(arcs, walk, first, node, length)?;
             }
         }

@@ -1,102 +1,242 @@
-// Other prices that prove the same plan, by which few arcs on cycles weigh little.
-use super::arcs::Arcs;
-use super::values::{set_value, value_at};
+// Further prices that prove the same plan, by which the arcs into some nodes weigh the margin or
+// more.
+use super::arcs::{Arcs, Best};
+use super::values::{place_of, set_value, value_at};
 use assign_core::Cost;
 use cost_lists::{Object, Price};
 use std::alloc::{AllocError, Global};
 use std::collections::BinaryHeap;
 
-/// The nodes that arcs enter by the margin or more, and how far nodes are from the newest one of these.
+/// No price rises by more than this for one list.
+const MOST_RISE: Cost = 1 << 61;
+
+/// What is known of the next list of prices.
 #[derive(Drop)]
 pub struct Pricing {
     margin: Cost,
+    /// By how much the price of each node's object rises.
+    rises: Vec<Cost>,
+    /// The nodes that arcs enter by the margin or more.
     is_cut: Vec<bool>,
+    /// How far nodes are from the newest of these, up to the margin.
     distances: Vec<Cost>,
+    reached: Vec<usize>,
     heap: BinaryHeap<(Cost, usize)>,
+    cuts: Cost,
+    failures: Cost,
 }
 
 impl Pricing {
     pub fn new(alloc: Global, nodes: usize, margin: Cost) -> Result<Pricing, AllocError> {
         Ok(Pricing {
             margin,
+            rises: vec![in alloc; 0i64; nodes]?,
             is_cut: vec![in alloc; false; nodes]?,
             distances: vec![in alloc; margin; nodes]?,
+            reached: Vec::new(alloc),
             heap: BinaryHeap::new(alloc),
+            cuts: 0,
+            failures: 0,
         })
     }
 
-    /// Whether arcs enter a node by the margin or more.
-    pub fn is_cut(&self, node: usize) -> bool {
-        value_at(self.is_cut.as_slice(), node, true)
+    /// Whether a cycle was met.
+    pub fn met_cycle(&self) -> bool {
+        self.cuts != 0 || self.failures != 0
+    }
+
+    /// Whether a node was cut.
+    pub fn has_cut(&self) -> bool {
+        self.cuts != 0
+    }
+
+    /// Begins another list.
+    pub fn begin(&mut self) {
+        for rise in self.rises.iter_mut() {
+            *rise = 0;
+        }
+        for cut in self.is_cut.iter_mut() {
+            *cut = false;
+        }
+        self.cuts = 0;
+        self.failures = 0;
+    }
+
+    fn rise(&self, node: usize) -> Cost {
+        value_at(self.rises.as_slice(), node, 0)
+    }
+
+    // What an arc of this weight weighs by the new prices.
+    fn weight(&self, from: usize, to: usize, weight: Cost) -> Cost {
+        weight
+            .wrapping_add(self.rise(to))
+            .wrapping_sub(self.rise(from))
+    }
+
+    fn distance(&self, node: usize) -> Cost {
+        value_at(self.distances.as_slice(), node, 0)
     }
 
     // Reaches a node by a distance, if that is less than before.
     fn reach(&mut self, node: usize, distance: Cost) -> Result<(), AllocError> {
-        if distance < value_at(self.distances.as_slice(), node, 0) {
+        let before = self.distance(node);
+        if distance < before {
+            if before == self.margin {
+                self.reached.push(node)?;
+            }
             set_value(self.distances.as_mut_slice(), node, distance);
             self.heap.push((distance.wrapping_neg(), node))?;
         }
         Ok(())
     }
 
-    // Goes along the arcs of a node. Those into cut nodes have the margin to spare.
-    fn go_on(&mut self, arcs: &Arcs, node: usize, distance: Cost) -> Result<(), AllocError> {
-        for arc in arcs.start(node)..arcs.start(node.wrapping_add(1)) {
-            if let Some(object) = arcs.object(node, arc) {
-                let next = arcs.owner(object);
-                let spare = if self.is_cut(next) { self.margin } else { 0 };
-                let weight = arcs.weight(arc).wrapping_sub(spare);
-                self.reach(next, distance.saturating_add(weight))?;
+    // Goes along an arc, and returns whether it doesn't come back by less than the margin. Arcs
+    // into cut nodes have the margin to spare.
+    fn step(
+        &mut self,
+        first: usize,
+        (from, to): (usize, usize),
+        weight: Cost,
+    ) -> Result<bool, AllocError> {
+        let spare = if value_at(self.is_cut.as_slice(), to, true) {
+            self.margin
+        } else {
+            0
+        };
+        let weighs = self.weight(from, to, weight).wrapping_sub(spare);
+        let longer = self.distance(from).saturating_add(weighs);
+        if to == first {
+            return Ok(longer >= self.margin);
+        }
+        self.reach(to, longer)?;
+        Ok(true)
+    }
+
+    // Goes along the open arcs of a person.
+    fn go_on(&mut self, open: &Arcs, first: usize, node: usize) -> Result<bool, AllocError> {
+        for arc in open.start(node)..open.start(node.wrapping_add(1)) {
+            if let Some(object) = open.object(node, arc) {
+                if !self.step(first, (node, open.owner(object)), open.weight(arc))? {
+                    return Ok(false);
+                }
             }
         }
-        Ok(())
+        Ok(true)
     }
 
-    // Begins at a node again.
-    fn begin(&mut self, first: usize) -> Result<(), AllocError> {
-        self.heap.clear();
-        for distance in self.distances.iter_mut() {
-            *distance = self.margin;
+    // Goes along the arcs of the last node: no price may fall below 0.
+    fn go_on_last(&mut self, best: Best<'_>, first: usize) -> Result<bool, AllocError> {
+        let last = best.objects.len();
+        for (node, object) in best.objects.iter().enumerate() {
+            let price = value_at(best.prices, place_of(*object), 0);
+            if !self.step(first, (last, node), price)? {
+                return Ok(false);
+            }
         }
-        self.reach(first, 0)
+        Ok(true)
     }
 
-    /// Cuts a node: how far the others are from it, up to the margin.
-    pub fn cut(&mut self, arcs: &Arcs, first: usize) -> Result<(), AllocError> {
-        self.begin(first)?;
-        for _ in 0..arcs.size() {
+    // How far nodes are from this one, up to the margin; `false` if one comes back by less.
+    fn measure(
+        &mut self,
+        open: &Arcs,
+        best: Best<'_>,
+        first: usize,
+        arc_scans: &mut u64,
+    ) -> Result<bool, AllocError> {
+        self.reach(first, 0)?;
+        for _ in 0..open.size().saturating_add(best.objects.len()) {
             let Some((negated, node)) = self.heap.pop() else {
                 break;
             };
-            let distance = negated.wrapping_neg();
-            if distance == value_at(self.distances.as_slice(), node, 0) {
-                self.go_on(arcs, node, distance)?;
+            if negated.wrapping_neg() == self.distance(node) {
+                *arc_scans = arc_scans.saturating_sub(open.width(node).saturating_add(1));
+                let goes = if node == best.objects.len() {
+                    self.go_on_last(best, first)?
+                } else {
+                    self.go_on(open, first, node)?
+                };
+                if !goes || *arc_scans == 0 {
+                    return Ok(false);
+                }
             }
         }
-        set_value(self.is_cut.as_mut_slice(), first, true);
+        Ok(true)
+    }
+
+    // Forgets the distances. If that is wanted, prices rise by how far these are below the margin.
+    fn end(&mut self, rises: bool) {
+        for node in self.reached.iter() {
+            if rises {
+                let below = self
+                    .margin
+                    .wrapping_sub(value_at(self.distances.as_slice(), *node, 0));
+                let rise = value_at(self.rises.as_slice(), *node, 0).wrapping_add(below);
+                set_value(self.rises.as_mut_slice(), *node, rise);
+            }
+            set_value(self.distances.as_mut_slice(), *node, self.margin);
+        }
+        self.reached.clear();
+        self.heap.clear();
+    }
+
+    // Whether another node may be cut: not after more failures than cuts.
+    fn may_cut(&self) -> bool {
+        let most = self.cuts.wrapping_add(1).saturating_mul(self.margin);
+        self.failures <= self.cuts && (self.cuts == 0 || most <= MOST_RISE)
+    }
+
+    /// Cuts a node of a cycle, if arcs into all cut nodes can weigh the margin or more at once.
+    pub fn cut(
+        &mut self,
+        open: &Arcs,
+        best: Best<'_>,
+        node: usize,
+        arc_scans: &mut u64,
+    ) -> Result<(), AllocError> {
+        if self.may_cut() && self.measure(open, best, node, arc_scans)? {
+            self.end(true);
+            set_value(self.is_cut.as_mut_slice(), node, true);
+            self.cuts = self.cuts.wrapping_add(1);
+        } else {
+            self.end(false);
+            self.failures = self.failures.wrapping_add(1);
+        }
         Ok(())
     }
 
-    // By how much the price of a node's object rises.
-    fn rise(&self, node: usize) -> Cost {
-        let nodes = self.distances.as_slice();
-        let last = value_at(nodes, nodes.len().wrapping_sub(1), 0);
-        last.wrapping_sub(value_at(nodes, node, 0))
+    /// The open arcs that weigh less than the margin by the new prices too.
+    pub fn still_open(&self, alloc: Global, open: &Arcs) -> Result<Arcs, AllocError> {
+        let mut arcs = open.without(alloc)?;
+        for node in 0..open.nodes() {
+            arcs.begin_node()?;
+            for arc in open.start(node)..open.start(node.wrapping_add(1)) {
+                if let Some(object) = open.object(node, arc) {
+                    let weight = open.weight(arc);
+                    if self.weight(node, open.owner(object), weight) < self.margin {
+                        arcs.push(object, weight)?;
+                    }
+                }
+            }
+        }
+        arcs.begin_node()?;
+        Ok(arcs)
     }
 
-    /// Raises each price by how far the last node is beyond the object's.
-    pub fn raise_prices(&self, arcs: &Arcs, prices: &mut [Price]) {
+    /// Adds the new prices of all objects to a list. The last node's objects have price 0.
+    pub fn add_prices(
+        &self,
+        arcs: &Arcs,
+        prices: &[Price],
+        others: &mut Vec<Price>,
+    ) -> Result<(), AllocError> {
+        let last = self.rise(arcs.nodes().wrapping_sub(1));
         let mut object: Object = 0;
-        for price in prices.iter_mut() {
+        for price in prices {
             object = object.wrapping_add(1);
-            *price = price.wrapping_add(self.rise(arcs.owner(object)));
+            let rise = self.rise(arcs.owner(object));
+            others.push(price.wrapping_add(rise).wrapping_sub(last))?;
         }
-    }
-
-    /// Raises the sum of each person's own cost and price as the price.
-    pub fn raise_sums(&self, sums: &mut [Cost]) {
-        for (node, sum) in sums.iter_mut().enumerate() {
-            *sum = sum.wrapping_add(self.rise(node));
-        }
+        Ok(())
     }
 }

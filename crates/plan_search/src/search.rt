@@ -15,18 +15,16 @@ use std::alloc::{AllocError, Global};
 pub struct Found {
     /// The objects of another plan, if one was found.
     pub other: Option<Vec<Object>>,
-    /// Ranks of the objects, if they were found: with the prices they show that no other plan costs less than
-    /// that one, or than the bound if there is none.
-    pub ranks: Option<Vec<i32>>,
-    /// Prices that prove the best plan too.
-    pub prices: Vec<Price>,
+    /// What shows that no other plan costs less than that one, or than the bound if there is none.
+    pub shown: Option<Shown>,
 }
 
-// Ranks, or a node of a cycle.
+/// Ranks of the objects, with some further lists of prices, one after the other.
 #[derive(Drop)]
-enum Ordered {
-    Ranks(Vec<i32>),
-    Cycle(usize),
+pub struct Shown {
+    pub ranks: Vec<i32>,
+    pub count: usize,
+    pub others: Vec<Price>,
 }
 
 // The rank of each object: how long its owner was left before the node of unowned objects.
@@ -41,20 +39,8 @@ fn ranks_of(alloc: Global, arcs: &Arcs, walk: &Walk, m: usize) -> Result<Vec<i32
     Ok(ranks)
 }
 
-// The ranks of a core, or a node of a cycle.
-fn find_ranks(alloc: Global, arcs: &Arcs, m: usize) -> Result<Ordered, AllocError> {
-    let mut walk = Walk::new(alloc, arcs.nodes())?;
-    for node in 0..arcs.nodes() {
-        walk.begin(arcs, node)?;
-        if walk.go(arcs)? {
-            return Ok(Ordered::Cycle(walk.last().unwrap_or(node)));
-        }
-    }
-    Ok(Ordered::Ranks(ranks_of(alloc, arcs, &walk, m)?))
-}
-
-// Looks for the least cycle among those that a node reaches: at each node that closes one, which the walk
-// leaves then.
+// Looks for the least cycle among those that a node reaches: at each node that closes one, which
+// the walk leaves then.
 fn search_from(
     nearest: &mut Nearest,
     walk: &mut Walk,
@@ -117,42 +103,77 @@ fn wider(alloc: Global, arcs: &Arcs, bound: Cost, weight: Cost) -> Result<Cost, 
     Ok(most.min(weight))
 }
 
-// Nodes are cut so often at most: each time takes a pass.
-const MOST_CUTS: usize = 32;
+// Cuts a node of each cycle that a node reaches, which the walk leaves then.
+fn cut_from(
+    pricing: &mut Pricing,
+    walk: &mut Walk,
+    open: &Arcs,
+    best: Best<'_>,
+    node: usize,
+    arc_scans: &mut u64,
+) -> Result<(), AllocError> {
+    walk.begin(open, node)?;
+    for _ in 0..open.nodes().wrapping_add(1) {
+        if *arc_scans == 0 || !walk.go(open)? {
+            return Ok(());
+        }
+        if let Some(last) = walk.last() {
+            pricing.cut(open, best, last, arc_scans)?;
+            walk.leave(last);
+        }
+    }
+    Ok(())
+}
 
-// Ranks of the core below a margin, with prices for which it has no cycle: one node of each cycle after the
-// other is cut, so that arcs enter it by the margin or more.
-fn ranks_below(
+// Walks along all open arcs, and cuts nodes of cycles.
+fn cut_all(
     alloc: Global,
-    source: Source<'_>,
+    pricing: &mut Pricing,
+    open: &Arcs,
+    best: Best<'_>,
+    arc_scans: &mut u64,
+) -> Result<Walk, AllocError> {
+    let mut walk = Walk::new(alloc, open.nodes())?;
+    pricing.begin();
+    for node in 0..open.nodes() {
+        cut_from(pricing, &mut walk, open, best, node, arc_scans)?;
+    }
+    Ok(walk)
+}
+
+// There are so many further prices at most.
+const MOST_PRICES: usize = 1 << 24;
+
+// Ranks of the core below a margin, with further lists of prices: each leaves fewer arcs open,
+// until these have no cycle.
+fn show(
+    alloc: Global,
+    core: Arcs,
     best: Best<'_>,
     margin: Cost,
-) -> Result<(Option<Vec<i32>>, Vec<Price>), AllocError> {
-    let mut prices = Vec::from_slice(alloc, best.prices)?;
-    let mut sums = Vec::from_slice(alloc, best.sums)?;
-    let mut pricing = Pricing::new(alloc, best.objects.len().wrapping_add(1), margin)?;
-    for _ in 0..MOST_CUTS {
-        let now = Best {
-            sense: best.sense,
-            sums: sums.as_slice(),
-            objects: best.objects,
-            prices: prices.as_slice(),
-        };
-        let arcs = core_below(alloc, source, now, margin.saturating_mul(2))?;
-        let low = arcs.below(alloc, margin)?;
-        match find_ranks(alloc, &low, prices.len())? {
-            Ordered::Ranks(ranks) => return Ok((Some(ranks), prices)),
-            Ordered::Cycle(node) => {
-                if pricing.is_cut(node) {
-                    return Ok((None, prices));
-                }
-                pricing.cut(&arcs, node)?;
-            }
+    arc_scans: &mut u64,
+) -> Result<Option<Shown>, AllocError> {
+    let m = best.prices.len();
+    let (mut open, mut others) = (core, Vec::new(alloc));
+    let mut pricing = Pricing::new(alloc, open.nodes(), margin)?;
+    for count in 0..MOST_PRICES {
+        let walk = cut_all(alloc, &mut pricing, &open, best, arc_scans)?;
+        if !pricing.met_cycle() && *arc_scans != 0 {
+            let ranks = ranks_of(alloc, &open, &walk, m)?;
+            return Ok(Some(Shown {
+                ranks,
+                count,
+                others,
+            }));
         }
-        pricing.raise_prices(&arcs, prices.as_mut_slice());
-        pricing.raise_sums(sums.as_mut_slice());
+        let full = others.len().saturating_add(m) > MOST_PRICES;
+        if full || !pricing.has_cut() || *arc_scans == 0 {
+            return Ok(None);
+        }
+        pricing.add_prices(&open, best.prices, &mut others)?;
+        open = pricing.still_open(alloc, &open)?;
     }
-    Ok((None, prices))
+    Ok(None)
 }
 
 // The least cycle: how much it weighs, the plan that it makes, and the core below it.
@@ -163,7 +184,8 @@ struct Least {
     core: Arcs,
 }
 
-// Searches wider and wider cores, up to a bound, for the least cycle; `None` if the arc scans are spent.
+// Searches wider and wider cores, up to a bound, for the least cycle; `None` if the arc scans are
+// spent.
 fn search(
     alloc: Global,
     source: Source<'_>,
@@ -196,7 +218,7 @@ fn search(
     Ok(None)
 }
 
-// Searches for the least other plan below a bound, and then for ranks.
+// Searches for the least other plan below a bound, and then for what shows that none is between.
 fn search_all(
     alloc: Global,
     source: Source<'_>,
@@ -207,8 +229,7 @@ fn search_all(
     let Some(least) = search(alloc, source, best, most, arc_scans)? else {
         return Ok(Found {
             other: None,
-            ranks: None,
-            prices: Vec::new(alloc),
+            shown: None,
         });
     };
     let Least {
@@ -216,23 +237,16 @@ fn search_all(
         other,
         core,
     } = least;
-    let (ranks, prices) = match find_ranks(alloc, &core, best.prices.len())? {
-        Ordered::Ranks(ranks) => (Some(ranks), Vec::from_slice(alloc, best.prices)?),
-        Ordered::Cycle(_) => ranks_below(alloc, source, best, weight)?,
-    };
-    Ok(Found {
-        other,
-        ranks,
-        prices,
-    })
+    let shown = show(alloc, core, best, weight, arc_scans)?;
+    Ok(Found { other, shown })
 }
 
-/// Searches for another plan than this best one, which the prices prove: for the least one, if it costs less
-/// than a bound more, with so many looks at arcs.
+/// Searches for another plan than this best one, which the prices prove: for the least one, if it
+/// costs less than a bound more, with so many looks at arcs.
 ///
-/// The time of each pass is linear in the costs, and for listed pairs as that of sorting those below the
-/// bound; two are the rule. The memory is 12 bytes for each pair of the core, and some 80 a person and an
-/// object.
+/// The time of each pass is linear in the costs, and for listed pairs as that of sorting those
+/// below the bound; two are the rule. The memory is 12 bytes for each pair of the core, some 80 a
+/// person and an object, and 8 for each of at most 2^24 further prices.
 ///
 /// # Errors
 /// `AllocError` if memory is refused.

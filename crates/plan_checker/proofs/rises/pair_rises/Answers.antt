@@ -1,4 +1,4 @@
-use Rattle.std.proofs.Common.{ℕ, pos, ◌-◌, get_or, refl, arith, rules, sym, ◌∙◌, SFits, w32, w64}
+use Rattle.std.proofs.Common.{ℕ, pos, ◌-◌, get_or, refl, arith, rules, sym, ◌∙◌, SFits, w64}
 use mathlib.Core.Bool.{true≢false}
 use Rattle.std.proofs.lemmas.Int.{ints, to_z-of_z}
 use Rattle.assign_core.specs.declared.sense.Sense.TheVariants.{Min}
@@ -7,6 +7,12 @@ use Rattle.cost_lists.specs.Exact.{IsPriceInLimits}
 use Rattle.plan_checker.proofs.Reading.{sum_in}
 use Rattle.plan_checker.proofs.rises.pair_rises.Goals as goal
 use Rattle.plan_checker.proofs.rises.pair_rises.Goals.{then-not-is_below-via-then-not-is_below, then-not-is_below-via-else-not-is_below+then-object-own}
+
+pub sum_of-own_sum-requires-clause-cost : goal.sum_of-own_sum-requires-clause-cost
+sum_of-own_sum-requires-clause-cost c =
+    let a : SFits w64 (get_or c.args.plan.own.now (c.args.person - 1) (pos 0)) = search rules in
+    let cost : IsCost (get_or c.args.plan.own.now (c.args.person - 1) (pos 0)) = search rules in
+    simp to_z-of_z cost
 
 pub is_below-requires-clause-sum : goal.is_below-requires-clause-sum
 is_below-requires-clause-sum c =
@@ -64,11 +70,9 @@ returns c =
     let s : SFits w64 c.sum_of-sum.result = search rules in
     let t : SFits w64 c.sum_of-own_sum.result = search rules in
     let u : SFits w64 p.bound = search rules in
-    let q : SFits w32 (get_or p.ranks.now (own - 1) (pos 0)) = search rules in
-    let r : SFits w32 (get_or p.ranks.now (c.args.object - 1) (pos 0)) = search rules in
     let sum = simp to_z-of_z at c.sum_of-sum.ensures in
     let own_sum = simp to_z-of_z at c.sum_of-own_sum.ensures in
     let below = simp to_z-of_z at c.is_below.ensures in
     let low = below.0 c.if-not-is_below.false in
-    let above = simp to_z-of_z at c.is_above.ensures in
-    ((λ yes least other. above.0 yes), (λ h. above.1 (h (omega (arith, ints)) c.if-object-own.false)))
+    let later = simp to_z-of_z at c.rises_later.ensures in
+    ((λ yes least other. later.0 yes), (λ h. later.1 (h (omega (arith, ints)) c.if-object-own.false)))

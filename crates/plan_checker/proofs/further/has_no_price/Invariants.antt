@@ -1,0 +1,6 @@
+use Rattle.std.proofs.Common.{◌≡◌, ℕ, pos, ◌<◌}
+use Rattle.plan_checker.specs.inside.Rises.{other_price_at}
+use Rattle.plan_checker.proofs.further.has_no_price.Given as goal
+
+abbrev pub invariant-loop-list : goal.invariant-loop-list
+invariant-loop-list l = (t : ℕ) → t < l.list → other_price_at l.plan t l.object ≡ pos 0
