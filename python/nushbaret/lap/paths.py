@@ -3,7 +3,8 @@ a row gets another column at the least cost more. Rows and columns that stay out
 dummy row, which cost nothing."""
 import heapq
 from itertools import repeat
-from typing import AbstractSet, Any, Dict, FrozenSet, Iterable, Iterator, List, NamedTuple, Optional, Sequence, Set, Tuple, Union
+from typing import (AbstractSet, Any, Dict, FrozenSet, Iterable, Iterator, List, NamedTuple, Optional, Sequence, Set,
+                    Tuple, Union)
 
 INFINITE = float("inf")
 # So many rows show what reduced costs are usual.

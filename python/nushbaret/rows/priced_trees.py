@@ -4,7 +4,7 @@ What is found here is a hint only; certificates show what holds.
 """
 import importlib
 import time
-from typing import Any, Dict, List, NamedTuple, Optional, Sequence, Tuple, Union
+from typing import Any, Dict, List, NamedTuple, Optional, Tuple, Union
 
 from .masters import Master, MasterProblem
 from .prices import SCALE, Bound, Pricing
@@ -76,7 +76,7 @@ class PricedTrees:
         for variable in self._worth_trying(pricing, bound):
             halves = [self._half(pricing, bound, variable, value) for value in (0, 1)]
             gains = [min(half.bound.value - bound.value, wanted) for half in halves]
-            gain = product(*gains, _LITTLE * wanted)
+            gain = product(gains, _LITTLE * wanted)
             if max(gains) * _FAR > wanted and gain > most:
                 most, best = gain, (variable, halves)
             if min(gains) >= wanted:
@@ -101,9 +101,9 @@ class PricedTrees:
             gains = [wanted, wanted]
             for value in (0, 1):
                 gains[value] = min(wanted, problem.cost(number, place, value) - cost)
-                if len(best) == _TRIED and product(*gains, _LITTLE * wanted) <= best[0]:
+                if len(best) == _TRIED and product(gains, _LITTLE * wanted) <= best[0]:
                     break
-            products[pricing.blocks[number].variables[place]] = product(*gains, _LITTLE * wanted)
+            products[pricing.blocks[number].variables[place]] = product(gains, _LITTLE * wanted)
         return sorted(products, key=products.__getitem__, reverse=True)[:_TRIED]
 
     def _broken(self, pricing: Pricing, problem: MasterProblem, master: Master) -> List[Tuple[int, int]]:

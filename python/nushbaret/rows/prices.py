@@ -7,7 +7,7 @@ import copy
 import importlib
 import math
 import time
-from typing import Any, Callable, Dict, Iterator, List, NamedTuple, Optional, Sequence, Set
+from typing import Any, Callable, Dict, Iterator, List, NamedTuple, Optional, Set
 
 from .diagrams import Diagram, diagram_of, narrowed
 from .masters import Master, MasterProblem, PricedMonth

@@ -44,8 +44,8 @@ class Worker:
         try:
             self.process = subprocess.Popen(command(), stdin=subprocess.PIPE, stdout=subprocess.PIPE,
                                             stderr=subprocess.PIPE, text=True, encoding="utf-8",
-                                            errors="backslashreplace", env={**os.environ, **_ENVIRONMENT}, start_new_session=True,
-                                            creationflags=_OWN_GROUP)
+                                            errors="backslashreplace", env={**os.environ, **_ENVIRONMENT},
+                                            start_new_session=True, creationflags=_OWN_GROUP)
         except OSError as fault:
             raise RuntimeError(f"no process that finds plans can be started with {sys.executable}: {fault.strerror}"
                                ) from fault

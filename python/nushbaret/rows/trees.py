@@ -161,7 +161,7 @@ class Trees:
             if halves is None:
                 continue
             low, high = sorted(min(result.value, cut) for _, result in halves)
-            gain = product(low - solved.value, high - solved.value)
+            gain = product((low - solved.value, high - solved.value))
             if best is None or gain > best[0]:
                 terms: Terms = ((candidate.variable,
                                  1),) if candidate.row is None else self.part.rows[candidate.row].terms
@@ -184,7 +184,7 @@ class Trees:
         cut, value, start = self._cut(), solved.value, solved.tableau or self._first_tableau()
         below, above = self._halves(node, candidate)
         first = self._solve(below, start)
-        if product(min(first.value, cut) - value, cut - value) <= least:
+        if product((min(first.value, cut) - value, cut - value)) <= least:
             # The other counts as alike.
             alike = (first.value - value) * (1 - candidate.above) / candidate.above
             self._learn(candidate, value, (first.value, value + alike))
@@ -208,7 +208,7 @@ class Trees:
     def _expected(self, candidate: _Candidate, value: float, cut: float) -> float:
         """The product of what the halves gain, as earlier gains let expect it."""
         below, above = self.gains[candidate.key()]
-        return product(min(cut - value, below * candidate.above), min(cut - value, above * (1 - candidate.above)))
+        return product((min(cut - value, below * candidate.above), min(cut - value, above * (1 - candidate.above))))
 
     def _learn(self, candidate: _Candidate, value: float, values: Sequence[float]) -> None:
         """Keeps the mean of what a step of 1 of the candidate gained before and gains now."""
@@ -375,9 +375,9 @@ def _denominators(values: Any) -> Iterator[int]:
     yield common
 
 
-def product(one: float, other: float, little: float = _LITTLE) -> float:
-    """What two halves gain, one times the other; what is no gain counts as a little."""
-    return max(one, little) * max(other, little)
+def product(gains: Sequence[float], little: float = _LITTLE) -> float:
+    """What halves gain, one times the other; what is no gain counts as a little."""
+    return math.prod(max(gain, little) for gain in gains)
 
 
 def _with(sides: Tuple[Any, ...], at: int, side: _Bound) -> Tuple[Any, ...]:

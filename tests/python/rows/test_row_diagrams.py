@@ -139,9 +139,10 @@ class Shared(unittest.TestCase):
             for some, least, most in [*ways, (shifts, person % 2, 3 + person % 3 // 2)]:
                 terms = tuple((place[shift], 1) for shift in some if shift in place)
                 rows += [Row(least, terms, most, "a rule", person)] if terms else []
-        rows += [Row(1, tuple((at, 1) for at, (_, own) in enumerate(names) if own == shift), persons) for shift in shifts]
-        return Model(len(names), tuple(draw.randint(-9, 9) for _ in names), tuple(rows), tuple(name for name, _ in names),
-                     tuple(days))
+        rows += [Row(1, tuple((at, 1) for at, (_, own) in enumerate(names) if own == shift), persons)
+                 for shift in shifts]
+        return Model(len(names), tuple(draw.randint(-9, 9) for _ in names), tuple(rows),
+                     tuple(name for name, _ in names), tuple(days))
 
     def test_each_person_has_the_own_months(self):
         made = []
@@ -153,8 +154,8 @@ class Shared(unittest.TestCase):
             self.assertEqual(shared.call_count, 8)
             for number, (block, diagram) in enumerate(zip(pricing.blocks, pricing.diagrams)):
                 made.append(Templates.diagram_of(shared.call_args[0][0], number) is not None)
-                own = Model(len(block.variables), (0,) * len(block.variables),
-                            tuple(Row(row.least, row.terms, row.most) for row in block.rows), (0,) * len(block.variables))
+                count, rows = len(block.variables), tuple(Row(*row) for row in block.rows)
+                own = Model(count, (0,) * count, rows, (0,) * count)
                 plans, stacked = models.plans(own), Stacked([diagram], [range(own.variables)])
                 for _ in range(5):
                     costs = np.array([draw.randint(-9, 9) for _ in range(own.variables)], dtype=np.int64)
