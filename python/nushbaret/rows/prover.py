@@ -46,6 +46,8 @@ class Prover:
         self.bound: Optional[int] = None
         # No plan costs so little, as a search says.
         self.none: Optional[int] = None
+        # The cost that no small tree with prices at its ends was found for.
+        self.vain: Optional[int] = None
 
     def left(self) -> float:
         return self.deadline - time.monotonic()
@@ -245,14 +247,14 @@ class Prover:
         """Looks for a proof that no plan costs less than the one known, or as little as a search says that none costs,
         by a small tree with prices at its ends; the best prices."""
         target = self.none if self.channel.cost is None else self.channel.cost - 1
-        if target is None or self.bound is None or target < self.bound:
+        if target is None or self.bound is None or target < self.bound or target == self.vain:
             return best
         for best in pricing.by_masters(best, 1, lambda: target, self.deadline, rounds=_MASTERS):
             pass
         try:
             self.tell(chain_tree(pricing, best, target, self.deadline, _PRICED_LEAVES), target)
         except Open:
-            pass
+            self.vain = target
         return best
 
     def close(self, pricing: Pricing, best: Bound) -> None:
