@@ -29,8 +29,9 @@ _FIRST_PART = 0.6
 _SUMS_PART = 0.3
 # By so many in a hundred a plan may be above the bound, where one is looked for near it and none is known.
 _NEAR = (1, 4, 16)
-# The parts of the time in which plans are looked for that cost no more than the bound, and near it.
-_AT_BOUND_PART, _NEAR_PART = 0.1, 0.3
+# The parts of the time in which plans are looked for that cost no more than the bound, and near it; a search has so many
+# seconds at least, but for a part of a short time.
+_AT_BOUND_PART, _NEAR_PART, _LEAST_LOOK, _MOST_PART = 0.1, 0.3, 2.0, 0.4
 
 
 class Prover:
@@ -237,8 +238,8 @@ class Prover:
         least = (reaches[0] > SCALE * most).astype(float)
         greatest = 1.0 - (reaches[1] > SCALE * most)
         if (least <= greatest).all():
-            found = tried(self.model.costs, [*self.rows, cost_row(self.model, most)], self.left() * part, least,
-                          greatest)
+            seconds = max(self.left() * part, min(_LEAST_LOOK, self.left() * _MOST_PART))
+            found = tried(self.model.costs, [*self.rows, cost_row(self.model, most)], seconds, least, greatest)
             self.say_found(found.plan)
             if found.is_over and found.plan is None:
                 self.none = most
