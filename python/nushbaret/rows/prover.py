@@ -29,8 +29,8 @@ _FIRST_PART = 0.6
 _SUMS_PART = 0.3
 # By so many in a hundred a plan may be above the bound, where one is looked for near it and none is known.
 _NEAR = (1, 4, 16)
-# The parts of the time in which plans are looked for that cost no more than the bound, and near it; a search has so many
-# seconds at least, but for a part of a short time.
+# The parts of the time in which plans are looked for that cost no more than the bound, and near it. A search has so
+# many seconds at least, of a short time a part.
 _AT_BOUND_PART, _NEAR_PART, _LEAST_LOOK, _MOST_PART = 0.1, 0.3, 2.0, 0.4
 
 
