@@ -203,6 +203,23 @@ def judge_checkers(library, problem, dice):
     want("numbers too long", check(library, problem, plan, r + [0], v)[0] == NUMBERS)
 
 
+def judge_widths(library, dice):
+    """Rows that list all columns in their order, next to the same pairs in another order, with costs of several
+    widths."""
+    for greatest in (3, 2**31 - 1, 2**31, 10**12):
+        n, m = dice.randint(20, 40), dice.randint(16, 40)
+        dense = {"sense": dice.randint(0, 1), "rows": [], "columns": [], "row_least": [1] * n, "row_most": [2] * n,
+                 "costs": [dice.randint(-greatest, greatest) for _ in range(n * m)], "column_least": [0] * m,
+                 "column_most": [2 * n // m + 1] * m, "groups": []}
+        pairs = [(i, j, cost) for i in range(n) for _, j, cost in dice.sample(pairs_of(dense)[i * m:i * m + m], m)]
+        rows, columns, costs = zip(*pairs)
+        listed = {**dense, "rows": [i + 1 for i in rows], "columns": [j + 1 for j in columns], "costs": costs}
+        answers = [(problem, solve(library, problem)) for problem in (dense, listed)]
+        want("two orders of pairs have two totals", len({total(answer[-1]) for _, answer in answers}) == 1)
+        for problem, (code, plan, r, v, *_) in answers:
+            want(f"no proof of {problem}", code == BEST and proves(problem, pairs_of(problem), plan, r, v))
+
+
 def faults(library):
     whole = {"sense": 0, "rows": [1, 1, 2], "columns": [1, 2, 1], "costs": [3, 1, 2], "row_least": [1, 1],
              "row_most": [1, 1], "column_least": [0, 0], "column_most": [1, 1], "groups": []}
@@ -231,6 +248,8 @@ def main():
         getattr(library, name).restype = c_int32
     faults(library)
     dice = random.Random(78)
+    for _ in range(10):
+        judge_widths(library, dice)
     for _ in range(int(sys.argv[2]) if sys.argv[2:] else 500):
         problem = drawn(dice)
         judge_answer(library, problem, solve(library, problem))

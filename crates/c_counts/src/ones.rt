@@ -5,7 +5,7 @@ ghost use Rattle.count_checker.specs.CountLists.{AreCountLists};
 ghost use Rattle.c_counts.specs.Ones.{HasStateLengths};
 
 use crate::input::pairs_of;
-use crate::prepare::turned;
+use crate::prepare::{negate, turned};
 use crate::search::Answer;
 use cost_lists::{CostLists, Pairs};
 use count_checker::{CheckedLists, CountLists};
@@ -103,13 +103,6 @@ fn record_of(record: &ListRecord) -> Record {
         arc_scans: record.arc_scans,
         until: u64::from(record.flags) << 32 | u64::from(record.dummy_bids),
         paths: 0,
-    }
-}
-
-// Prices as numbers of columns, and the other way.
-fn negate(numbers: &mut [i64], others: &[i64]) {
-    for (number, other) in numbers.iter_mut().zip(others) {
-        *number = other.wrapping_neg();
     }
 }
 

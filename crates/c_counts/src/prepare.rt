@@ -8,8 +8,8 @@ use std::alloc::{AllocError, Global};
 pub struct Prepared {
     pub starts: Vec<usize>,
     pub columns: Vec<u32>,
-    // Under Max; under Min they are read where they are.
-    turned: Vec<Cost>,
+    // The costs with the other sign under Max; under Min they are read where they are.
+    negated: Vec<Cost>,
 }
 
 // Adds to the count of a row, at its number.
@@ -68,12 +68,16 @@ pub fn turned(sense: Sense, cost: Cost) -> Cost {
     }
 }
 
-// The costs with the other sign.
-fn negated(alloc: Global, costs: &[Cost]) -> Result<Vec<Cost>, AllocError> {
-    let mut negated = Vec::from_slice(alloc, costs)?;
-    for cost in negated.as_mut_slice().iter_mut() {
-        *cost = cost.wrapping_neg();
+/// Writes others with the other sign.
+pub fn negate(numbers: &mut [i64], others: &[i64]) {
+    for (number, other) in numbers.iter_mut().zip(others) {
+        *number = other.wrapping_neg();
     }
+}
+
+fn negated(alloc: Global, costs: &[Cost]) -> Result<Vec<Cost>, AllocError> {
+    let mut negated = vec![in alloc; 0; costs.len()]?;
+    negate(negated.as_mut_slice(), costs);
     Ok(negated)
 }
 
@@ -81,14 +85,14 @@ impl Prepared {
     pub fn of(alloc: Global, lists: CountLists<'_>) -> Result<Prepared, AllocError> {
         let starts = starts_of(alloc, lists)?;
         let columns = columns_of(alloc, lists)?;
-        let turned = match lists.sense {
+        let negated = match lists.sense {
             Sense::Min => Vec::new(alloc),
             Sense::Max => negated(alloc, lists.costs)?,
         };
         Ok(Prepared {
             starts,
             columns,
-            turned,
+            negated,
         })
     }
 
@@ -96,7 +100,7 @@ impl Prepared {
     pub fn costs<'a>(&'a self, lists: CountLists<'a>) -> &'a [Cost] {
         match lists.sense {
             Sense::Min => lists.costs,
-            Sense::Max => self.turned.as_slice(),
+            Sense::Max => self.negated.as_slice(),
         }
     }
 }

@@ -1,4 +1,5 @@
 // The core solved as a sparse problem, and passes over all pairs, until no pair beats the prices.
+use super::course::Course;
 use super::market::Market;
 use super::matrix::Matrix;
 use super::pick::{Core, pick_by_means, pick_by_prices};
@@ -16,11 +17,6 @@ const PASSES: u64 = 20;
 // The arc scans that a core may take whatever the budget is, as passes over all pairs: it is forgotten
 // where a call stops.
 const PASSES_A_CORE: u64 = 8;
-
-// More persons than a half are most, and more than this part are many.
-const MOST: u64 = 2;
-
-const MANY: u64 = 8;
 
 // What is taken from all costs of a core, and the factor that the rest has in common.
 #[derive(Clone, Copy)]
@@ -149,51 +145,22 @@ fn solve_core<R: Reading<i64>>(
     })
 }
 
-// Adds better pairs to a core. Where most persons have some, it gets those that are cheapest by
-// another measure too.
+// Adds better pairs to a core; if asked, also those that are cheapest by another measure.
 fn grow<R: Reading<i64>>(
     alloc: Global,
     matrix: &Matrix<'_, i64, R>,
     core: &Core,
     better: &Better,
+    needs_means: bool,
     arc_scans: &mut ArcScans,
 ) -> Result<Core, AllocError> {
     let grown = merge(alloc, core, &better.core, matrix.persons)?;
-    if !has_over(matrix, better, MOST) || matrix.persons < matrix.objects {
+    if !needs_means || matrix.persons < matrix.objects {
         return Ok(grown);
     }
     let others = pick_by_means(alloc, matrix)?;
     arc_scans.add(matrix.pairs());
     merge(alloc, &grown, &others, matrix.persons)
-}
-
-// Whether more persons than this part of all have better pairs.
-fn has_over<R: Reading<i64>>(matrix: &Matrix<'_, i64, R>, better: &Better, part: u64) -> bool {
-    better.persons.saturating_mul(part) > matrix.persons as u64
-}
-
-// How cores end, where not much fewer persons have better pairs than before. Searches over a copy, if
-// they can follow, are faster for many persons, and an auction for most; few are assigned at the prices
-// of the core.
-fn end_of_cores<R: Reading<i64>>(
-    matrix: &Matrix<'_, i64, R>,
-    better: &Better,
-    before: u64,
-    may_copy: bool,
-) -> Option<Ended> {
-    if before == 0 {
-        let is_long = may_copy && has_over(matrix, better, MOST);
-        return is_long.then_some(Ended::Long);
-    }
-    if better.persons < before / 5 * 3 {
-        return None;
-    }
-    let part = if may_copy { MANY } else { MOST };
-    Some(if has_over(matrix, better, part) {
-        Ended::Long
-    } else {
-        Ended::Near
-    })
 }
 
 // Solves a core, and larger ones, until no pair beats the prices. `Long` if most persons have better
@@ -209,13 +176,15 @@ fn solve_from<R: Reading<i64>>(
     may_copy: bool,
 ) -> Result<Ended, AllocError> {
     let mut core = first;
-    let mut before = 0u64;
+    let mut course = Course::begin(matrix.persons, may_copy);
     for _ in 0..PASSES {
         record.passes = record.passes.saturating_add(1);
+        let begun = arc_scans.done;
         match solve_core(alloc, matrix, market, &core, arc_scans)? {
             Ended::Assigned => {}
             ended => return Ok(ended),
         }
+        course.note_core(core.pairs.len(), arc_scans.since(begun));
         if arc_scans.left() < matrix.pairs() as u64 {
             return Ok(Ended::Stopped);
         }
@@ -225,11 +194,12 @@ fn solve_from<R: Reading<i64>>(
             return Ok(Ended::Assigned);
         }
         record.slackness = better.mean_gain();
-        if let Some(ended) = end_of_cores(matrix, &better, before, may_copy) {
+        if let Some(ended) = course.end(&better) {
             return Ok(ended);
         }
-        before = better.persons;
-        core = grow(alloc, matrix, &core, &better, arc_scans)?;
+        course.note_pass(&better);
+        let needs_means = course.needs_means(&better);
+        core = grow(alloc, matrix, &core, &better, needs_means, arc_scans)?;
     }
     Ok(Ended::Long)
 }
@@ -266,7 +236,8 @@ pub fn resume_cores<R: Reading<i64>>(
     if around.persons == 0 {
         return Ok(Ended::Assigned);
     }
-    if record.passes > 1 && has_over(matrix, &around, MOST) {
+    let course = Course::begin(matrix.persons, false);
+    if record.passes > 1 && course.has_most(&around) {
         return Ok(Ended::Long);
     }
     solve_from(alloc, matrix, market, record, arc_scans, around.core, false)

@@ -8,6 +8,7 @@ mod bids;
 mod cheapest;
 mod copied;
 mod cores;
+mod course;
 mod full_search;
 mod gather;
 mod market;

@@ -34,7 +34,6 @@ class _CommonRow(NamedTuple):
         return (self.least is not None and sum(min(factor, 0) for _, factor in self.terms) < self.least
                 or self.most is not None and sum(max(factor, 0) for _, factor in self.terms) > self.most)
 
-
     def implies(self, other: "_CommonRow") -> bool:
         """Whether who keeps it keeps the other, which has fewer terms, all above 0, and the same greatest sum."""
         return other.least is None and self.most == other.most and other.terms <= self.terms and all(
@@ -47,8 +46,9 @@ class _Template:
     def __init__(self) -> None:
         self.keys: Set[Key] = set()
         self.rows: List[_CommonRow] = []
+        # The keys in order, once the diagram is made.
+        self.order: List[Key] = []
         self.diagram: Optional[Diagram] = None
-        self.is_made = False
 
     def add(self, keys: Sequence[Key], rows: Sequence[_CommonRow]) -> None:
         """Adds a person's rows: each to one that is the same as far as both go, if there is one."""
@@ -74,17 +74,17 @@ class _Template:
 
     def diagram_for(self, keys: Sequence[Key]) -> Optional[Diagram]:
         """The diagram of a person who has these keys; None where it is too wide for all together."""
-        order = sorted(self.keys)
-        if not self.is_made:
-            number_of = {key: number for number, key in enumerate(order)}
-            self.is_made, self.diagram = True, diagram_of(len(order), [
+        if not self.order:
+            self.order = sorted(self.keys)
+            number_of = {key: number for number, key in enumerate(self.order)}
+            self.diagram = diagram_of(len(self.order), [
                 Limits(row.least, tuple(sorted((number_of[key], factor) for key, factor in row.terms)), row.most)
                 for row in self.rows])
         if self.diagram is None:
             return None
         place_of = {key: place for place, key in enumerate(keys)}
-        places = [place_of.get(key, -1) for key in order]
-        least = np.zeros(len(order), dtype=bool)
+        places = [place_of.get(key, -1) for key in self.order]
+        least = np.zeros(len(self.order), dtype=bool)
         return _renamed(narrowed(self.diagram, least, np.array(places) >= 0), places)
 
 
