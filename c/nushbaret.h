@@ -108,7 +108,7 @@
 extern "C" {
 #endif
 
-#define NUSHBARET_VERSION "5.5.0"
+#define NUSHBARET_VERSION "5.6.0"
 
 /* The sense: the least sum of costs, or the greatest. */
 #define NUSHBARET_MIN 0u
@@ -606,6 +606,8 @@ int32_t nushbaret_rows(size_t n,
    row_least_count, that of columns column_least_count, each from 1 to NUSHBARET_MOST_PERSONS; there are at most 2^30
    pairs, and costs are from -10^12 to 10^12. groups has for each column its group, from 1 to the number of columns, or 0 for
    none; groups_count 0 stands for no groups.
+
+   Where all counts go from 0 to 1 and all costs are -1, a best plan is a greatest matching: as many pairs as possible.
 
    Numbers of rows and columns prove a plan best. With e = cost - row's number - column's number, of the cost negated under
    NUSHBARET_MAX: each chosen pair has e <= 0 and the least e that its row lists in its group; each other pair has e >= 0, or

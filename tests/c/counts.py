@@ -220,6 +220,36 @@ def judge_widths(library, dice):
             want(f"no proof of {problem}", code == BEST and proves(problem, pairs_of(problem), plan, r, v))
 
 
+def most_pairs(pairs):
+    """How many rows can have a column each, by one augmenting path after another."""
+    owners = {}
+
+    def finds(row, seen):
+        for other, column, _ in pairs:
+            if other == row and column not in seen:
+                seen.add(column)
+                if column not in owners or finds(owners[column], seen):
+                    owners[column] = row
+                    return True
+        return False
+
+    return sum(finds(row, set()) for row in {row for row, _, _ in pairs})
+
+
+def judge_matchings(library, dice):
+    """As many pairs as possible: each row and each column takes at most one, and all pairs cost the same."""
+    n, m, sense, cost = dice.randint(1, 12), dice.randint(1, 12), dice.randint(0, 1), dice.choice([1, 5, 10**12])
+    pairs = [(i, j, cost if sense else -cost) for i in range(n) for j in range(m)
+             for _ in range(dice.choice([0, 0, 0, 1, 1, 2]))]
+    rows, columns, costs = [i + 1 for i, _, _ in pairs], [j + 1 for _, j, _ in pairs], [one for _, _, one in pairs]
+    problem = {"sense": sense, "rows": rows, "columns": columns, "costs": costs, "row_least": [0] * n,
+               "row_most": [1] * n, "column_least": [0] * m, "column_most": [1] * m, "groups": []}
+    for budget in (None, 0, 1, 20):
+        code, plan, r, v, *_, info = solve(library, problem, budget)
+        want(f"no proof of {problem}", code == BEST and proves(problem, pairs, plan, r, v))
+        want(f"a total of {problem}", abs(total(info)) == cost * most_pairs(pairs))
+
+
 def faults(library):
     whole = {"sense": 0, "rows": [1, 1, 2], "columns": [1, 2, 1], "costs": [3, 1, 2], "row_least": [1, 1],
              "row_most": [1, 1], "column_least": [0, 0], "column_most": [1, 1], "groups": []}
@@ -250,6 +280,8 @@ def main():
     dice = random.Random(78)
     for _ in range(10):
         judge_widths(library, dice)
+    for _ in range(200):
+        judge_matchings(library, dice)
     for _ in range(int(sys.argv[2]) if sys.argv[2:] else 500):
         problem = drawn(dice)
         judge_answer(library, problem, solve(library, problem))

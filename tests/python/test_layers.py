@@ -19,7 +19,7 @@ OF_OTHER_FOLDERS = {
     "api.test_plans": "lap.library lap.paths lap.ranking",
     "api.test_solving": "lap.library",
     "api.test_time": "lap.levels lap.library",
-    "counts.test_counts": "lap.library",
+    "counts.test_counts": "lap.counts_call lap.library",
     "roster.test_command": "lap.library",
     "rows.test_certificates": "lap.library",
     "roster.rules.test_command_rules": "rows.finding rows.model",

@@ -5,9 +5,11 @@
 mod checking;
 mod end;
 mod fault;
+mod flow;
 mod info;
 mod input;
 mod judge;
+mod most_pairs;
 mod ones;
 mod prepare;
 mod search;

@@ -21,7 +21,8 @@ const WARM: u64 = 1;
 
 const ONES: u64 = 4;
 
-fn are_all(numbers: &[u32], wanted: u32) -> bool {
+/// Whether all numbers are this one.
+pub fn are_all(numbers: &[u32], wanted: u32) -> bool {
     numbers.iter().all(|number| *number == wanted)
 }
 

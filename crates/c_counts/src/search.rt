@@ -5,6 +5,7 @@ ghost use Rattle.count_checker.specs.CountLists.{problem_in};
 ghost use Rattle.c_counts.specs.Answers.{HasLengths, IsAnswer, IsEnd, marks_of};
 
 use crate::end::End;
+use crate::most_pairs::{cost_of_each, goes_by_most, solve_most};
 use crate::ones::{are_ones, goes_by_ones, solve_ones};
 use crate::prepare::Prepared;
 use count_checker::{
@@ -62,6 +63,11 @@ fn run(
     let lists = problem.lists();
     if goes_by_ones(&answer.record) && are_ones(lists) {
         return solve_ones(alloc, problem, answer, budget);
+    }
+    if goes_by_most(&answer.record) {
+        if let Some(cost) = cost_of_each(lists) {
+            return solve_most(alloc, lists, cost, answer, budget);
+        }
     }
     let prepared = Prepared::of(alloc, lists)?;
     let problem = Problem {

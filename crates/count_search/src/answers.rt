@@ -2,7 +2,7 @@
 use super::offers::Offer;
 use super::problem::{Problem, Row};
 use super::state::{State, count_chosen};
-use super::values::{FAR, count_at, price_at, set_byte, set_count};
+use super::values::{FAR, count_at, set_byte, set_count};
 use search_base::{place_at, select};
 use std::alloc::{AllocError, Global};
 
@@ -38,15 +38,15 @@ pub fn range_of(problem: &Problem<'_>, state: &mut State, place: u32) -> Range {
     }
     match state.prices_of(place, row) {
         Some(prices) => Range {
-            held: most_held(state, row, prices),
+            held: most_held(state, row),
             open: least_open(row.costs, prices, state.chosen(row)),
         },
         None => plain_range_of(state, row),
     }
 }
 
-// The greatest value of the pairs that a row has, of columns with these prices.
-fn most_held(state: &State, row: Row<'_>, prices: &[i64]) -> i64 {
+/// The greatest value of the pairs that a row has.
+pub fn most_held(state: &State, row: Row<'_>) -> i64 {
     let mut most = i64::MIN;
     let mut from = 0usize;
     for _pair in row.columns {
@@ -54,7 +54,7 @@ fn most_held(state: &State, row: Row<'_>, prices: &[i64]) -> i64 {
             return most;
         };
         let cost = row.costs.get(place).copied().unwrap_or(0);
-        most = most.max(cost.wrapping_add(price_at(prices, place)));
+        most = most.max(value_of(state, count_at(row.columns, place), cost));
         from = place.wrapping_add(1);
     }
     most

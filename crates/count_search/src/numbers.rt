@@ -1,5 +1,5 @@
 // Row numbers and column numbers: the duals of a plan at exact prices.
-use super::answers::{Range, range_of};
+use super::answers::{most_held, range_of};
 use super::chosen::next_chosen;
 use super::problem::Problem;
 use super::state::State;
@@ -41,12 +41,15 @@ fn column_number(state: &State, column: usize, taken: u32, most: u32) -> i64 {
 }
 
 // By the bounds that were given, and what is left of costs without the columns' numbers.
-fn row_number(problem: &Problem<'_>, state: &State, place: u32, rests: Range) -> i64 {
+fn row_number(problem: &Problem<'_>, state: &mut State, place: u32) -> i64 {
     let count = state.held_of(place);
     let is_least = count <= count_at(problem.row_least, place as usize);
     let is_most = count >= count_at(problem.row_most, place as usize);
+    if is_least && is_most && count > 0 {
+        return most_held(state, problem.row(place));
+    }
+    let rests = range_of(problem, state, place);
     match (is_least, is_most) {
-        (true, true) if count > 0 => rests.held,
         (true, true) if rests.open < i64::MAX => rests.open,
         (true, true) => 0,
         (true, false) => rests.held.max(0),
@@ -79,8 +82,7 @@ impl Numbers {
 
     fn set_rows(&mut self, problem: &Problem<'_>, state: &mut State) {
         for row in 0..place_at(problem.row_count()) {
-            let rests = range_of(problem, state, row);
-            let number = row_number(problem, state, row, rests);
+            let number = row_number(problem, state, row);
             set_price(self.rows.as_mut_slice(), row as usize, number);
         }
     }

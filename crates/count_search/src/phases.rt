@@ -1,5 +1,5 @@
 // The phases of an auction, whose slackness falls from one to the next.
-use super::auction::Auction;
+use super::auction::{Auction, Terms};
 use super::groups::Groups;
 use super::layout::Layout;
 use super::problem::Problem;
@@ -15,7 +15,13 @@ const FALL: i64 = 8;
 
 const FALL_BITS: u32 = 3;
 
-const MOST_QUIET: u32 = 16;
+// So far above the unit of costs it falls by this much more: costs that differ by few units make no war
+// there.
+const FAR_UNITS: i64 = 1 << 20;
+
+const FAR_FALL_BITS: u32 = 9;
+
+const MOST_FALL_BITS: u32 = 48;
 
 // After a phase with more bids of a hand than this it falls by less.
 const BIDS_OF_A_WAR: u64 = 2;
@@ -34,14 +40,16 @@ pub const HIGHEST_PRICE: i64 = 1 << 60;
 
 // The slackness after a phase of so many bids, and after so many phases in a row with no more bids than
 // hands.
-fn fallen(slackness: i64, bids: u64, hands: u64, quiet: u32) -> i64 {
+fn fallen(terms: Terms, bids: u64, hands: u64, quiet: u32) -> i64 {
     let is_war = bids > hands.saturating_mul(BIDS_OF_A_WAR);
+    let is_far = terms.slackness / FAR_UNITS > terms.scale;
+    let bits = if is_far { FAR_FALL_BITS } else { FALL_BITS };
     let fall = if is_war {
         FALL_IN_A_WAR
     } else {
-        FALL.wrapping_shl(FALL_BITS.wrapping_mul(quiet.min(MOST_QUIET)))
+        FALL.wrapping_shl(bits.wrapping_mul(quiet).min(MOST_FALL_BITS))
     };
-    (slackness / fall.max(1)).max(1)
+    (terms.slackness / fall.max(1)).max(1)
 }
 
 /// How a phase, or an auction, ended.
@@ -177,7 +185,7 @@ impl Auction {
             let bids = self.bids.saturating_sub(begun);
             let is_quiet = phase > 0 && bids <= layout.hands;
             quiet = if is_quiet { quiet.wrapping_add(1) } else { 0 };
-            let slackness = fallen(self.terms.slackness, bids, layout.hands, quiet);
+            let slackness = fallen(self.terms, bids, layout.hands, quiet);
             self.begin_phase(state, layout, slackness);
         }
         Ok(Ended::War)

@@ -8,7 +8,7 @@ from ..costs.reading import manner
 from ..costs.source import Source
 from ..lap import library, proved
 from ..lap.matching import most_assigned
-from ..lap.solving import Outcome, prove_most, solved, worst_needed
+from ..lap.solving import Outcome, solved, worst_needed
 from .results import Result
 from .shown import Matrix, Missing
 from .solve import solve_problem
@@ -65,8 +65,6 @@ def _bottleneck(source: Source, partial: bool) -> Result:
     assigned = least if problem.persons is None else most_assigned(problem)
     if not assigned or assigned < least and not partial:
         return solve_problem(problem, source, None, partial)
-    if assigned < least:
-        prove_most(problem, assigned)
     # Doubles are in the order of the decimals that they print as.
     return _best_within(problem if problem.numpy else in_whole_numbers(problem), assigned, source)
 

@@ -1,13 +1,14 @@
-"""Problems with counts, and the library's calls on them, by ctypes."""
-import ctypes
+"""Problems with counts, and the library's answers to them."""
 import sys
 from array import array
-from itertools import chain, compress
+from functools import partial
+from itertools import compress
 from operator import itemgetter, le
-from typing import Any, Dict, Iterator, List, NamedTuple, NoReturn, Sequence, Tuple, Union
+from typing import Any, Dict, Iterator, List, NamedTuple, Sequence, Tuple, Union
 
 from ..costs.limits import GREATEST_COST, MOST_PERSONS, Numbers, TooLarge
-from ..lap.library import PIECES, Pace, address, address_and_count, look_at_time, progress_asked
+from ..lap.counts_call import BEST, COLUMNS_LACK, searched_counts
+from ..lap.library import progress_asked
 
 Pair = Tuple[int, int]
 # A row and a group of which it takes at most one column.
@@ -93,30 +94,7 @@ class Marked(NamedTuple):
     columns: Any
 
 
-# The library's codes that aren't faults of its lists.
-_BEST, _ROWS_LACK, _COLUMNS_LACK, _MEMORY, _STOPPED = 0, 1, 2, 15, 16
 _MOST_COUNT = 2**32 - 1
-# Lists that are given and written; then the sense comes first, and in the end a budget, a record and an info.
-_LISTS = 13
-_call: List[Any] = []
-
-
-class _Record(ctypes.Structure):
-    _fields_ = [("state", ctypes.c_uint64 * 8)]
-
-
-class _Info(ctypes.Structure):
-    _fields_ = [("total_high", ctypes.c_int64)] + [(name, ctypes.c_uint64) for name in ("total_low", "place", "row",
-                                                                                        "column")]
-
-
-def _loaded() -> Any:
-    if not _call:
-        lists = [ctypes.c_void_p, ctypes.c_size_t] * _LISTS
-        prototype = ctypes.CFUNCTYPE(ctypes.c_int32, ctypes.c_uint32, *lists, ctypes.c_uint64, ctypes.c_void_p,
-                                     ctypes.c_void_p)
-        _call.append(prototype(address("nushbaret_counts_from")))
-    return _call[0]
 
 
 def _from_one(values: Any) -> Any:
@@ -145,29 +123,18 @@ def _given(counted: Counted) -> List[Any]:
 
 
 def solved(counted: Counted, is_part: bool = False) -> Union[Best, Marked]:
-    """The library's answer to a problem whose costs are in its range. The search is done in pieces, as others are;
-    unless it is part of another one, `progress` is called with how many rows have their least count, and at least one
-    pair if they take any."""
+    """The library's answer to a problem whose costs are in its range. Unless the search is part of another one,
+    `progress` is called with how many rows have their least count, and at least one pair if they take any."""
     n, m, pairs = len(counted.row_bounds), len(counted.column_bounds), len(counted.rows)
     if not n or not m:
         return _of_one_side(counted)
     if max(n, m) > MOST_PERSONS or pairs > MOST_PAIRS:
         raise TooLarge(f"{n} rows, {m} columns and {pairs} pairs: at most {MOST_PERSONS} of each and {MOST_PAIRS} "
                        "pairs are possible")
-    given = _given(counted)
-    plan, marks = array("B", bytes(pairs)), (array("B", bytes(n)), array("B", bytes(m)))
-    numbers = array("q", bytes(8 * n)), array("q", bytes(8 * m))
-    words = list(chain.from_iterable(map(address_and_count, (*given, plan, *numbers, *marks))))
-    record, info, pace = _Record(), _Info(), Pace(PIECES["counts"], pairs)
-    code = _STOPPED
-    while code == _STOPPED:
-        look_at_time()
-        code = _loaded()(0, *words, pace.budget(), ctypes.addressof(record), ctypes.addressof(info))
-        if code in (_BEST, _STOPPED) and not is_part:
-            show_progress(counted, plan)
-    if code == _BEST:
-        return Best(plan, *numbers)
-    return Marked(code == _COLUMNS_LACK, *marks) if code in (_ROWS_LACK, _COLUMNS_LACK) else _refuse(code)
+    written = searched_counts(_given(counted), n, m, None if is_part else partial(show_progress, counted))
+    if written.code == BEST:
+        return Best(written.plan, *written.numbers)
+    return Marked(written.code == COLUMNS_LACK, *written.marks)
 
 
 def _of_one_side(counted: Counted) -> Union[Best, Marked]:
@@ -187,9 +154,3 @@ def show_progress(counted: Counted, plan: Any) -> None:
         for row, _ in counted.pairs_of(plan):
             had[row] += 1
         progress(sum(map(le, (min(max(least, 1), most) for least, most in counted.row_bounds), had)), len(had))
-
-
-def _refuse(code: int) -> NoReturn:
-    if code == _MEMORY:
-        raise MemoryError("the library was refused memory")
-    raise RuntimeError(f"the library gives no answer to counts, by its code {code}: please report this problem")

@@ -1,77 +1,44 @@
-"""Maximum matchings, by augmenting paths, and every group that is short. From one maximum matching these are all nodes
-that an unmatched one reaches, in connected parts."""
+"""Greatest matchings, which the library finds and proves, and every group that is short: from one greatest matching these
+are all nodes that an unmatched one reaches, in connected parts."""
 from array import array
-from collections import deque
-from typing import Any, Dict, List, NamedTuple, Optional, Sequence, Set, Tuple, Union
+from itertools import compress, islice
+from operator import le
+from typing import Any, Dict, List, NamedTuple, Set, Tuple
 
 from ..costs.problem import AssignmentProblem
 from . import library
+from .counts_call import BEST, Written, searched_counts
 
-Lists = Sequence[Sequence[int]]
-
-# So many pairs are taken out of their arrays at once, since as Python's numbers they take many times the memory.
-AT_ONCE = 2**16
+Lists = Dict[int, List[int]]
 
 
-def lists_of_nodes(count: int, nodes: Any, others: Any) -> Lists:
-    """What each of `count` nodes lists, from 0: node nodes[k] lists others[k], both from 1."""
-    lists = [array("I") for _ in range(count)]
-    for start in range(0, len(nodes), AT_ONCE):
-        some, more = nodes[start:start + AT_ONCE].tolist(), others[start:start + AT_ONCE].tolist()
-        for node, other in zip(some, more):
-            lists[node - 1].append(other - 1)
-    return lists
-
-
-class _Matching:
-    """A matching of rows with columns: the row of each column, None if it is free, and the column of each matched
-    row."""
-
-    def __init__(self, n_columns: int):
-        self.owner: List[Optional[int]] = [None] * n_columns
-        self.held: Dict[int, int] = {}
-        # Columns from which no free one can be reached: those of a search that fails, since no later one would find
-        # more.
-        self.seen: Set[int] = set()
-
-    def add(self, columns: Lists, start: int) -> None:
-        """Gives a row a column, and others another one where needed, if that is possible."""
-        reached: Dict[int, int] = {}
-        waiting = deque([start])
-        while waiting:
-            row = waiting.popleft()
-            for column in columns[row]:
-                if column in self.seen or column in reached:
-                    continue
-                reached[column] = row
-                holder = self.owner[column]
-                if holder is None:
-                    self._change(reached, column)
-                    return
-                waiting.append(holder)
-        self.seen.update(reached)
-
-    def _change(self, reached: Dict[int, int], free: int) -> None:
-        """Makes the changes of a path that ends at a free column."""
-        column: Optional[int] = free
-        while column is not None:
-            row = reached[column]
-            self.owner[column] = row
-            self.held[row], column = column, self.held.get(row)
-
-
-def fullest(columns: Lists, n_columns: int) -> List[Optional[int]]:
-    """The row of each column in a maximum matching, None if it is free; `columns` are those that each row may have."""
-    matching = _Matching(n_columns)
-    for row in range(len(columns)):
-        matching.add(columns, row)
-    return matching.owner
+def _matched(count: int, other: int, nodes: Any, others: Any) -> Written:
+    """A greatest matching: node nodes[k] may have others[k], both from 1, nodes rising. As a problem with counts: each takes
+    at most one, and each pair costs -1. The number of a node is 0 if an unmatched one reaches it, and -1 otherwise."""
+    none, one = array("I", [0]), array("I", [1])
+    written = searched_counts([nodes, others, array("q", [-1]) * len(nodes), none * count, one * count, none * other,
+                               one * other, none[:0]], count, other)
+    if written.code != BEST:
+        raise RuntimeError("no pairs were found to be possible: please report this problem")
+    return written
 
 
 def most_assigned(problem: AssignmentProblem) -> int:
-    """The greatest number of rows that can have a column each."""
-    owner = fullest(lists_of_nodes(problem.n_rows, problem.persons, problem.objects), problem.n_columns)
-    return len(owner) - owner.count(None)
+    """The greatest number of rows that can have a column each, which the library proves."""
+    if not min(problem.n_rows, problem.n_columns):
+        return 0
+    return sum(_matched(problem.n_rows, problem.n_columns, *_by_nodes(problem.persons, problem.objects)).plan)
+
+
+def _by_nodes(nodes: Any, others: Any) -> Tuple[Any, Any]:
+    """Pairs by rising nodes."""
+    if hasattr(nodes, "dtype"):
+        order = nodes.argsort(kind="stable")
+        return nodes[order].astype("uint32", copy=False), others[order].astype("uint32", copy=False)
+    if all(map(le, nodes, islice(nodes, 1, None))):
+        return nodes, others
+    places = sorted(range(len(nodes)), key=nodes.__getitem__)
+    return array("I", map(nodes.__getitem__, places)), array("I", map(others.__getitem__, places))
 
 
 class Group(NamedTuple):
@@ -83,38 +50,28 @@ class Group(NamedTuple):
 
 def short_groups(problem: AssignmentProblem) -> List[Tuple[List[int], List[int]]]:
     """Rows and columns of each group that is short in a problem that lists its pairs: of its rows, or of its columns
-    where these are fewer."""
+    where these are fewer. The groups come in the order of their first nodes, each proved by the library."""
     of_columns = problem.n_rows > problem.n_columns
     count, other = sorted((problem.n_rows, problem.n_columns))
     nodes, others = (problem.objects, problem.persons) if of_columns else (problem.persons, problem.objects)
-    groups = groups_of(lists_of_nodes(count, nodes, others), other)
-    return [(few, many) if of_columns else (many, few) for many, few in groups]
-
-
-def groups_of(lists: Lists, other: int) -> List[Group]:
-    """The groups that are short on one side, in the order of their first nodes, each proved by the library.
-
-    Parameters
-    ----------
-    lists : list of lists of int
-        What each node of that side lists.
-    other : int
-        How many nodes there are on the other side.
-    """
-    mates = fullest(lists, other)
-    assigned = set(mates)
-    waiting = [node for node in range(len(lists)) if node not in assigned]
-    reached = set(waiting)
-    while waiting:
-        for item in lists[waiting.pop()]:
-            mate = mates[item]
-            if mate is not None and mate not in reached:
-                reached.add(mate)
-                waiting.append(mate)
-    groups = _parts(sorted(reached), lists)
+    lists = _reached(count, other, *_by_nodes(nodes, others))
+    groups = _parts(sorted(lists), lists)
     for group in groups:
         prove_short(group, lists)
-    return groups
+    return [(group.few, group.many) if of_columns else (group.many, group.few) for group in groups]
+
+
+def _reached(count: int, other: int, nodes: Any, others: Any) -> Lists:
+    """What each node lists, from 0, that an unmatched one reaches in a greatest matching."""
+    if not other:
+        return {node: [] for node in range(count)}
+    numbers = _matched(count, other, nodes, others).numbers[0]
+    lists: Lists = {node: [] for node, number in enumerate(numbers) if not number}
+    nodes, others = memoryview(nodes), memoryview(others)
+    is_reached = bytes(not numbers[node - 1] for node in nodes)
+    for node, item in zip(compress(nodes, is_reached), compress(others, is_reached)):
+        lists[node - 1].append(item - 1)
+    return lists
 
 
 def _parts(reached: List[int], lists: Lists) -> List[Group]:
@@ -143,7 +100,7 @@ def _part(first: int, left: Set[int], lists: Lists, who: Dict[int, List[int]]) -
     return Group(sorted(many), sorted(few))
 
 
-def prove_short(group: Group, lists: Union[Lists, Dict[int, List[int]]]) -> None:
+def prove_short(group: Group, lists: Lists) -> None:
     """Lets the library check that these nodes list just these others, which are fewer."""
     place = {item: number for number, item in enumerate(group.few, 1)}
     own = array("I", [number for number, node in enumerate(group.many, 1) for _ in lists[node]])

@@ -11,7 +11,6 @@ from ..costs.orientation import oriented
 from ..costs.problem import AssignmentProblem, costs_of_pairs, in_whole_numbers, lists_of
 from . import arrays, library, proved
 from .matching import most_assigned
-from .solving import prove_most
 
 
 class CheckOutcome(NamedTuple):
@@ -35,8 +34,6 @@ def check_wholly(problem: AssignmentProblem, rows: Sequence[int], columns: Seque
     most = most_assigned(problem)
     if most > count:
         return CheckOutcome(f"{counted(count, 'row')} of {problem.n_rows} {_has(count)} a column, and {most} can")
-    if count:
-        prove_most(problem, count)
     return found
 
 

@@ -244,13 +244,6 @@ class Bottlenecks(unittest.TestCase):
             nushbaret.bottleneck([[1]], missing="drop")
         self.assertEqual(nushbaret.bottleneck([]).cost, 0)
 
-    def test_too_few_pairs(self):
-        for module, call in (("api.bottleneck", nushbaret.bottleneck), ("lap.solving", nushbaret.solve)):
-            with mock.patch(f"nushbaret.{module}.most_assigned", return_value=1):
-                with self.assertRaisesRegex(RuntimeError, "1 pairs were found to be the most, and the library says "
-                                            "otherwise"):
-                    call([[1, None, None], [2, 3, None], [4, None, None]], partial=True)
-
 
 if __name__ == "__main__":
     unittest.main()

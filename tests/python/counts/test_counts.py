@@ -12,11 +12,10 @@ from fractions import Fraction
 from unittest import mock
 
 import nushbaret
-from nushbaret.counts import counted
 from nushbaret.counts.planned import planned, with_fewest_changes
 from nushbaret.counts.counted import Bounds, Counted
 import drawn
-from nushbaret.lap import library
+from nushbaret.lap import counts_call, library
 from optional import np as numpy, pd as pandas, sparse
 
 CASES = 1500
@@ -201,8 +200,8 @@ def stopped():
     """The library's search, which never ends: each piece of it stops at its budget."""
     def stops(*words):
         time.sleep(0.001)
-        return counted._STOPPED
-    return mock.patch.object(counted, "_call", [stops])
+        return counts_call.STOPPED
+    return mock.patch.object(counts_call, "_call", [stops])
 
 
 class Time(unittest.TestCase):

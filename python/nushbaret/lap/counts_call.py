@@ -1,0 +1,73 @@
+"""The library's call on counts, by ctypes: each row takes from so many to so many columns, each column likewise."""
+import ctypes
+from array import array
+from itertools import chain
+from typing import Any, Callable, List, NamedTuple, NoReturn, Optional, Sequence, Tuple
+
+from .library import PIECES, Pace, address, address_and_count, look_at_time
+
+# The library's codes that aren't faults of its lists.
+BEST, ROWS_LACK, COLUMNS_LACK, _MEMORY, STOPPED = 0, 1, 2, 15, 16
+# Lists that are given and written; then the sense comes first, and in the end a budget, a record and an info.
+_LISTS = 13
+_call: List[Any] = []
+
+
+class _Record(ctypes.Structure):
+    _fields_ = [("state", ctypes.c_uint64 * 8)]
+
+
+class _Info(ctypes.Structure):
+    _fields_ = [("total_high", ctypes.c_int64)] + [(name, ctypes.c_uint64) for name in ("total_low", "place", "row",
+                                                                                        "column")]
+
+
+class Written(NamedTuple):
+    """What the library answers: BEST with the plan, which has a byte for each pair, and the numbers of rows and columns,
+    or ROWS_LACK or COLUMNS_LACK with marks, a byte for each row and for each column."""
+
+    code: int
+    plan: Any
+    numbers: Tuple[Any, Any]
+    marks: Tuple[Any, Any]
+
+
+def loaded() -> Any:
+    """The call."""
+    if not _call:
+        lists = [ctypes.c_void_p, ctypes.c_size_t] * _LISTS
+        prototype = ctypes.CFUNCTYPE(ctypes.c_int32, ctypes.c_uint32, *lists, ctypes.c_uint64, ctypes.c_void_p,
+                                     ctypes.c_void_p)
+        _call.append(prototype(address("nushbaret_counts_from")))
+    return _call[0]
+
+
+def searched_counts(given: Sequence[Any], n: int, m: int, after: Optional[Callable[[Any], None]] = None) -> Written:
+    """The answer to n rows and m columns, whose sum of costs is to be least. The search is done in pieces, as others are.
+
+    Parameters
+    ----------
+    given : sequence of arrays
+        The rows of the pairs, rising, and their columns, both from 1; costs; least and greatest counts of rows and of
+        columns; the groups of columns.
+    after : callable, optional
+        It is called with the plan at the end, and after each piece with that so far.
+    """
+    pairs = len(given[0])
+    plan, marks = array("B", bytes(pairs)), (array("B", bytes(n)), array("B", bytes(m)))
+    numbers = array("q", bytes(8 * n)), array("q", bytes(8 * m))
+    words = list(chain.from_iterable(map(address_and_count, (*given, plan, *numbers, *marks))))
+    record, info, pace = _Record(), _Info(), Pace(PIECES["counts"], pairs)
+    code = STOPPED
+    while code == STOPPED:
+        look_at_time()
+        code = loaded()(0, *words, pace.budget(), ctypes.addressof(record), ctypes.addressof(info))
+        if code in (BEST, STOPPED) and after is not None:
+            after(plan)
+    return Written(code, plan, numbers, marks) if code in (BEST, ROWS_LACK, COLUMNS_LACK) else _refuse(code)
+
+
+def _refuse(code: int) -> NoReturn:
+    if code == _MEMORY:
+        raise MemoryError("the library was refused memory")
+    raise RuntimeError(f"the library gives no answer to counts, by its code {code}: please report this problem")
