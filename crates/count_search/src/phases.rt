@@ -38,18 +38,19 @@ const MOST_PHASES: usize = 64;
 /// No price of a phase is higher.
 pub const HIGHEST_PRICE: i64 = 1 << 60;
 
-// The slackness after a phase of so many bids, and after so many phases in a row with no more bids than
-// hands.
-fn fallen(terms: Terms, bids: u64, hands: u64, quiet: u32) -> i64 {
-    let is_war = bids > hands.saturating_mul(BIDS_OF_A_WAR);
+// By what the slackness falls after a phase of so many bids, and after so many phases in a row with no more
+// bids than hands.
+fn fall_after(terms: Terms, bids: u64, hands: u64, quiet: u32) -> i64 {
+    if bids > hands.saturating_mul(BIDS_OF_A_WAR) {
+        return FALL_IN_A_WAR;
+    }
     let is_far = terms.slackness / FAR_UNITS > terms.scale;
     let bits = if is_far { FAR_FALL_BITS } else { FALL_BITS };
-    let fall = if is_war {
-        FALL_IN_A_WAR
-    } else {
-        FALL.wrapping_shl(bits.wrapping_mul(quiet).min(MOST_FALL_BITS))
-    };
-    (terms.slackness / fall.max(1)).max(1)
+    FALL.wrapping_shl(bits.wrapping_mul(quiet).min(MOST_FALL_BITS))
+}
+
+fn fallen(slackness: i64, fall: i64) -> i64 {
+    (slackness / fall.max(1)).max(1)
 }
 
 /// How a phase, or an auction, ended.
@@ -185,7 +186,8 @@ impl Auction {
             let bids = self.bids.saturating_sub(begun);
             let is_quiet = phase > 0 && bids <= layout.hands;
             quiet = if is_quiet { quiet.wrapping_add(1) } else { 0 };
-            let slackness = fallen(self.terms, bids, layout.hands, quiet);
+            let fall = fall_after(self.terms, bids, layout.hands, quiet);
+            let slackness = fallen(self.terms.slackness, fall);
             self.begin_phase(state, layout, slackness);
         }
         Ok(Ended::War)
