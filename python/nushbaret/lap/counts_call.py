@@ -23,8 +23,8 @@ class _Info(ctypes.Structure):
 
 
 class Written(NamedTuple):
-    """What the library answers: BEST with the plan, which has a byte for each pair, and the numbers of rows and columns,
-    or ROWS_LACK or COLUMNS_LACK with marks, a byte for each row and for each column."""
+    """What the library answers: BEST with the plan, which has a byte for each pair, and the numbers of rows and
+    columns, or ROWS_LACK or COLUMNS_LACK with marks, a byte for each row and for each column."""
 
     code: int
     plan: Any
@@ -43,7 +43,8 @@ def loaded() -> Any:
 
 
 def searched_counts(given: Sequence[Any], n: int, m: int, after: Optional[Callable[[Any], None]] = None) -> Written:
-    """The answer to n rows and m columns, whose sum of costs is to be least. The search is done in pieces, as others are.
+    """The answer to n rows and m columns, whose sum of costs is to be least. The search is done in pieces, as others
+    are.
 
     Parameters
     ----------

@@ -1,5 +1,5 @@
-"""Greatest matchings, which the library finds and proves, and every group that is short: from one greatest matching these
-are all nodes that an unmatched one reaches, in connected parts."""
+"""Greatest matchings, which the library finds and proves, and every group that is short: from one greatest matching
+these are all nodes that an unmatched one reaches, in connected parts."""
 from array import array
 from itertools import compress, islice
 from operator import le
@@ -13,8 +13,9 @@ Lists = Dict[int, List[int]]
 
 
 def _matched(count: int, other: int, nodes: Any, others: Any) -> Written:
-    """A greatest matching: node nodes[k] may have others[k], both from 1, nodes rising. As a problem with counts: each takes
-    at most one, and each pair costs -1. The number of a node is 0 if an unmatched one reaches it, and -1 otherwise."""
+    """A greatest matching: node nodes[k] may have others[k], both from 1, nodes rising. As a problem with counts: each
+    takes at most one, and each pair costs -1. The number of a node is 0 if an unmatched one reaches it, and -1
+    otherwise."""
     none, one = array("I", [0]), array("I", [1])
     written = searched_counts([nodes, others, array("q", [-1]) * len(nodes), none * count, one * count, none * other,
                                one * other, none[:0]], count, other)
