@@ -19,7 +19,7 @@ const FALL_BITS: u32 = 3;
 // there.
 const FAR_UNITS: i64 = 1 << 20;
 
-const FAR_FALL_BITS: u32 = 9;
+const FAR_FALL_BITS: u32 = 7;
 
 const MOST_FALL_BITS: u32 = 48;
 
@@ -30,6 +30,9 @@ const FALL_IN_A_WAR: i64 = 5;
 
 // So many bids of a hand in a phase are a war without end.
 const BIDS_OF_A_HAND: u64 = 20;
+
+// So many in a phase after quiet ones show that the slackness fell by too much.
+const BIDS_AFTER_QUIET: u64 = 7;
 
 const FEW_BIDS: u64 = 1000;
 
@@ -169,7 +172,23 @@ impl Auction {
         Ok(Ended::War)
     }
 
-    /// Phases from this slackness down to 1. A phase that was begun goes on.
+    // Whether a phase took more bids than it may.
+    fn is_over_budget(&self, ended: Ended) -> bool {
+        matches!(ended, Ended::War) && self.bids > self.terms.budget
+    }
+
+    // The next phase, after so many quiet ones in a row.
+    fn begin_next(&mut self, state: &mut State, layout: Layout, bids: u64, quiet: u32) {
+        let fall = fall_after(self.terms, bids, layout.hands, quiet);
+        self.begin_phase(state, layout, fallen(self.terms.slackness, fall));
+        if quiet > 0 {
+            let most = layout.hands.saturating_mul(BIDS_AFTER_QUIET);
+            self.terms.budget = self.bids.saturating_add(most).saturating_add(FEW_BIDS);
+        }
+    }
+
+    /// Phases from this slackness down to 1. A phase that was begun goes on. If the slackness fell by too
+    /// much, a phase follows for which it falls as usual.
     pub fn run(
         &mut self,
         problem: &Problem<'_>,
@@ -177,18 +196,24 @@ impl Auction {
         layout: Layout,
     ) -> Result<Ended, AllocError> {
         let mut quiet = 0u32;
+        let mut usual = 1i64;
         for phase in 0..MOST_PHASES {
             let begun = self.bids;
             let ended = self.run_phase(problem, state)?;
+            if quiet > 0 && self.is_over_budget(ended) {
+                quiet = 0;
+                self.is_failed = false;
+                self.begin_phase(state, layout, usual);
+                continue;
+            }
             if !matches!(ended, Ended::Settled) || self.terms.slackness <= 1 {
                 return Ok(ended);
             }
             let bids = self.bids.saturating_sub(begun);
             let is_quiet = phase > 0 && bids <= layout.hands;
             quiet = if is_quiet { quiet.wrapping_add(1) } else { 0 };
-            let fall = fall_after(self.terms, bids, layout.hands, quiet);
-            let slackness = fallen(self.terms.slackness, fall);
-            self.begin_phase(state, layout, slackness);
+            usual = fallen(self.terms.slackness, FALL);
+            self.begin_next(state, layout, bids, quiet);
         }
         Ok(Ended::War)
     }
