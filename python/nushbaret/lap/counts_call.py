@@ -42,9 +42,10 @@ def loaded() -> Any:
     return _call[0]
 
 
-def searched_counts(given: Sequence[Any], n: int, m: int, after: Optional[Callable[[Any], None]] = None) -> Written:
-    """The answer to n rows and m columns, whose sum of costs is to be least. The search is done in pieces, as others
-    are.
+def searched_counts(given: Sequence[Any], n: int, m: int, after: Optional[Callable[[Any], Any]] = None,
+                    maximize: bool = False) -> Written:
+    """The answer to n rows and m columns, whose sum of costs is to be least, or greatest. The search is done in pieces,
+    as others are.
 
     Parameters
     ----------
@@ -62,7 +63,7 @@ def searched_counts(given: Sequence[Any], n: int, m: int, after: Optional[Callab
     code = STOPPED
     while code == STOPPED:
         look_at_time()
-        code = loaded()(0, *words, pace.budget(), ctypes.addressof(record), ctypes.addressof(info))
+        code = loaded()(int(maximize), *words, pace.budget(), ctypes.addressof(record), ctypes.addressof(info))
         if code in (BEST, STOPPED) and after is not None:
             after(plan)
     return Written(code, plan, numbers, marks) if code in (BEST, ROWS_LACK, COLUMNS_LACK) else _refuse(code)

@@ -28,18 +28,19 @@ def most_assigned(problem: AssignmentProblem) -> int:
     """The greatest number of rows that can have a column each, which the library proves."""
     if not min(problem.n_rows, problem.n_columns):
         return 0
-    return sum(_matched(problem.n_rows, problem.n_columns, *_by_nodes(problem.persons, problem.objects)).plan)
+    return sum(_matched(problem.n_rows, problem.n_columns, *by_nodes(problem.persons, problem.objects)).plan)
 
 
-def _by_nodes(nodes: Any, others: Any) -> Tuple[Any, Any]:
-    """Pairs by rising nodes."""
+def by_nodes(*lists: Any) -> List[Any]:
+    """Lists of pairs, by rising numbers of the first one."""
+    nodes = lists[0]
     if hasattr(nodes, "dtype"):
         order = nodes.argsort(kind="stable")
-        return nodes[order].astype("uint32", copy=False), others[order].astype("uint32", copy=False)
+        return [own[order] for own in lists]
     if all(map(le, nodes, islice(nodes, 1, None))):
-        return nodes, others
+        return [*lists]
     places = sorted(range(len(nodes)), key=nodes.__getitem__)
-    return array("I", map(nodes.__getitem__, places)), array("I", map(others.__getitem__, places))
+    return [array(own.typecode, map(own.__getitem__, places)) for own in lists]
 
 
 class Group(NamedTuple):
@@ -55,7 +56,7 @@ def short_groups(problem: AssignmentProblem) -> List[Tuple[List[int], List[int]]
     of_columns = problem.n_rows > problem.n_columns
     count, other = sorted((problem.n_rows, problem.n_columns))
     nodes, others = (problem.objects, problem.persons) if of_columns else (problem.persons, problem.objects)
-    lists = _reached(count, other, *_by_nodes(nodes, others))
+    lists = _reached(count, other, *by_nodes(nodes, others))
     groups = _parts(sorted(lists), lists)
     for group in groups:
         prove_short(group, lists)

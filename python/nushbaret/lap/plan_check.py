@@ -11,6 +11,7 @@ from ..costs.orientation import oriented
 from ..costs.problem import AssignmentProblem, costs_of_pairs, in_whole_numbers, lists_of
 from . import arrays, library, proved
 from .matching import most_assigned
+from .staying_out import are_many
 
 
 class CheckOutcome(NamedTuple):
@@ -95,7 +96,7 @@ def _judged(problem: AssignmentProblem, pairs: List[Tuple[int, int]], costs: Lis
         of_rows[row] = dearest - held
     of_objects = oriented(problem, of_rows, prices)[1]
     of_dummies = [dearest + less] * dummies
-    if max(of_objects + of_dummies) > GREATEST_PRICE or less > GREATEST_COST:
+    if max(of_objects + of_dummies) > GREATEST_PRICE or less > GREATEST_COST or are_many(problem, len(pairs)):
         return None
     asked = proved.instance_of(problem, len(pairs), -sign * less)
     code, info = library.call("check", problem.maximize, *asked, _objects(problem, pairs, n, m - dummies),

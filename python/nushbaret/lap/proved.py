@@ -82,7 +82,7 @@ def instance_of(problem: AssignmentProblem, assigned: Optional[int] = None, out:
     problem = listed(problem)
     lists = [*oriented(problem, problem.persons, problem.objects), problem.costs.numbers]
     if dummies:
-        lists = [_joined(problem.numpy, own, more) for own, more in zip(lists, _dummies(n, m, dummies, out))]
+        lists = [joined(problem.numpy, own, more) for own, more in zip(lists, _dummies(n, m, dummies, out))]
     return Instance(n, m, *lists)
 
 
@@ -94,7 +94,8 @@ def _dummies(n: int, m: int, dummies: int, out: int) -> Tuple[Any, Any, Any]:
     return everybody * dummies, objects, array("q", (out,)) * len(objects)
 
 
-def _joined(numpy: Any, own: Any, more: Any) -> Any:
+def joined(numpy: Any, own: Any, more: Any) -> Any:
+    """One list after another."""
     return numpy.concatenate((own, more)) if numpy else own + more
 
 

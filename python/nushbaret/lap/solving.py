@@ -6,6 +6,7 @@ from ..costs.kinds import WholeNumbers
 from ..costs.problem import AssignmentProblem, costs_of_pairs
 from . import levels, library, proved
 from .matching import most_assigned
+from .staying_out import are_many, solved_by_counts
 
 Outcome = Union[proved.Assignment, proved.HallSet]
 Began = Optional[proved.WarmStart]
@@ -16,6 +17,10 @@ def solved(problem: AssignmentProblem, start: Began = None, assigned: Optional[i
     if assigned == 0 or not min(problem.n_rows, problem.n_columns):
         return proved.no_pairs(problem)
     if problem.costs.of_64_bits() is not None:
+        if assigned is not None and are_many(problem, assigned):
+            plan = solved_by_counts(problem, assigned)
+            if plan is not None:
+                return plan
         asked = proved.instance_of(problem, assigned)
         answer = proved.answer(problem, asked, None if start is None else proved.first_of(problem, start, assigned))
         if answer is not None:
