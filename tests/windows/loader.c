@@ -158,6 +158,11 @@ CALL(int32_t, next, (uint32_t s, size_t n, size_t m, PAIRS, COSTS, PLAN, uint64_
 CALL(int32_t, rows, (size_t n, const size_t *s, size_t sc, const uint32_t *v, size_t vc, COSTS, const int64_t *l, size_t lc,
     const int64_t *u, size_t uc, const uint8_t *p, size_t pc, const int64_t *t, size_t tc, struct nushbaret_rows_info *info),
     (n, s, sc, v, vc, c, cc, l, lc, u, uc, p, pc, t, tc, info))
+CALL(int32_t, counts_from, (uint32_t sense, const uint32_t *r, size_t rc, const uint32_t *c, size_t cc, const int64_t *k, size_t kc,
+    const uint32_t *rl, size_t rlc, const uint32_t *rm, size_t rmc, const uint32_t *cl, size_t clc, const uint32_t *cm, size_t cmc,
+    const uint32_t *g, size_t gc, uint8_t *p, size_t pc, int64_t *u, size_t uc, int64_t *v, size_t vc, uint8_t *s, size_t sc,
+    uint8_t *t, size_t tc, uint64_t budget, struct nushbaret_counts_record *record, struct nushbaret_counts_info *info),
+    (sense, r, rc, c, cc, k, kc, rl, rlc, rm, rmc, cl, clc, cm, cmc, g, gc, p, pc, u, uc, v, vc, s, sc, t, tc, budget, record, info))
 CALL(size_t, version, (uint8_t *room, size_t count), (room, count))
 
 #define FOUND(name) (*(void **)&dll_##name = exported("nushbaret_" #name))
@@ -169,5 +174,6 @@ __attribute__((constructor)) static void start(void) {
     relocate();
     protect();
     FOUND(dense), FOUND(dense_from), FOUND(sparse), FOUND(sparse_from);
-    FOUND(check), FOUND(check_hall), FOUND(bottleneck), FOUND(unique), FOUND(next), FOUND(rows), FOUND(version);
+    FOUND(check), FOUND(check_hall), FOUND(bottleneck), FOUND(unique), FOUND(next), FOUND(rows), FOUND(counts_from);
+    FOUND(version);
 }
