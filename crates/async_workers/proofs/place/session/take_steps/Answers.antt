@@ -4,7 +4,7 @@ use Rattle.auction_book.proofs.WorkerSteps.{noted_of}
 use Rattle.async_workers.specs.Desk.{DeskData}
 use Rattle.async_workers.specs.Session.{catches_up, with_table}
 use Rattle.async_workers.proofs.Sessions.{ends, ends_undone}
-use Rattle.async_workers.proofs.place.session.session.Goals as goal
+use Rattle.async_workers.proofs.place.session.take_steps.Goals as goal
 
 pub returns-in-Err-clause-ends : goal.returns-in-Err-clause-ends
 returns-in-Err-clause-ends c =
