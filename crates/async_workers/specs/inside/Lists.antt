@@ -1,5 +1,5 @@
 -- Candidates at a desk.
-use Rattle.std.specs.Prelude.{ℕ, ℤ, ◌<◌, List, Option, IfSome}
+use Rattle.std.specs.Prelude.{ℤ, ◌<◌, List, Option, IfSome}
 use Rattle.scaled_values.specs.Scaled.{ScaledProblem}
 use Rattle.bidder.specs.Offers.{benefits_at}
 use Rattle.candidates.specs.Candidates.{AreCandidates}
