@@ -6,6 +6,7 @@ pub mod Splitting
 pub mod Steps
 pub mod Desks
 pub mod Hands
+pub mod Lists
 pub mod Sessions
 pub mod Turning
 pub mod Runs

@@ -5,6 +5,7 @@ ghost use Rattle.async_workers.specs.Lending.{LendsBook};
 
 mod closing;
 mod leaving;
+mod listing;
 mod opening;
 mod reading;
 mod session;
@@ -18,6 +19,7 @@ use auction_book::Book;
 use bidder::{Ask, Offer};
 pub use closing::close_place;
 pub use leaving::{ask_stop, leave};
+use listing::Listed;
 pub use opening::open_place;
 use scaled_values::Scaled;
 use std::marker::Model;
@@ -60,6 +62,8 @@ pub struct Desk {
     pass: DeskPass,
     known: Known,
     offer: Option<Offer>,
+    // The candidates of a person, usually the claimed one, at the table or at lower prices.
+    listed: Option<Listed>,
     // The number of past sessions, in all and since the table last caught up.
     sessions: u64,
     since: u64,
@@ -83,7 +87,9 @@ impl Model for Desk {
       since = d.since;
     } };
 
-    ghost invariant = { λ d. d.pass.me.1 ≡ [] };
+    ghost use Rattle.async_workers.specs.inside.Lists.{IsListed};
+
+    ghost invariant = { λ d. (d.pass.me.1 ≡ []) × IsListed (arc_value d.scaled) d.known.table d.listed };
 }
 
 /// The book in hand, with the offer that its desk had prepared. The desk that took the book must

@@ -5,6 +5,7 @@ ghost use Rattle.assign_core.specs.declared.outcome.SolveFault.TheVariants as so
 ghost use Rattle.scaled_values.specs.Scaled.{greatest_of};
 ghost use Rattle.auction_book.specs.Follows.{GoesOn};
 ghost use Rattle.auction_book.specs.Free.{IsFree};
+ghost use Rattle.auction_book.specs.Phases.{opened};
 ghost use Rattle.async_workers.specs.PlaceRule.{Extends, IsUntouched};
 ghost use Rattle.async_workers.specs.Solving.{IsAnsweredBy, IsEndOf, IsEnough, IsSolved, tallies};
 ghost use Rattle.async_workers.specs.Turns.{IsMemory};
@@ -25,6 +26,23 @@ use std::thread::Threads;
 pub struct Tally {
     pub worker: u16,
     pub accepted: u128,
+}
+
+// A book at the start of a run, with candidates for its persons.
+fn open_book(
+    alloc: Global,
+    scaled: Arc<Scaled>,
+    prices: Prices,
+    workers: u16,
+) -> Result<Book, AllocError>
+    requires workers { 0 < workers }
+    requires long { length prices ≡ length (arc_value scaled).problem }
+    requires low { greatest_of prices ≤ℤ GREATEST_FIRST_PRICE }
+    ensures book { IfOk result (λ b. b ≡ opened (arc_value scaled) prices workers) }
+{
+    let mut book = Book::open_from(alloc, scaled, prices, workers)?;
+    book.keep_lists(alloc);
+    Ok(book)
 }
 
 // Lets the workers take turns with the book until the run of each has ended.
@@ -129,7 +147,7 @@ pub fn solve_workers_from<G: Gate + Sync, R: Threads + Wait + Sync>(
     ensures enough { IfOk result (λ r. IsEnough (length (arc_value scaled).problem) r.0 r.1.items) }
     ensures memory { IfErr result (λ fault. fault ≡ solve_fault.Memory) }
 {
-    let opening = Book::open_from(alloc, scaled, prices, workers)?;
+    let opening = open_book(alloc, scaled, prices, workers)?;
     let (book, fault) = worked_book(rt, alloc, opening, refresh, gate)?;
     if let Some(fault) = fault {
         return Err(fault);

@@ -2,6 +2,8 @@
 use Rattle.std.specs.Prelude.{◌≡◌, ◌≤◌, count_by, length, is_some}
 use Rattle.std.specs.Arc.{arc_value}
 use Rattle.std.specs.VecDeque.{deque_capacity}
+use Rattle.candidates.specs.Candidates.{HaveCandidates}
+use Rattle.price_log.specs.History.{today}
 use Rattle.auction_book.specs.declared.book.Book.TheInside.{Inside}
 use Rattle.auction_book.specs.Book.{BookData}
 use Rattle.auction_book.specs.Free.{IsFree}
@@ -23,7 +25,8 @@ book_of b = record {
   stopped = b.stopped;
 }
 
--- the queue has its room, the owned objects and the workers are counted, and the book is free
+-- the queue has its room, the owned objects and the workers are counted, the book is free, and the
+-- lists are candidates at its prices
 abbrev pub IsKept : Inside → Type 0
 IsKept b = (length b.owners.items ≤ deque_capacity b.queue) × (b.owned ≡ count_by is_some b.owners.items) ×
-    (b.workers ≡ length b.claims.items) × IsFree (book_of b)
+    (b.workers ≡ length b.claims.items) × IsFree (book_of b) × HaveCandidates (arc_value b.scaled) (today b.log) b.lists

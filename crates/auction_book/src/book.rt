@@ -11,6 +11,7 @@ ghost use Rattle.auction_book.specs.Free.{IsFree};
 mod answering;
 mod catching_up;
 mod claiming;
+mod listing;
 mod opening;
 mod phases;
 mod reading;
@@ -18,6 +19,7 @@ mod submitting;
 
 use assign_core::{HallSet, Person, Prices};
 use bidder::Ask;
+use candidates::CandidateLists;
 use price_log::PriceLog;
 use scaled_values::Scaled;
 use std::collections::VecDeque;
@@ -49,6 +51,8 @@ pub struct Book {
     taken: Vec<u128>,
     // The current prices, and their raises.
     log: PriceLog,
+    // The candidates of persons that no worker has taken.
+    lists: CandidateLists,
     // The last recorded Hall set.
     refuted: Option<HallSet>,
     // Whether workers shall end.

@@ -9,6 +9,8 @@ mod drawn;
 #[cfg(test)]
 mod drawn_runs;
 #[cfg(test)]
+mod listed;
+#[cfg(test)]
 mod logs;
 #[cfg(test)]
 mod plain;

@@ -1,8 +1,8 @@
 // Worked problems under gates that hold workers back, and drawn ones, compared with a search of all
 // assignments.
 use assign_core::{Cost, Outcome, Price, Sense};
-use async_workers::{Gate, Note, OpenGate, Standing, Tally, solve_workers};
-use auction_book::Refused;
+use async_workers::{Gate, Note, OpenGate, Standing, Tally, go_alone, solve_workers};
+use auction_book::{Book, Refused};
 use std::alloc::{AllocError, Global};
 use std::sync::Wait;
 use std::sync::atomic::{AtomicU64, Ordering};
@@ -499,6 +499,75 @@ fn agreeing<R: Threads + Wait + Sync>(
 fn drawn_problems(rt: HostRuntime) -> Result<(), Fail> {
     for seed in [2026, 11] {
         assert_eq!(rt; agreeing(&rt, rt.alloc(), 500, seed)?, 500, "{seed}");
+    }
+    Ok(())
+}
+
+// ---- long rows
+// The result of a book without candidates, with which this thread goes on alone.
+fn without_lists<R: Wait>(
+    rt: &R,
+    alloc: Global,
+    n: u16,
+    pairs: &[Pair],
+) -> Result<Seen, AllocError> {
+    let scaled = scaled_of(alloc, size(n), pairs, Sense::Min)?;
+    let mut book = Book::open(alloc, scaled, 1)?;
+    if book.workers() == 0 {
+        return Ok(Seen::Refused);
+    }
+    let outcome = go_alone(rt, alloc, &mut book)?;
+    let tally = Tally {
+        worker: 1,
+        accepted: book.version(),
+    };
+    seen_in(alloc, &outcome, &[tally])
+}
+
+// Whether both are assignments with the same objects, prices and acceptances.
+fn is_same(first: &Seen, second: &Seen) -> bool {
+    match (first, second) {
+        (Seen::Best(objects, prices, accepted), Seen::Best(others, levels, counts)) => {
+            objects.as_slice() == others.as_slice()
+                && prices.as_slice() == levels.as_slice()
+                && accepted.as_slice() == counts.as_slice()
+        }
+        _ => false,
+    }
+}
+
+// Whether both are assignments of the same cost.
+fn is_as_good(first: &Seen, second: &Seen, pairs: &[Pair]) -> bool {
+    match (first, second) {
+        (Seen::Best(objects, _, _), Seen::Best(others, _, _)) => {
+            cost_of(pairs, objects.as_slice()) == cost_of(pairs, others.as_slice())
+        }
+        _ => false,
+    }
+}
+
+// Whether one worker gives a hundred persons what a book without candidates does, and whether three
+// workers with tables of some age find the same cost.
+fn long_rows<R: Threads + Wait + Sync>(
+    rt: &R,
+    alloc: Global,
+    share: u16,
+    costs: u16,
+) -> Result<(bool, bool), AllocError> {
+    let mut seed = 2026;
+    let drawn = drawn_pairs(alloc, &mut seed, 100, share, costs.max(1))?;
+    let pairs = drawn.as_slice();
+    let wanted = without_lists(rt, alloc, 100, pairs)?;
+    let one = solved(rt, alloc, 100, pairs, Sense::Min, 1, 1, &OpenGate)?;
+    let three = solved(rt, alloc, 100, pairs, Sense::Min, 3, 2, &OpenGate)?;
+    Ok((is_same(&one, &wanted), is_as_good(&three, &wanted, pairs)))
+}
+
+#[test]
+fn candidates_change_no_result(rt: HostRuntime) -> Result<(), Fail> {
+    for (share, costs) in [(4, 60000), (4, 5), (3, 1000), (2, 300)] {
+        let seen = long_rows(&rt, rt.alloc(), share, costs)?;
+        assert_eq!(rt; seen, (true, true), "{share} of 4 pairs, {costs} costs");
     }
     Ok(())
 }

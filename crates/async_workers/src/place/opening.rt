@@ -96,6 +96,7 @@ fn seat_desks<O: Opening>(
             pass: theirs,
             known: first_known(made + 1, table),
             offer: None,
+            listed: None,
             sessions: 0,
             since: 0,
         });

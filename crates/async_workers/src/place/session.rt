@@ -10,6 +10,7 @@ ghost use Rattle.auction_book.specs.Session.{IsHandedIn, IsPrepared, book_kept_u
 ghost use Rattle.async_workers.specs.inside.Hand.{Ends, HasBook, KeepsBook};
 ghost use Rattle.async_workers.specs.Session.{catches_up, is_too_low, with_table};
 
+use super::listing::fetch_list;
 use super::{Desk, Held};
 use auction_book::{Claim, Note, Refused, Submission, begin_next_if_over, submit_offer};
 use bidder::Offer;
@@ -104,7 +105,7 @@ fn move_on(alloc: Global, held: &mut Held, desk: &Desk) -> Result<Claim, AllocEr
 
 // Submits the offer, lets the table catch up if it shall, begins the next phase if this one is
 // over, and lets the worker claim a person. If memory is refused, the session ends there.
-pub(super) fn session(alloc: Global, held: &mut Held, desk: &mut Desk, refresh: u64) -> Ended
+fn take_steps(alloc: Global, held: &mut Held, desk: &mut Desk, refresh: u64) -> Ended
     requires hand { HasBook desk.old held.old.book }
     requires prepared { IsPrepared held.old.book desk.old.known.number desk.old.known.table desk.old.known.version held.old.offer }
     requires fresh { held.old.caught_up ≡ false }
@@ -124,4 +125,21 @@ pub(super) fn session(alloc: Global, held: &mut Held, desk: &mut Desk, refresh: 
     keep_up(held, desk, refresh, was_too_low(note));
     let outcome = move_on(alloc, held, desk);
     Ended { note, outcome }
+}
+
+// A session: these steps, and then the claimed person's candidates come along to the desk if its
+// table is the book's.
+pub(super) fn session(alloc: Global, held: &mut Held, desk: &mut Desk, refresh: u64) -> Ended
+    requires hand { HasBook desk.old held.old.book }
+    requires prepared { IsPrepared held.old.book desk.old.known.number desk.old.known.table desk.old.known.version held.old.offer }
+    requires fresh { held.old.caught_up ≡ false }
+    ensures hand { KeepsBook desk.old held.old.book desk.new held.new.book }
+    ensures desk { desk.new ≡ record desk.old { known = desk.new.known } }
+    ensures ends { Ends refresh desk.old.since desk.old.known held.old.offer result.note result.outcome
+        held.old.book desk.new.known held.new.book held.new.caught_up }
+    ensures asked { IfOk result.outcome (IsAsked desk.new.base) }
+{
+    let ended = take_steps(alloc, held, desk, refresh);
+    fetch_list(held, desk);
+    ended
 }

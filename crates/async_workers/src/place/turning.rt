@@ -6,11 +6,11 @@ ghost use Rattle.auction_book.specs.Session.{prepared};
 ghost use Rattle.async_workers.specs.inside.Hand.{Ends};
 ghost use Rattle.async_workers.specs.Turns.{CanTurn, EndsRun, Faulted, Serves, Turned, WorksOn, turn_of};
 
+use super::listing::make_offer;
 use super::session::{Ended, session};
 use super::{BookPlace, Desk};
 use crate::gate::{Gate, Standing, Turn, TurnFault};
 use auction_book::{Book, Claim};
-use bidder::make_bid;
 use std::alloc::Global;
 use std::sync::Wait;
 
@@ -61,9 +61,8 @@ fn prepare_offer<G: Gate>(desk: &mut Desk, claim: Claim, gate: &G) -> Turn
         Claim::Stopped => Turn::Stopped,
         Claim::Wait => Turn::Idle,
         Claim::Person(person, ask) => {
-            let known = &desk.known;
-            gate.before_offer(known.number);
-            let offer = make_bid(&desk.scaled, &known.table, known.version, ask, person);
+            gate.before_offer(desk.known.number);
+            let offer = make_offer(desk, ask, person);
             desk.offer = Some(offer);
             Turn::Claimed
         }

@@ -9,6 +9,7 @@ ghost use Rattle.auction_book.specs.Phases.{opened, persons};
 use super::Book;
 use assign_core::{GREATEST_FIRST_PRICE, Person, Price, Prices};
 use bidder::Ask;
+use candidates::CandidateLists;
 use price_log::PriceLog;
 use scaled_values::Scaled;
 use std::alloc::{AllocError, Global};
@@ -84,6 +85,7 @@ impl Book {
         let taken: Vec<u128> = vec![in alloc; 0; workers as usize]?;
         let mut queue = VecDeque::with_capacity(alloc, n as usize)?;
         queue_all(&mut queue, n);
+        let lists = CandidateLists::none(alloc);
         let start = prices.copy(alloc)?;
         let log = PriceLog::start(alloc, prices)?;
         Ok(Book {
@@ -101,6 +103,7 @@ impl Book {
             counts,
             taken,
             log,
+            lists,
             refuted: None,
             stopped: false,
             owned: 0,

@@ -10,6 +10,9 @@ use Rattle.auction_book.specs.Book.{BookData, prices_of}
 use Rattle.auction_book.specs.Changes.{accepted}
 use Rattle.auction_book.specs.Free.{IsFree}
 use Rattle.price_log.specs.Changes.{after_raise}
+use Rattle.price_log.specs.History.{today}
+use Rattle.price_log.proofs.Histories.{after_raise_up}
+use Rattle.candidates.proofs.Persons.{lists_stay_on}
 use Rattle.auction_book.proofs.Accepting.{acceptable, accepted_free}
 use Rattle.auction_book.proofs.Places.{owned_more}
 use Rattle.auction_book.proofs.Rooms.{count_fits, room_in_queue}
@@ -93,12 +96,16 @@ invariant_of-self-2 c =
     (subst (λ m. c.index.result.now ≡ get_or s.owners.items m c.index.result.now) at c.index.ensures) in
     let q = c.requires.sound in
     let free = subst IsFree c.self.view_is c.self.invariant.3 in
+    let f : SFits w128 bid.level = search rules in
+    let made : c.raise.new.self ≡ after_raise s.log bid.object bid.level = simp to_z-of_z at c.in_ok-raise.ensures.ok in
+    let fit = acceptable _ b bid c.self.view_is c.self.invariant.3 c.requires.sound c.requires.high in
     let now = accepted_free b w bid free (sound_above b.base b.ask q.0 (prices_of b) bid q.1 q.2) c.requires.high c.requires.held in (
       rw (length-set, c.requeue.ensures.capacity) c.self.invariant.0,
       owned_more s.owners.items bid.object bid.person c.place-place.result s.owned c.newly_owned.result
           c.index.result.now at ho lo c.self.invariant.1 out c.newly_owned.ensures,
       rw length-set c.self.invariant.2,
       subst IsFree (sym (returns-clause-ok c).1) now,
+      rw made (lists_stay_on _ (today s.log) (today (after_raise s.log bid.object bid.level)) s.lists (after_raise_up s.log bid.object bid.level fit.priced fit.above fit.price) c.self.invariant.4),
     )
 
 pub returns-clause-free : goal.returns-clause-free

@@ -83,6 +83,7 @@ invariant_of-self c =
       sym (ap (count_by is_some) owners ∙ none_counted is_some n refl),
       c.self.invariant.2,
       subst IsFree (sym book) (phased_free _ c.self.invariant.3 (subst (λ b. is_over b ≡ true) (sym c.self.view_is) c.requires.over)),
+      c.self.invariant.4,
     )
 
 pub returns-clause-free : goal.returns-clause-free

@@ -1,9 +1,12 @@
-use Rattle.std.proofs.Common.{◌≡◌, ◌-◌, set, sym, ap, ◌∙◌, arith}
+use Rattle.std.proofs.Common.{◌≡◌, ◌-◌, set, sym, ap, subst, ◌∙◌, arith}
+use Rattle.std.specs.Arc.{arc_value}
 use Rattle.assign_core.specs.Numbered.{renumbered}
 use Rattle.assign_core.proofs.NumberedLemmas.{renumber-set}
+use Rattle.candidates.specs.Candidates.{HaveCandidates}
+use Rattle.auction_book.specs.Stored.{book_of}
 use Rattle.auction_book.specs.Changes.{least_taken, trimmed_to}
 use Rattle.price_log.specs.History.{last_version}
-use Rattle.auction_book.proofs.OtherChanges.{caught_up_free, least_le}
+use Rattle.auction_book.proofs.OtherChanges.{caught_up_free, caught_up_trimmed, least_le}
 use Rattle.auction_book.proofs.book.Book.catch_up.Goals as goal
 
 pub trim_to-requires : goal.trim_to-requires
@@ -24,7 +27,13 @@ invariant_of-self c =
     c.least_of-least.ensures ∙ ap (λ l. least_taken l c.catch_up.new.version) (c.as_slice.ensures.value ∙ taken) ∙
     ap (least_taken (renumbered s.taken.items w (last_version s.log))) v in
     let log = c.trim_to.ensures ∙ ap (trimmed_to s.log) least in
-    (c.self.invariant.0, c.self.invariant.1, c.self.invariant.2, rw (taken, log) (caught_up_free _ w c.self.invariant.3))
+    let same = (caught_up_trimmed (book_of s) w c.self.invariant.3).prices in (
+      c.self.invariant.0,
+      c.self.invariant.1,
+      c.self.invariant.2,
+      rw (taken, log) (caught_up_free _ w c.self.invariant.3),
+      rw log (subst (λ q. HaveCandidates (arc_value s.scaled) q s.lists) (sym same) c.self.invariant.4),
+    )
 
 pub returns-clause-free : goal.returns-clause-free
 returns-clause-free c = (invariant_of-self c).3

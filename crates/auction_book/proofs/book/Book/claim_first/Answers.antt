@@ -26,6 +26,7 @@ invariant_of-self-2 c =
         sym (renumber-set s.claims.items w (Some (get_or s.queue.items 0 0))
             first),
       ) (claimed_free _ w c.self.invariant.3 first last none (omega arith)),
+      c.self.invariant.4,
     )
 
 pub returns-clause-free : goal.returns-clause-free

@@ -58,6 +58,7 @@ invariant_of-result c =
       sym (ap (count_by is_some) owners ∙ none_counted is_some n refl),
       sym (ap (λ (b : BookData). length b.claims) book ∙ length-replicate c.args.workers None),
       subst IsFree (sym book) (free c),
+      c.none-lists.ensures _ _,
     )
 
 pub returns-clause-free : goal.returns-clause-free
