@@ -23,6 +23,9 @@ pub struct Inner {
     /// The own column of each row, and the row that owns each column, by the given plan.
     own: Vec<usize>,
     owners: Vec<usize>,
+    /// Where the rows that list each column begin, and these with the places of their pairs.
+    taker_starts: Vec<usize>,
+    takers: Vec<(usize, usize)>,
 }
 
 impl Inner {
@@ -71,6 +74,16 @@ impl Inner {
         value_at(self.objects.as_slice(), column, 0)
     }
 
+    /// Where the rows that list a column begin.
+    pub fn taker_start(&self, column: usize) -> usize {
+        value_at(self.taker_starts.as_slice(), column, 0)
+    }
+
+    /// A row that lists a column, and the place of the pair.
+    pub fn taker(&self, place: usize) -> (usize, usize) {
+        value_at(self.takers.as_slice(), place, (0, usize::MAX))
+    }
+
     /// The own column of each row.
     pub fn own(&self) -> &[usize] {
         self.own.as_slice()
@@ -84,6 +97,44 @@ impl Inner {
     fn push(&mut self, column: usize, weight: Cost) -> Result<(), AllocError> {
         self.columns.push(column)?;
         self.weights.push(weight)?;
+        Ok(())
+    }
+
+    // Adds up how many rows list each column, into where these rows end.
+    fn count_takers(&mut self) -> Result<(), AllocError> {
+        for _ in 0..self.objects.len().wrapping_add(1) {
+            self.taker_starts.push(0)?;
+        }
+        let starts = self.taker_starts.as_mut_slice();
+        for column in self.columns.iter() {
+            let count = value_at(starts, *column, 0);
+            set_value(starts, *column, count.wrapping_add(1));
+        }
+        let mut sum = 0usize;
+        for start in starts.iter_mut() {
+            sum = sum.wrapping_add(*start);
+            *start = sum;
+        }
+        Ok(())
+    }
+
+    // Puts a row before those that list its columns.
+    fn put_taker(&mut self, row: usize) {
+        for pair in self.start(row)..self.end(row) {
+            let column = self.column(pair);
+            let place = self.taker_start(column).wrapping_sub(1);
+            set_value(self.taker_starts.as_mut_slice(), column, place);
+            set_value(self.takers.as_mut_slice(), place, (row, pair));
+        }
+    }
+
+    // Lists the rows of each column.
+    fn add_takers(&mut self, alloc: Global) -> Result<(), AllocError> {
+        self.count_takers()?;
+        self.takers = vec![in alloc; (0usize, 0usize); self.size()]?;
+        for row in 0..self.rows().wrapping_add(1) {
+            self.put_taker(row);
+        }
         Ok(())
     }
 }
@@ -224,6 +275,8 @@ pub fn inner_of(alloc: Global, arcs: &Arcs, objects: &[Object], m: usize) -> Res
         weights: Vec::new(alloc),
         own: Vec::new(alloc),
         owners: Vec::new(alloc),
+        taker_starts: Vec::new(alloc),
+        takers: Vec::new(alloc),
     };
     let mut making = Making {
         arcs,
@@ -238,5 +291,6 @@ pub fn inner_of(alloc: Global, arcs: &Arcs, objects: &[Object], m: usize) -> Res
     making.add_taken(&mut inner, objects.len())?;
     making.add_unowned(&mut inner)?;
     inner.starts.push(inner.columns.len())?;
+    inner.add_takers(alloc)?;
     Ok(inner)
 }

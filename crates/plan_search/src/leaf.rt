@@ -134,11 +134,12 @@ impl Pairs {
         prices: &[Price],
         bound: Cost,
     ) -> Result<(), AllocError> {
-        if value_at(self.is_kept.as_slice(), person, true) {
+        let (start, end) = (self.start(person), self.start(person.wrapping_add(1)));
+        if end.wrapping_sub(start) == 1 || value_at(self.is_kept.as_slice(), person, true) {
             return Ok(());
         }
         let own_sum = self.own_sum(person, own, prices);
-        for pair in self.start(person)..self.start(person.wrapping_add(1)) {
+        for pair in start..end {
             let object = self.object(pair);
             let weight = self.sum(pair, prices).wrapping_sub(own_sum);
             let is_closed = value_at(self.is_closed.as_slice(), pair, true);

@@ -181,9 +181,9 @@ impl Order {
         }
     }
 
-    // Adds the part of the plans that differ from one first in this row, unless it is too dear.
-    fn add_split(&mut self, inner: &Inner, place: usize, row: usize) -> Result<(), AllocError> {
-        let Some(part) = self.parts.get(place) else {
+    // Bounds the costs of the plans that differ from one first in this row.
+    fn bound(&mut self, inner: &Inner, place: usize, row: usize) -> Result<(), AllocError> {
+        let Some(part) = self.parts.get_mut(place) else {
             return Ok(());
         };
         let entering = value_at(self.entering.as_slice(), part.column(row), Cost::MAX);
@@ -192,8 +192,39 @@ impl Order {
         if cost > self.most {
             return Ok(());
         }
+        let mut next = None;
+        if cost > part.cost() {
+            next = first_within(part, inner, row, (part.column(row), least));
+        }
+        part.add_split(cost, row, next.unwrap_or(usize::MAX))
+    }
+
+    // Adds the next part of the plans that differ from one.
+    fn add_split(&mut self, inner: &Inner, place: usize) -> Result<(), AllocError> {
+        let Some(part) = self.parts.get_mut(place) else {
+            return Ok(());
+        };
+        let Some((cost, row)) = part.next_split() else {
+            return Ok(());
+        };
+        let least = least_other(part, inner, row);
         let next = first_within(part, inner, row, (part.column(row), least));
         self.push(cost, Stage::Bound, (place, row), (row, next))
+    }
+
+    // Bounds the costs of all splits of a part.
+    fn bound_all(&mut self, inner: &Inner, place: usize, first: usize) -> Result<(), AllocError> {
+        self.enter_nobody(inner, place);
+        let mut row = inner.rows();
+        for _ in first..inner.rows() {
+            row = row.wrapping_sub(1);
+            self.bound(inner, place, row)?;
+            self.enter(inner, place, row);
+        }
+        if let Some(part) = self.parts.get_mut(place) {
+            part.sort_splits();
+        }
+        Ok(())
     }
 
     // Puts a plan into the order, and splits its part.
@@ -211,16 +242,10 @@ impl Order {
         if self.found.len() >= self.count {
             return Ok(());
         }
-        self.enter_nobody(inner, entry.part);
-        let mut row = inner.rows();
-        for _ in first..inner.rows() {
-            row = row.wrapping_sub(1);
-            self.add_split(inner, entry.part, row)?;
-            self.enter(inner, entry.part, row);
-        }
+        self.bound_all(inner, entry.part, first)?;
         let looks = inner.size().saturating_sub(inner.start(first));
         *arc_scans = arc_scans.saturating_sub(looks as u64);
-        Ok(())
+        self.add_split(inner, entry.part)
     }
 
     // Goes on with the first entry; returns whether there is one.
@@ -238,7 +263,10 @@ impl Order {
         }
         *arc_scans = arc_scans.saturating_sub(1);
         match entry.stage {
-            Stage::Bound => self.solve(alloc, inner, entry, arc_scans)?,
+            Stage::Bound => {
+                self.add_split(inner, entry.part)?;
+                self.solve(alloc, inner, entry, arc_scans)?;
+            }
             Stage::Known => self.improve(inner, entry, arc_scans)?,
             Stage::First => self.hand_out(inner, entry, arc_scans)?,
         }

@@ -46,12 +46,19 @@ struct Searched {
 const MOST_CORES: usize = 128;
 
 // The bound of the next core, after one with too few plans.
-fn wider(alloc: Global, core: &Arcs, bound: Cost) -> Result<Cost, AllocError> {
+fn wider(
+    alloc: Global,
+    core: &Arcs,
+    bound: Cost,
+    found: usize,
+    count: usize,
+) -> Result<Cost, AllocError> {
     let least = core.quarter(alloc)?.saturating_add(1);
+    let factor = if found < count / 8 { 4 } else { 2 };
     Ok(if bound == 1 {
         least
     } else {
-        least.max(bound.saturating_mul(2))
+        least.max(bound.saturating_mul(factor))
     })
 }
 
@@ -85,10 +92,11 @@ fn search(
         if *arc_scans == 0 {
             return Ok(None);
         }
-        if searched.order.found() >= count || bound == Cost::MAX {
+        let found = searched.order.found();
+        if found >= count || bound == Cost::MAX {
             return Ok(Some(searched));
         }
-        bound = wider(alloc, &searched.core, bound)?;
+        bound = wider(alloc, &searched.core, bound, found, count)?;
     }
     Ok(None)
 }
