@@ -150,6 +150,7 @@ struct Making<'a> {
 
 // Marks an object that has no column yet.
 const MARKED: usize = 0;
+
 const UNMARKED: usize = usize::MAX;
 
 impl Making<'_> {
@@ -266,7 +267,12 @@ impl Making<'_> {
 }
 
 /// What can change places in the core of a best plan.
-pub fn inner_of(alloc: Global, arcs: &Arcs, objects: &[Object], m: usize) -> Result<Inner, AllocError> {
+pub fn inner_of(
+    alloc: Global,
+    arcs: &Arcs,
+    objects: &[Object],
+    m: usize,
+) -> Result<Inner, AllocError> {
     let mut inner = Inner {
         persons: Vec::new(alloc),
         objects: Vec::new(alloc),

@@ -22,7 +22,12 @@ pub struct Pairs {
 
 impl Pairs {
     /// The pairs of the core of a best plan whose reduced costs are below a bound.
-    pub fn below(alloc: Global, core: &Arcs, best: Best<'_>, bound: Cost) -> Result<Pairs, AllocError> {
+    pub fn below(
+        alloc: Global,
+        core: &Arcs,
+        best: Best<'_>,
+        bound: Cost,
+    ) -> Result<Pairs, AllocError> {
         let mut pairs = Pairs {
             starts: Vec::new(alloc),
             objects: Vec::new(alloc),
@@ -98,20 +103,34 @@ impl Pairs {
         }
     }
 
-    /// Leaves out the pairs that aren't in the part of the plan at a place, once there are so many
-    /// plans.
+    // Leaves out the pairs that the children of a plan before another place have.
+    fn keep(&mut self, tree: &Tree, place: usize, end: usize) {
+        let mut child = tree.last_child(place);
+        for _ in 0..tree.persons() {
+            if child == 0 {
+                break;
+            }
+            if child < end {
+                set_value(self.is_kept.as_mut_slice(), tree.person(child), true);
+            }
+            child = tree.child_before(child);
+        }
+    }
+
+    /// Leaves out the pairs that aren't in the part of the plan at a place, as it was when there were so
+    /// many plans.
     pub fn restrict(&mut self, tree: &Tree, place: usize, count: usize) {
         self.clear();
-        let (mut part, mut next) = (place, count);
-        for _ in 1..count {
-            next = next.wrapping_sub(1);
-            let (parent, person) = (tree.parent(next), tree.person(next));
-            if next == part {
-                self.close(person, tree.object(parent, person));
-                part = parent;
-            } else if parent == part {
-                set_value(self.is_kept.as_mut_slice(), person, true);
+        let (mut part, mut end) = (place, count);
+        for _ in 0..count {
+            self.keep(tree, part, end);
+            if part == 0 {
+                break;
             }
+            let (parent, person) = (tree.parent(part), tree.person(part));
+            self.close(person, tree.object(parent, person));
+            end = part;
+            part = parent;
         }
     }
 

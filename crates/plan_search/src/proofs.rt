@@ -100,6 +100,7 @@ impl Proofs {
         let before = Vec::from_slice(alloc, self.of(parent, m))?;
         let before = before.as_slice();
         let arcs = pairs.arcs(alloc, tree.plan(parent), before, margin.saturating_add(1))?;
+        *arc_scans = arc_scans.saturating_sub(arcs.size() as u64);
         let first = tree.person(place);
         add_risen(alloc, &mut self.prices, &arcs, first, before, arc_scans)
     }
@@ -121,6 +122,7 @@ impl Proofs {
         pairs.restrict(tree, place, tree.count());
         let best = best_of(tree.plan(place), self.of(place, m));
         let arcs = pairs.arcs(alloc, best.objects, best.prices, margin)?;
+        *arc_scans = arc_scans.saturating_sub(arcs.size() as u64);
         let Some(shown) = show(alloc, arcs, best, margin, arc_scans)? else {
             return Ok(false);
         };
@@ -141,6 +143,9 @@ fn raise_all(
     arc_scans: &mut u64,
 ) -> Result<(), AllocError> {
     for place in 1..tree.count() {
+        if *arc_scans == 0 {
+            return Ok(());
+        }
         let margin = costs.margin(tree.parent(place));
         proofs.raise(alloc, tree, pairs, (place, margin), m, arc_scans)?;
     }
@@ -191,6 +196,9 @@ pub fn proofs_of(
     let mut pairs = Pairs::below(alloc, core, best, bound)?;
     proofs.add_prices(best.prices)?;
     raise_all(alloc, &mut proofs, tree, &mut pairs, costs, m, arc_scans)?;
+    if *arc_scans == 0 {
+        return Ok(None);
+    }
     let is_ranked = rank_all(alloc, &mut proofs, tree, &mut pairs, costs, m, arc_scans)?;
     Ok(if is_ranked { Some(proofs) } else { None })
 }

@@ -1,5 +1,5 @@
 // The first plans in order, as a tree: each falls into a part of its own.
-use super::values::{place_of, value_at};
+use super::values::{place_of, set_value, value_at};
 use cost_lists::{Object, Person};
 use std::alloc::{AllocError, Global};
 
@@ -13,6 +13,10 @@ pub struct Tree {
     plans: Vec<Object>,
     parents: Vec<u32>,
     persons: Vec<Person>,
+    /// The last child of each plan, and the child of the same parent before each; 0 for none. A plan
+    /// has at most `n` children.
+    last: Vec<usize>,
+    before: Vec<usize>,
 }
 
 impl Tree {
@@ -23,7 +27,14 @@ impl Tree {
             plans: Vec::new(alloc),
             parents: Vec::new(alloc),
             persons: Vec::new(alloc),
+            last: Vec::new(alloc),
+            before: Vec::new(alloc),
         }
+    }
+
+    /// How many persons each plan has.
+    pub fn persons(&self) -> usize {
+        self.n
     }
 
     /// How many plans there are.
@@ -55,37 +66,69 @@ impl Tree {
         place_of(value_at(self.persons.as_slice(), place, 0))
     }
 
-    // The place of the plan into whose part a plan falls.
-    fn leaf_of(&self, plan: &[Object]) -> u32 {
-        let (mut leaf, mut number) = (0u32, 0u32);
-        for (parent, person) in self.parents.iter().zip(self.persons.iter()) {
-            let place = place_of(*person);
-            if *parent == leaf
-                && number != 0
-                && value_at(plan, place, 0) != self.object(leaf as usize, place)
-            {
-                leaf = number;
+    /// The last child of the plan at a place, or 0.
+    pub fn last_child(&self, place: usize) -> usize {
+        value_at(self.last.as_slice(), place, 0)
+    }
+
+    /// The child of the same parent before the plan at a place, or 0.
+    pub fn child_before(&self, place: usize) -> usize {
+        value_at(self.before.as_slice(), place, 0)
+    }
+
+    // The first child that takes a plan from the part of the plan at a place, or 0.
+    fn child_with(&self, place: usize, plan: &[Object]) -> usize {
+        let (mut child, mut found) = (self.last_child(place), 0);
+        for _ in 0..self.n {
+            if child == 0 {
+                break;
             }
-            number = number.wrapping_add(1);
+            let person = self.person(child);
+            if value_at(plan, person, 0) != self.object(place, person) {
+                found = child;
+            }
+            child = self.child_before(child);
+        }
+        found
+    }
+
+    // The place of the plan into whose part a plan falls.
+    fn leaf_of(&self, plan: &[Object]) -> usize {
+        let mut leaf = 0;
+        for _ in 0..self.count {
+            let child = self.child_with(leaf, plan);
+            if child == 0 {
+                break;
+            }
+            leaf = child;
         }
         leaf
     }
 
-    /// Adds the next plan.
-    pub fn add(&mut self, plan: &[Object]) -> Result<(), AllocError> {
-        let leaf = self.leaf_of(plan);
-        let (leaf, person) = if self.count == 0 {
-            (0, 0)
-        } else {
-            (leaf, first_other(self.plan(leaf as usize), plan))
-        };
-        self.parents.push(leaf)?;
+    // Adds the next plan, of which the parent and a person are known.
+    fn push(&mut self, plan: &[Object], parent: usize, person: Person) -> Result<(), AllocError> {
+        self.parents.push(u32::try_from(parent).unwrap_or(0))?;
         self.persons.push(person)?;
+        self.before.push(self.last_child(parent))?;
+        self.last.push(0)?;
+        if self.count != 0 {
+            set_value(self.last.as_mut_slice(), parent, self.count);
+        }
         for object in plan {
             self.plans.push(*object)?;
         }
         self.count = self.count.wrapping_add(1);
         Ok(())
+    }
+
+    /// Adds the next plan.
+    pub fn add(&mut self, plan: &[Object]) -> Result<(), AllocError> {
+        if self.count == 0 {
+            return self.push(plan, 0, 0);
+        }
+        let leaf = self.leaf_of(plan);
+        let person = first_other(self.plan(leaf), plan);
+        self.push(plan, leaf, person)
     }
 
     /// Its lists: the plans, their parents and the persons.
@@ -96,6 +139,8 @@ impl Tree {
             plans,
             parents,
             persons,
+            last: _,
+            before: _,
         } = self;
         (plans, parents, persons)
     }
