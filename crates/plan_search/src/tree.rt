@@ -107,9 +107,10 @@ impl Tree {
 
     // Adds the next plan, of which the parent and a person are known.
     fn push(&mut self, plan: &[Object], parent: usize, person: Person) -> Result<(), AllocError> {
+        let before = self.last_child(parent);
         self.parents.push(u32::try_from(parent).unwrap_or(0))?;
         self.persons.push(person)?;
-        self.before.push(self.last_child(parent))?;
+        self.before.push(before)?;
         self.last.push(0)?;
         if self.count != 0 {
             set_value(self.last.as_mut_slice(), parent, self.count);
