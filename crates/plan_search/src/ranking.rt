@@ -54,12 +54,17 @@ fn wider(
     count: usize,
 ) -> Result<Cost, AllocError> {
     let least = core.quarter(alloc)?.saturating_add(1);
-    let factor = if found < count / 8 { 4 } else { 2 };
-    Ok(if bound == 1 {
-        least
+    if bound == 1 {
+        return Ok(least);
+    }
+    let next = if found >= count / 2 {
+        bound.saturating_add(bound / 2)
+    } else if found >= count / 8 {
+        bound.saturating_mul(2)
     } else {
-        least.max(bound.saturating_mul(factor))
-    })
+        bound.saturating_mul(4)
+    };
+    Ok(least.max(next))
 }
 
 // The first plans of the core below a bound.
@@ -187,9 +192,9 @@ fn search_all(
 /// many looks at arcs: from a best plan, which the prices prove. `None` if these don't suffice.
 ///
 /// The time of each pass is linear in the costs, and for listed pairs as that of sorting those of
-/// the core; two or three are the rule. The memory is 12 bytes for each pair of the core; for each
-/// plan 4 a person and 12 an object, and for each part that was looked at 16 for each person and
-/// object that can change.
+/// the core; two or three are the rule. The memory is some 60 bytes for each pair of the core; for
+/// each plan 4 a person and 12 an object; for each part that was looked at, mostly some parts a
+/// plan, 16 for each person and each object that can change; and 8 for each further price.
 ///
 /// # Errors
 /// `AllocError` if memory is refused.
