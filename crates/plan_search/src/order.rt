@@ -31,7 +31,7 @@ pub struct Order {
 
 impl Order {
     fn new(alloc: Global, inner: &Inner, count: usize, most: Cost) -> Result<Order, AllocError> {
-        let mut order = Order {
+        Ok(Order {
             parts: Vec::new(alloc),
             queue: Queue::new(alloc),
             found: Vec::new(alloc),
@@ -41,11 +41,7 @@ impl Order {
             entering: vec![in alloc; Cost::MAX; inner.columns()]?,
             cheapest: Cheapest::new(alloc, inner)?,
             earliest: Earliest::new(alloc, inner)?,
-        };
-        order.parts.push(Part::whole(alloc, inner)?)?;
-        order.know(0)?;
-        order.push(0, Stage::Known, (0, 0), (0, None))?;
-        Ok(order)
+        })
     }
 
     /// How many plans were found.
@@ -104,10 +100,9 @@ impl Order {
         self.queue.push(self.parts.as_slice(), entry)
     }
 
-    // Looks for a best plan of a part.
+    // Looks for what a best plan of a split costs. The plan itself waits until it is wanted.
     fn solve(
         &mut self,
-        alloc: Global,
         inner: &Inner,
         entry: Entry,
         arc_scans: &mut u64,
@@ -117,45 +112,64 @@ impl Order {
         };
         let (row, most) = (entry.row, self.most.saturating_sub(part.cost()));
         let length = self.cheapest.search(inner, part, row, most, arc_scans)?;
+        self.cheapest.clear();
+        let Some(length) = length else {
+            return Ok(());
+        };
+        let cost = part.cost().saturating_add(length);
+        let next = first_within(part, inner, row, (part.column(row), length));
+        self.know(cost)?;
+        self.push(cost, Stage::Known, (entry.part, row), (row, next))
+    }
+
+    // The part of a split, with the best plan that was found.
+    fn split(
+        &mut self,
+        alloc: Global,
+        inner: &Inner,
+        entry: Entry,
+        arc_scans: &mut u64,
+    ) -> Result<Option<Part>, AllocError> {
+        let Some(part) = self.parts.get(entry.part) else {
+            return Ok(None);
+        };
+        let (row, most) = (entry.row, entry.cost.saturating_sub(part.cost()));
+        let length = self.cheapest.search(inner, part, row, most, arc_scans)?;
         let made = match length {
             None => None,
             Some(length) => Some(self.cheapest.split(alloc, inner, part, row, length)?),
         };
         self.cheapest.clear();
-        match made {
-            None => Ok(()),
-            Some(part) => self.add_part(inner, part, row, arc_scans),
-        }
+        Ok(made)
     }
 
-    // Adds a part with a best plan.
+    // Adds a part, with the first one of its best plans.
     fn add_part(
         &mut self,
         inner: &Inner,
         part: Part,
-        row: usize,
         arc_scans: &mut u64,
     ) -> Result<(), AllocError> {
-        let next = first_within(&part, inner, row, (usize::MAX, 0));
-        let (cost, place) = (part.cost(), self.parts.len());
+        let (mut part, place) = (part, self.parts.len());
         *arc_scans = arc_scans.saturating_sub(inner.columns() as u64);
+        self.earliest.improve_all(inner, &mut part, arc_scans)?;
+        let cost = part.cost();
         self.parts.push(part)?;
-        self.know(cost)?;
-        self.push(cost, Stage::Known, (place, row), (row, next))
+        self.push(cost, Stage::First, (place, 0), (inner.rows(), None))
     }
 
-    // Makes the plan of a part the first one of its cost.
+    // Finds the best plan of a split that is wanted.
     fn improve(
         &mut self,
+        alloc: Global,
         inner: &Inner,
         entry: Entry,
         arc_scans: &mut u64,
     ) -> Result<(), AllocError> {
-        if let Some(part) = self.parts.get_mut(entry.part) {
-            self.earliest.improve_all(inner, part, arc_scans)?;
+        match self.split(alloc, inner, entry, arc_scans)? {
+            None => Ok(()),
+            Some(part) => self.add_part(inner, part, arc_scans),
         }
-        let place = (entry.part, entry.row);
-        self.push(entry.cost, Stage::First, place, (inner.rows(), None))
     }
 
     // Begins to bound the costs of parts from below: only nobody can take a column.
@@ -265,9 +279,9 @@ impl Order {
         match entry.stage {
             Stage::Bound => {
                 self.add_split(inner, entry.part)?;
-                self.solve(alloc, inner, entry, arc_scans)?;
+                self.solve(inner, entry, arc_scans)?;
             }
-            Stage::Known => self.improve(inner, entry, arc_scans)?,
+            Stage::Known => self.improve(alloc, inner, entry, arc_scans)?,
             Stage::First => self.hand_out(inner, entry, arc_scans)?,
         }
         Ok(true)
@@ -313,6 +327,8 @@ pub fn order_of(
     arc_scans: &mut u64,
 ) -> Result<Order, AllocError> {
     let mut order = Order::new(alloc, inner, count, most)?;
+    order.know(0)?;
+    order.add_part(inner, Part::whole(alloc, inner)?, arc_scans)?;
     for _ in 0..u64::MAX {
         if *arc_scans == 0 || order.found() >= count || !order.step(alloc, inner, arc_scans)? {
             break;

@@ -45,7 +45,8 @@ struct Searched {
 // The core is made wider so often at most.
 const MOST_CORES: usize = 128;
 
-// The bound of the next core, after one with too few plans.
+// The bound of the next core, after one with too few plans. Their number grows about as the square
+// of the bound, or somewhat less.
 fn wider(
     alloc: Global,
     core: &Arcs,
@@ -54,17 +55,16 @@ fn wider(
     count: usize,
 ) -> Result<Cost, AllocError> {
     let least = core.quarter(alloc)?.saturating_add(1);
-    if bound == 1 {
-        return Ok(least);
-    }
-    let next = if found >= count / 2 {
-        bound.saturating_add(bound / 2)
-    } else if found >= count / 8 {
-        bound.saturating_mul(2)
+    let quarters = if bound == 1 {
+        0
+    } else if found >= count / 2 {
+        6
+    } else if found >= count / 4 {
+        9
     } else {
-        bound.saturating_mul(4)
+        16
     };
-    Ok(least.max(next))
+    Ok(least.max((bound / 4).saturating_add(1).saturating_mul(quarters)))
 }
 
 // The first plans of the core below a bound.
