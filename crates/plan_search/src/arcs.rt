@@ -70,6 +70,15 @@ impl Arcs {
         Ok(if middle == Cost::MAX { least } else { middle })
     }
 
+    /// The one that a quarter of them aren't above, or the least one if that person has none.
+    pub fn quarter(&self, alloc: Global) -> Result<Cost, AllocError> {
+        let mut above = Vec::from_slice(alloc, self.above.as_slice())?;
+        above.sort_unstable();
+        let quarter = value_at(above.as_slice(), above.len() / 4, Cost::MAX);
+        let least = value_at(above.as_slice(), 0, Cost::MAX);
+        Ok(if quarter == Cost::MAX { least } else { quarter })
+    }
+
     /// Adds an arc of the last node that was begun.
     pub fn push(&mut self, object: Object, weight: Cost) -> Result<(), AllocError> {
         self.objects.push(object)?;
@@ -295,8 +304,8 @@ fn add_pairs(
     Ok(())
 }
 
-// The arcs of the last node.
-fn add_last(arcs: &mut Arcs, best: Best<'_>, bound: Cost) -> Result<(), AllocError> {
+/// The arcs of the last node.
+pub fn add_last(arcs: &mut Arcs, best: Best<'_>, bound: Cost) -> Result<(), AllocError> {
     arcs.begin_node()?;
     for object in best.objects {
         let price = value_at(best.prices, place_of(*object), Cost::MAX);
@@ -308,6 +317,17 @@ fn add_last(arcs: &mut Arcs, best: Best<'_>, bound: Cost) -> Result<(), AllocErr
     Ok(())
 }
 
+/// No arcs yet of a plan with so many objects.
+pub fn no_arcs(alloc: Global, objects: &[Object], m: usize) -> Result<Arcs, AllocError> {
+    Ok(Arcs {
+        starts: Vec::new(alloc),
+        objects: Vec::new(alloc),
+        weights: Vec::new(alloc),
+        owners: owners_of(alloc, objects, m)?,
+        above: Vec::new(alloc),
+    })
+}
+
 /// The core of a best plan below a bound.
 pub fn core_below(
     alloc: Global,
@@ -316,13 +336,7 @@ pub fn core_below(
     bound: Cost,
 ) -> Result<Arcs, AllocError> {
     let n = best.objects.len();
-    let mut arcs = Arcs {
-        starts: Vec::new(alloc),
-        objects: Vec::new(alloc),
-        weights: Vec::new(alloc),
-        owners: owners_of(alloc, best.objects, best.prices.len())?,
-        above: Vec::new(alloc),
-    };
+    let mut arcs = no_arcs(alloc, best.objects, best.prices.len())?;
     match source {
         Source::Dense(costs) => add_rows(&mut arcs, best, costs, bound)?,
         Source::Listed(pairs) => {

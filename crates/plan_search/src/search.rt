@@ -144,9 +144,9 @@ fn cut_all(
 // There are so many further prices at most.
 const MOST_PRICES: usize = 1 << 24;
 
-// Ranks of the core below a margin, with further lists of prices: each leaves fewer arcs open,
-// until these have no cycle.
-fn show(
+/// Ranks of the core below a margin, with further lists of prices: each leaves fewer arcs open,
+/// until these have no cycle.
+pub fn show(
     alloc: Global,
     core: Arcs,
     best: Best<'_>,

@@ -21,14 +21,13 @@ class _KBest(Iterator[Plan]):
         self._begin()
 
     def _begin(self) -> None:
-        self._ranking = self._result._solved.ranking(self._problem)
-        self._parts = self._ranking.in_order(self._count, self._done)
+        self._plans = self._result._solved.plans_in_order(self._problem, self._count, self._done)
 
     def __next__(self) -> Plan:
         with library.limited(self._timeout):
-            part = next(self._parts)
+            plan = next(self._plans)
             self._done += 1
-            return self._result._plan(*self._result._solved.plan_of(self._ranking, part))
+            return self._result._plan(*plan)
 
     def __getstate__(self) -> Any:
         problem = self._problem._replace(costs=self._problem.costs.owned(), arrays=None)
@@ -67,11 +66,13 @@ def k_best(costs: Matrix, k: int, maximize: bool = False, decimals: Optional[int
 
     Notes
     -----
-    Murty (1968), each plan from the duals of the one before. Python finds the plans, at first among pairs of small
-    reduced cost. Before it is yielded, each is checked as `check` does, by the library where costs are in its range: it
-    is a best one of its part, which has the plans that agree with an earlier plan in the first rows and differ from it
-    in the next. That the parts hold all plans and are taken in order is tested, not proved. The iterator may be pickled
-    half-way. Plans differ in their rows or columns; equal rows make plans of one cost, and there may be very many.
+    Murty (1968), each plan from the duals of the one before. `nushbaret_ranked` finds the plans, and proves that no
+    other is cheaper than the last, where costs and prices are whole numbers in its range, each row has a pair, and it
+    decides: mostly. Elsewhere Python finds them, at first among pairs of small reduced cost. Before it is yielded, each
+    is checked as `check` does, by the library where costs are in its range: it is a best one of its part, which has the
+    plans that agree with an earlier plan in the first rows and differ from it in the next. That these parts hold all
+    plans is tested, not proved, and so is the order of plans of one cost. The iterator may be pickled half-way. Plans
+    differ in their rows or columns; equal rows make plans of one cost, and there may be very many.
 
     Examples
     --------

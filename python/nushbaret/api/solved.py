@@ -1,8 +1,8 @@
 """What a result stands on: a problem that a call solved, whose costs are read again where they are needed."""
 from array import array
 from fractions import Fraction
-from functools import cached_property
-from typing import Any, Iterable, List, Optional, Sequence, Tuple
+from functools import cached_property, partial
+from typing import Any, Iterable, Iterator, List, Optional, Sequence, Tuple
 
 from ..costs import problem as reading
 from ..costs.limits import GREATEST_PRICE
@@ -12,7 +12,7 @@ from ..costs.source import Source
 from ..lap import doubles, duals as exact_duals, proved
 from ..lap.paths import Subproblem
 from ..lap.plan_check import check_wholly
-from ..lap.ranking import Ranking
+from ..lap.ranking import Ranking, plans_shown
 from ..lap.solving import Outcome, solved
 from .shown import FixedList, numbers
 
@@ -126,9 +126,10 @@ class SolvedProblem:
             raise ValueError(CHANGED)
         return problem
 
-    def _priced(self) -> Optional[Tuple[AssignmentProblem, proved.Assignment]]:
-        """The problem of the call, and the answer with its prices, or with those of the duals; None where it is in
-        another unit than they are."""
+    def _priced(self,
+                problem: Optional[AssignmentProblem] = None) -> Optional[Tuple[AssignmentProblem, proved.Assignment]]:
+        """The problem, that of the call where none is given, and the answer with its prices, or with those of the
+        duals; None where it is in another unit than they are."""
         answer, unit = self.answer, self.shape.unit
         if answer.prices is None and self.pairs[0]:
             (rows, columns, _), unit = self.duals
@@ -136,7 +137,7 @@ class SolvedProblem:
             highest = max(own)
             if highest - min(own) <= GREATEST_PRICE:
                 answer = answer._replace(prices=array("q", [highest - dual for dual in own]))
-        problem = self.read_again()
+        problem = self.read_again() if problem is None else problem
         return (problem, answer) if problem.unit == unit else None
 
     def is_only(self) -> Optional[bool]:
@@ -155,9 +156,24 @@ class SolvedProblem:
         code, objects = proved.next_objects(problem, answer)
         if code != "BEST":
             return code, None
-        rows, columns = proved.pairs_of(problem, answer._replace(objects=objects))
+        return code, self._shown_plan(problem, *proved.pairs_of(problem, answer._replace(objects=objects)))
+
+    def _shown_plan(self, problem: AssignmentProblem, rows: List[int],
+                    columns: List[int]) -> Tuple[Any, Any, Number]:
         cost = sum_of(problem, ratios_of(problem, costs_of_pairs(problem, rows, columns)))
-        return code, (numbers(rows, self.as_arrays), numbers(columns, self.as_arrays), cost)
+        return numbers(rows, self.as_arrays), numbers(columns, self.as_arrays), cost
+
+    def plans_in_order(self, problem: AssignmentProblem, count: int,
+                       done: int) -> Iterator[Tuple[Any, Any, Number]]:
+        """Rows, columns and costs of the first plans, so many at most, without those that are done: first those that
+        the library shows."""
+        asked = self._priced(problem)
+        if asked is not None:
+            done = yield from plans_shown(*asked, count, done, partial(self._shown_plan, problem))
+        if done < count:
+            ranking = self.ranking(problem)
+            for part in ranking.in_order(count, done):
+                yield self.plan_of(ranking, part)
 
     def ranking(self, problem: Optional[AssignmentProblem] = None) -> Ranking:
         """The plans of the problem, from this one on. Without a problem it is that of the call, checked."""

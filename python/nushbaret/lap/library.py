@@ -58,11 +58,13 @@ class Record(ctypes.Structure):
 
 # How many lists each call takes.
 _LISTS = {"dense": 4, "dense_from": 5, "sparse": 6, "sparse_from": 7, "check": 5, "check_hall": 5, "bottleneck": 6,
-          "next": 5, "unique": 7}
-# What some take after these: a budget and a record; how many arc scans, another list, and where a number is written.
+          "next": 5, "ranked": 5, "unique": 7}
+# What some take after these: a budget and a record; how many arc scans, one or two further lists, and where a number is
+# written.
 _IN_PIECES = [ctypes.c_uint64, ctypes.c_void_p]
 _MORE = {"dense_from": _IN_PIECES, "sparse_from": _IN_PIECES, "bottleneck": _IN_PIECES,
-         "next": [ctypes.c_uint64, ctypes.c_void_p, ctypes.c_size_t, ctypes.c_void_p]}
+         "next": [ctypes.c_uint64, ctypes.c_void_p, ctypes.c_size_t, ctypes.c_void_p],
+         "ranked": [ctypes.c_uint64, *[ctypes.c_void_p, ctypes.c_size_t] * 2, ctypes.c_void_p]}
 _loading = threading.Lock()
 _calls: Dict[str, Any] = {}
 
@@ -189,6 +191,16 @@ def next_objects(sense: bool, n: int, m: int, lists: Sequence[Any], objects: Num
     code, _ = call("next", sense, n, m, *lists, objects, prices,
                    piece=(_ARC_SCANS_FOR_NEXT, *other.buffer_info(), ctypes.addressof(margin)))
     return code, other
+
+
+def first_objects(count: int, sense: bool, n: int, m: int, lists: Sequence[Any], objects: Numbers,
+                  prices: Numbers) -> Tuple[str, Numbers]:
+    """What `nushbaret_ranked` says of a plan and its prices, and the objects of so many first plans in a row."""
+    look_at_time()
+    found, plans, totals = ctypes.c_size_t(), array("I", bytes(4 * n * count)), array("q", bytes(8 * count))
+    code, _ = call("ranked", sense, n, m, *lists, objects, prices, piece=(
+        _ARC_SCANS_FOR_NEXT, *plans.buffer_info(), *totals.buffer_info(), ctypes.addressof(found)))
+    return code, plans[:n * found.value]
 
 
 def progress_asked() -> Optional[Callable[[int, int], Any]]:

@@ -7,7 +7,9 @@ leaves belong to that part. A part waits by the least that its plans can cost, a
 nothing.
 
 The library checks each plan before it is handed out: the duals of its part prove that it is a best plan of the part.
-That the parts hold all plans, and that no part that waits has a better one, is computed here.
+That the parts hold all plans, and that no part that waits has a better one, is computed here. Where costs and prices
+are whole numbers in its range, all rows have pairs, and it decides, `nushbaret_ranked` finds the plans, and proves that
+no other is cheaper than the last.
 
 A plan costs the sum of its pairs' reduced costs more than the best one. So at first only pairs of small reduced cost
 are looked at, and then, for plans that cost more than that, those of greater ones."""
@@ -16,7 +18,8 @@ from array import array
 from bisect import insort
 from fractions import Fraction
 from itertools import compress
-from typing import AbstractSet, Any, Iterable, Iterator, List, NamedTuple, Optional, Sequence, Tuple
+from typing import (AbstractSet, Any, Callable, Generator, Iterable, Iterator, List, NamedTuple, Optional, Sequence,
+                    Tuple)
 
 from ..costs.kinds import WholeNumbers, whole_numbers
 from ..costs.limits import GREATEST_PRICE
@@ -28,12 +31,14 @@ from .matching import Group, prove_short
 from .paths import (INFINITE, NOBODY, Branch, Choice, PathSearch, Paths, Subproblem, near_pairs_of,
                     usual_reduced_cost)
 from .plan_check import check_problem
-from .proved import Duals
+from .proved import Assignment, Duals, first_objects, pairs_of
 from .solving import BestPlan, least_sum
 
 
 # So many pairs of a row are looked at first, on average; then so many times as many. Few pairs are looked at at once.
 _FIRST_PAIRS, _TIMES, _FEW = 3, 6, 2048
+# So many plans the library is asked for at first; lists of more objects it isn't asked for.
+_FIRST_PLANS, _MOST_OBJECTS = 16, 2**22
 # What waits in line, in the order of one cost: a branch that wasn't followed, a part whose plan need not be the first
 # one of its cost, and one whose plan is.
 _BRANCH, _FOUND, _FIRST = range(3)
@@ -222,12 +227,35 @@ class _Taken(NamedTuple):
     branches: List[Branch]
 
 
+def plans_shown(problem: AssignmentProblem, answer: Assignment, count: int, done: int,
+                made: Callable[[List[int], List[int]], Any]) -> Generator[Any, None, int]:
+    """What is made of rows and columns of the first plans from an answer on, so many at most, without those that are
+    done, as far as the library shows them. Returns how many are done then, `count` where there are no others."""
+    wanted = _FIRST_PLANS
+    while done < count:
+        wanted = min(count, max(wanted, done + 1))
+        if wanted * answer.n > _MOST_OBJECTS:
+            return done
+        code, plans = first_objects(problem, answer, wanted)
+        if code not in ("BEST", "ALONE"):
+            return done
+        for place in range(answer.n * done, len(plans), answer.n):
+            done += 1
+            yield made(*pairs_of(problem, answer._replace(objects=plans[place:place + answer.n])))
+        if code == "ALONE":
+            return count
+        wanted *= _TIMES
+    return done
+
+
 def plans_in_order(best: BestPlan, count: int) -> Iterator[Tuple[List[int], List[int]]]:
     """Rows and columns of the first plans from a best one on, so many at most."""
     rows, columns = best.rows, best.columns
-    ratios = [(cost, 1) for cost in costs_of_pairs(best.problem, rows, columns)]
-    ranking = Ranking(best.problem, (rows, columns), ratios, duals_of_whole(best), ONE)
-    return map(ranking.pairs, ranking.in_order(count))
+    done = yield from plans_shown(best.problem, best.answer, count, 0, lambda *pairs: pairs)
+    if done < count:
+        ratios = [(cost, 1) for cost in costs_of_pairs(best.problem, rows, columns)]
+        ranking = Ranking(best.problem, (rows, columns), ratios, duals_of_whole(best), ONE)
+        yield from map(ranking.pairs, ranking.in_order(count, done))
 
 
 def near_pairs(problem: AssignmentProblem, duals: Duals, unit: Unit, count: int) -> Tuple[AssignmentProblem, Fraction]:

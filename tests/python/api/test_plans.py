@@ -3,6 +3,7 @@ import heapq
 import itertools
 import pickle
 import unittest
+from array import array
 from decimal import Decimal
 from unittest import mock
 
@@ -29,6 +30,11 @@ def ordered(costs, maximize, assigned):
 def pairs_of(plan, n_rows, n_columns):
     own = dict(zip(map(int, plan.rows), map(int, plan.columns)))
     return plan.cost, [own.get(row, n_columns) for row in range(n_rows)]
+
+
+def without_ranked():
+    """Lets Python find the plans in order, as where the library doesn't decide."""
+    return mock.patch.object(ranking, "first_objects", return_value=("UNDECIDED", array("I")))
 
 
 def kept(costs, keeps):
@@ -139,6 +145,18 @@ class Plans(unittest.TestCase):
         self.assertEqual((plans[0].cost, plans[1].cost), (result.cost, result.next_best().cost))
         self.assertEqual(plans[1].cost, min(result.without(*pair).cost for pair in result.pairs))
 
+    def test_the_library_and_python(self):
+        """The library's plans and those that Python finds are the same, also where the one goes on for the other."""
+        draw = drawing(40)
+        for n_rows, n_columns, most in [(12, 12, 3), (12, 12, 1000), (9, 14, 3), (9, 14, 1000), (30, 30, 99)]:
+            for maximize in (False, True):
+                costs = matrix(draw, n_rows, n_columns, most, draw.choice([0.7, 1.0]))
+                found = [plan[1:] for plan in nushbaret.k_best(costs, 40, maximize)]
+                with without_ranked():
+                    self.assertEqual([plan[1:] for plan in nushbaret.k_best(costs, 40, maximize)], found)
+                with mock.patch.object(ranking, "_MOST_OBJECTS", 30 * n_rows):
+                    self.assertEqual([plan[1:] for plan in nushbaret.k_best(costs, 40, maximize)], found)
+
     def test_few_pairs_at_first(self):
         """Where small reduced costs don't suffice, greater ones are looked at: each list is the one of all pairs."""
         draw = drawing(38)
@@ -146,7 +164,7 @@ class Plans(unittest.TestCase):
             costs = matrix(draw, 12, 12, most)
             forms = [costs, np.array(costs), np.array(costs) * 0.01] if np else [costs]
             wanted = [list(nushbaret.k_best(form, 60)) for form in forms]
-            with mock.patch.object(ranking, "_FEW", 0):
+            with without_ranked(), mock.patch.object(ranking, "_FEW", 0):
                 found = [list(nushbaret.k_best(form, 60)) for form in forms]
                 others = [nushbaret.solve(form).next_best().cost for form in forms]
             self.assertEqual([[(list(plan.columns), plan.cost) for plan in plans] for plans in found],
@@ -165,9 +183,14 @@ class Plans(unittest.TestCase):
 
 
 class Checked(unittest.TestCase):
-    """The library sees each plan that is handed out, and a wrong one isn't."""
+    """The library sees each plan that Python finds, and a wrong one isn't handed out."""
 
     COSTS = [[4, 1, 3], [2, 0, 5], [3, 2, 2]]
+
+    def setUp(self):
+        patch = without_ranked()
+        patch.start()
+        self.addCleanup(patch.stop)
 
     def test_each_plan_is_checked(self):
         draw = drawing(35)

@@ -1,0 +1,163 @@
+// The least dear way for a row to give up its column (Dijkstra 1959).
+use super::inner::Inner;
+use super::part::Part;
+use super::values::{set_value, value_at};
+use assign_core::Cost;
+use std::alloc::{AllocError, Global};
+use std::collections::BinaryHeap;
+
+/// A search along the pairs of a part.
+#[derive(Drop)]
+pub struct Cheapest {
+    /// How far each column is from the row; `Cost::MAX` where it wasn't reached.
+    distances: Vec<Cost>,
+    /// The row by which each column was reached, and the column by which each row was.
+    from: Vec<usize>,
+    via: Vec<usize>,
+    /// The columns that were reached.
+    reached: Vec<usize>,
+    /// These, by their negated distances.
+    heap: BinaryHeap<(Cost, usize)>,
+}
+
+impl Cheapest {
+    pub fn new(alloc: Global, inner: &Inner) -> Result<Cheapest, AllocError> {
+        Ok(Cheapest {
+            distances: vec![in alloc; Cost::MAX; inner.columns()]?,
+            from: vec![in alloc; 0usize; inner.columns()]?,
+            via: vec![in alloc; 0usize; inner.rows().wrapping_add(1)]?,
+            reached: Vec::new(alloc),
+            heap: BinaryHeap::new(alloc),
+        })
+    }
+
+    fn distance(&self, column: usize) -> Cost {
+        value_at(self.distances.as_slice(), column, 0)
+    }
+
+    // Reaches a column.
+    fn reach(&mut self, column: usize, row: usize, length: Cost) -> Result<(), AllocError> {
+        if self.distance(column) == Cost::MAX {
+            self.reached.push(column)?;
+        }
+        set_value(self.distances.as_mut_slice(), column, length);
+        set_value(self.from.as_mut_slice(), column, row);
+        self.heap.push((length.wrapping_neg(), column))?;
+        Ok(())
+    }
+
+    // Looks at the pairs of a row at a distance from the first one, up to this length.
+    fn look(
+        &mut self,
+        inner: &Inner,
+        part: &Part,
+        first: usize,
+        (row, length): (usize, Cost),
+        most: Cost,
+    ) -> Result<(), AllocError> {
+        let own = part.column(row);
+        for pair in inner.start(row)..inner.end(row) {
+            let column = inner.column(pair);
+            let longer = length.saturating_add(part.reduced(inner, row, pair));
+            if longer <= most
+                && longer < self.distance(column)
+                && column != own
+                && part.holder(column) >= first
+                && (row != first || part.allows(first, column))
+            {
+                self.reach(column, row, longer)?;
+            }
+        }
+        Ok(())
+    }
+
+    /// How much more the best plan costs than this one of those in which a row gives up its column, and the
+    /// rows before keep theirs, if that is at most so much.
+    pub fn search(
+        &mut self,
+        inner: &Inner,
+        part: &Part,
+        first: usize,
+        most: Cost,
+        arc_scans: &mut u64,
+    ) -> Result<Option<Cost>, AllocError> {
+        let (own, last) = (part.column(first), inner.rows());
+        let mut is_nobody_met = false;
+        self.look(inner, part, first, (first, 0), most)?;
+        for _ in 0..inner.size().wrapping_add(1) {
+            let Some((negated, column)) = self.heap.pop() else {
+                return Ok(None);
+            };
+            let length = negated.wrapping_neg();
+            if column == own {
+                return Ok(Some(length));
+            }
+            let holder = part.holder(column);
+            let is_late = length > self.distance(column) || (holder == last && is_nobody_met);
+            if !is_late {
+                is_nobody_met = is_nobody_met || holder == last;
+                set_value(self.via.as_mut_slice(), holder, column);
+                let width = inner.end(holder).saturating_sub(inner.start(holder));
+                *arc_scans = arc_scans.saturating_sub(width as u64);
+                self.look(inner, part, first, (holder, length), most)?;
+            }
+        }
+        Ok(None)
+    }
+
+    // Raises values and prices, so that the pairs of the way have the reduced weight 0.
+    fn raise(&self, part: &mut Part, last: usize, first: usize, length: Cost) {
+        let mut of_nobody = 0;
+        part.raise_value(first, length);
+        for column in self.reached.iter() {
+            let rise = length.saturating_sub(self.distance(*column));
+            let holder = part.holder(*column);
+            if rise > 0 && holder == last {
+                of_nobody = of_nobody.max(rise);
+            } else if rise > 0 {
+                part.raise_value(holder, rise);
+            }
+            part.raise_price(*column, rise.max(0));
+        }
+        part.raise_value(last, of_nobody);
+    }
+
+    // Gives each row of the way to a column what it was reached by.
+    fn give(&self, part: &mut Part, first: usize, own: usize) {
+        let mut column = own;
+        for _ in 0..self.via.len() {
+            let row = value_at(self.from.as_slice(), column, first);
+            part.give(row, column);
+            if row == first {
+                return;
+            }
+            column = value_at(self.via.as_slice(), row, own);
+        }
+    }
+
+    /// The part of the plans that a search was through, with the best one, which costs so much more.
+    pub fn split(
+        &self,
+        alloc: Global,
+        inner: &Inner,
+        part: &Part,
+        first: usize,
+        length: Cost,
+    ) -> Result<Part, AllocError> {
+        let mut other = part.split(alloc, first)?;
+        let last = inner.rows();
+        other.add_cost(length);
+        self.raise(&mut other, last, first, length);
+        self.give(&mut other, first, part.column(first));
+        Ok(other)
+    }
+
+    /// Forgets a search.
+    pub fn clear(&mut self) {
+        for column in self.reached.iter() {
+            set_value(self.distances.as_mut_slice(), *column, Cost::MAX);
+        }
+        self.reached.clear();
+        self.heap.clear();
+    }
+}

@@ -1,0 +1,338 @@
+// The first plans of a core in the order of their costs, and of their columns where these are the
+// same (Murty 1968; with inherited prices, and parts that wait by bounds: Miller, Stone and Cox
+// 1997).
+use super::cheapest::Cheapest;
+use super::earliest::Earliest;
+use super::inner::Inner;
+use super::part::Part;
+use super::queue::{Entry, Queue, Stage};
+use super::values::{set_value, value_at};
+use assign_core::Cost;
+use std::alloc::{AllocError, Global};
+use std::collections::BinaryHeap;
+
+/// A search for the first plans.
+#[derive(Drop)]
+pub struct Order {
+    parts: Vec<Part>,
+    queue: Queue,
+    /// The parts whose plans are in order.
+    found: Vec<usize>,
+    /// How many plans are wanted, and the greatest cost that one may have.
+    count: usize,
+    most: Cost,
+    /// The least costs of plans that are known, up to that number.
+    costs: BinaryHeap<Cost>,
+    /// The least reduced weight of a pair of each column, of the rows after one.
+    entering: Vec<Cost>,
+    cheapest: Cheapest,
+    earliest: Earliest,
+}
+
+impl Order {
+    fn new(alloc: Global, inner: &Inner, count: usize, most: Cost) -> Result<Order, AllocError> {
+        Ok(Order {
+            parts: Vec::new(alloc),
+            queue: Queue::new(alloc),
+            found: Vec::new(alloc),
+            count,
+            most,
+            costs: BinaryHeap::new(alloc),
+            entering: vec![in alloc; Cost::MAX; inner.columns()]?,
+            cheapest: Cheapest::new(alloc, inner)?,
+            earliest: Earliest::new(alloc, inner)?,
+        })
+    }
+
+    /// How many plans were found.
+    pub fn found(&self) -> usize {
+        self.found.len()
+    }
+
+    /// How much more the plan at a place in the order costs than the given one.
+    pub fn cost(&self, place: usize) -> Cost {
+        let part = value_at(self.found.as_slice(), place, 0);
+        match self.parts.get(part) {
+            Some(part) => part.cost(),
+            None => 0,
+        }
+    }
+
+    /// The column of a row by the plan at a place in the order.
+    pub fn column(&self, place: usize, row: usize) -> usize {
+        let part = value_at(self.found.as_slice(), place, 0);
+        match self.parts.get(part) {
+            Some(part) => part.column(row),
+            None => usize::MAX,
+        }
+    }
+
+    // Keeps the cost of a plan, so that no dearer one is looked for than so many are wanted.
+    fn know(&mut self, cost: Cost) -> Result<(), AllocError> {
+        self.costs.push(cost)?;
+        if self.costs.len() > self.count {
+            let _greatest = self.costs.pop();
+        }
+        if self.costs.len() >= self.count {
+            if let Some(greatest) = self.costs.pop() {
+                self.most = greatest.min(self.most);
+                self.costs.push(greatest)?;
+            }
+        }
+        Ok(())
+    }
+
+    fn push(
+        &mut self,
+        cost: Cost,
+        stage: Stage,
+        (part, row): (usize, usize),
+        (known, next): (usize, Option<usize>),
+    ) -> Result<(), AllocError> {
+        let entry = Entry {
+            cost,
+            stage,
+            part,
+            row,
+            known,
+            next,
+        };
+        self.queue.push(self.parts.as_slice(), entry)
+    }
+
+    // Looks for what a best plan of a split costs. The plan itself waits until it is wanted.
+    fn solve(
+        &mut self,
+        inner: &Inner,
+        entry: Entry,
+        arc_scans: &mut u64,
+    ) -> Result<(), AllocError> {
+        let Some(part) = self.parts.get(entry.part) else {
+            return Ok(());
+        };
+        let (row, most) = (entry.row, self.most.saturating_sub(part.cost()));
+        let length = self.cheapest.search(inner, part, row, most, arc_scans)?;
+        self.cheapest.clear();
+        let Some(length) = length else {
+            return Ok(());
+        };
+        let cost = part.cost().saturating_add(length);
+        let next = first_within(part, inner, row, (part.column(row), length));
+        self.know(cost)?;
+        self.push(cost, Stage::Known, (entry.part, row), (row, next))
+    }
+
+    // The part of a split, with the best plan that was found.
+    fn split(
+        &mut self,
+        alloc: Global,
+        inner: &Inner,
+        entry: Entry,
+        arc_scans: &mut u64,
+    ) -> Result<Option<Part>, AllocError> {
+        let Some(part) = self.parts.get(entry.part) else {
+            return Ok(None);
+        };
+        let (row, most) = (entry.row, entry.cost.saturating_sub(part.cost()));
+        let length = self.cheapest.search(inner, part, row, most, arc_scans)?;
+        let made = match length {
+            None => None,
+            Some(length) => Some(self.cheapest.split(alloc, inner, part, row, length)?),
+        };
+        self.cheapest.clear();
+        Ok(made)
+    }
+
+    // Adds a part, with the first one of its best plans.
+    fn add_part(
+        &mut self,
+        inner: &Inner,
+        part: Part,
+        arc_scans: &mut u64,
+    ) -> Result<(), AllocError> {
+        let (mut part, place) = (part, self.parts.len());
+        *arc_scans = arc_scans.saturating_sub(inner.columns() as u64);
+        self.earliest.improve_all(inner, &mut part, arc_scans)?;
+        let cost = part.cost();
+        self.parts.push(part)?;
+        self.push(cost, Stage::First, (place, 0), (inner.rows(), None))
+    }
+
+    // Finds the best plan of a split that is wanted.
+    fn improve(
+        &mut self,
+        alloc: Global,
+        inner: &Inner,
+        entry: Entry,
+        arc_scans: &mut u64,
+    ) -> Result<(), AllocError> {
+        match self.split(alloc, inner, entry, arc_scans)? {
+            None => Ok(()),
+            Some(part) => self.add_part(inner, part, arc_scans),
+        }
+    }
+
+    // Begins to bound the costs of parts from below: only nobody can take a column.
+    fn enter_nobody(&mut self, inner: &Inner, part: usize) {
+        for least in self.entering.iter_mut() {
+            *least = Cost::MAX;
+        }
+        self.enter(inner, part, inner.rows());
+    }
+
+    // A row can take columns too.
+    fn enter(&mut self, inner: &Inner, part: usize, row: usize) {
+        let Some(part) = self.parts.get(part) else {
+            return;
+        };
+        for pair in inner.start(row)..inner.end(row) {
+            let column = inner.column(pair);
+            if part.holder(column) != row {
+                let weight = part.reduced(inner, row, pair);
+                let least = value_at(self.entering.as_slice(), column, 0).min(weight);
+                set_value(self.entering.as_mut_slice(), column, least);
+            }
+        }
+    }
+
+    // Bounds the costs of the plans that differ from one first in this row.
+    fn bound(&mut self, inner: &Inner, place: usize, row: usize) -> Result<(), AllocError> {
+        let Some(part) = self.parts.get_mut(place) else {
+            return Ok(());
+        };
+        let entering = value_at(self.entering.as_slice(), part.column(row), Cost::MAX);
+        let least = least_other(part, inner, row);
+        let cost = least.saturating_add(entering).saturating_add(part.cost());
+        if cost > self.most {
+            return Ok(());
+        }
+        let mut next = None;
+        if cost > part.cost() {
+            next = first_within(part, inner, row, (part.column(row), least));
+        }
+        part.add_split(cost, row, next.unwrap_or(usize::MAX))
+    }
+
+    // Adds the next part of the plans that differ from one.
+    fn add_split(&mut self, inner: &Inner, place: usize) -> Result<(), AllocError> {
+        let Some(part) = self.parts.get_mut(place) else {
+            return Ok(());
+        };
+        let Some((cost, row)) = part.next_split() else {
+            return Ok(());
+        };
+        let least = least_other(part, inner, row);
+        let next = first_within(part, inner, row, (part.column(row), least));
+        self.push(cost, Stage::Bound, (place, row), (row, next))
+    }
+
+    // Bounds the costs of all splits of a part.
+    fn bound_all(&mut self, inner: &Inner, place: usize, first: usize) -> Result<(), AllocError> {
+        self.enter_nobody(inner, place);
+        let mut row = inner.rows();
+        for _ in first..inner.rows() {
+            row = row.wrapping_sub(1);
+            self.bound(inner, place, row)?;
+            self.enter(inner, place, row);
+        }
+        if let Some(part) = self.parts.get_mut(place) {
+            part.sort_splits();
+        }
+        Ok(())
+    }
+
+    // Puts a plan into the order, and splits its part.
+    fn hand_out(
+        &mut self,
+        inner: &Inner,
+        entry: Entry,
+        arc_scans: &mut u64,
+    ) -> Result<(), AllocError> {
+        self.found.push(entry.part)?;
+        let first = match self.parts.get(entry.part) {
+            Some(part) => part.first(),
+            None => inner.rows(),
+        };
+        if self.found.len() >= self.count {
+            return Ok(());
+        }
+        self.bound_all(inner, entry.part, first)?;
+        let looks = inner.size().saturating_sub(inner.start(first));
+        *arc_scans = arc_scans.saturating_sub(looks as u64);
+        self.add_split(inner, entry.part)
+    }
+
+    // Goes on with the first entry; returns whether there is one.
+    fn step(
+        &mut self,
+        alloc: Global,
+        inner: &Inner,
+        arc_scans: &mut u64,
+    ) -> Result<bool, AllocError> {
+        let Some(entry) = self.queue.pop(self.parts.as_slice()) else {
+            return Ok(false);
+        };
+        if entry.cost > self.most {
+            return Ok(false);
+        }
+        *arc_scans = arc_scans.saturating_sub(1);
+        match entry.stage {
+            Stage::Bound => {
+                self.add_split(inner, entry.part)?;
+                self.solve(inner, entry, arc_scans)?;
+            }
+            Stage::Known => self.improve(alloc, inner, entry, arc_scans)?,
+            Stage::First => self.hand_out(inner, entry, arc_scans)?,
+        }
+        Ok(true)
+    }
+}
+
+// The least reduced weight of another pair that a row may take, if the rows before keep theirs.
+fn least_other(part: &Part, inner: &Inner, row: usize) -> Cost {
+    let (own, mut least) = (part.column(row), Cost::MAX);
+    for pair in inner.start(row)..inner.end(row) {
+        let column = inner.column(pair);
+        let weight = part.reduced(inner, row, pair);
+        if weight < least && column != own && part.allows(row, column) {
+            least = weight;
+        }
+    }
+    least
+}
+
+// The first column but one that a row may take by a pair of at most a reduced weight.
+fn first_within(
+    part: &Part,
+    inner: &Inner,
+    row: usize,
+    (other, most): (usize, Cost),
+) -> Option<usize> {
+    for pair in inner.start(row)..inner.end(row) {
+        let column = inner.column(pair);
+        let is_within = part.reduced(inner, row, pair) <= most;
+        if is_within && column != other && part.allows(row, column) {
+            return Some(column);
+        }
+    }
+    None
+}
+
+/// The first plans of a core, up to a number and a cost.
+pub fn order_of(
+    alloc: Global,
+    inner: &Inner,
+    count: usize,
+    most: Cost,
+    arc_scans: &mut u64,
+) -> Result<Order, AllocError> {
+    let mut order = Order::new(alloc, inner, count, most)?;
+    order.know(0)?;
+    order.add_part(inner, Part::whole(alloc, inner)?, arc_scans)?;
+    for _ in 0..u64::MAX {
+        if *arc_scans == 0 || order.found() >= count || !order.step(alloc, inner, arc_scans)? {
+            break;
+        }
+    }
+    Ok(order)
+}
