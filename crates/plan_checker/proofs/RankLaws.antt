@@ -93,17 +93,17 @@ module _ (l : ListedCosts) (xs : List ℕ) (limits : AreInLimits l) (a : IsAssig
       covered f l.m xs ys a.apart g.apart (objects_within l.m l.rows ys limits.within g.listed) (λ j c. inr (low j)) free
 
   -- prices with which no pair of the second assignment costs less than the own one
-  record Bounds (q : List ℤ) : Type 0 where
-    in_range : All IsPriceInLimits q
-    free : AreFree l.m q xs
-    up : AreUp (reduced l.sense q) l.rows xs ys
+  pub record Bounds (q : List ℤ) : Type 0 where
+    pub in_range : All IsPriceInLimits q
+    pub free : AreFree l.m q xs
+    pub up : AreUp (reduced l.sense q) l.rows xs ys
 
   module _ (q : List ℤ) (h : Bounds q) where
     none_below : (j : ℕ) → pos 0 ≤ℤ price_of q j
     none_below j = (price_in q j h.in_range).least
 
     -- no pair's reduced cost is above the excess
-    pair_within : (i : ℕ) → i < length l.rows → cost_at q ys i ≤ℤ (cost_at q xs i +ℤ excess l.sense l.rows xs ys)
+    pub pair_within : (i : ℕ) → i < length l.rows → cost_at q ys i ≤ℤ (cost_at q xs i +ℤ excess l.sense l.rows xs ys)
     pair_within i lt =
         let up = (sums_up (reduced l.sense q) l.rows xs ys a.listed g.listed h.up).1 i lt in
         let first = sum_reduced l.sense q l.rows xs a.listed in
@@ -126,7 +126,7 @@ module _ (l : ListedCosts) (xs : List ℕ) (limits : AreInLimits l) (a : IsAssig
         ]) in
         omega (arith, ints)
 
-  optimum_bounds : (prices : List ℤ) → IsOptimum l xs prices → Bounds prices
+  pub optimum_bounds : (prices : List ℤ) → IsOptimum l xs prices → Bounds prices
   optimum_bounds prices o = record {
     in_range = o.in_range;
     free = o.free;
@@ -257,7 +257,7 @@ ranks_keep l xs prices ranks count others limits o r ys best (suc i) number =
     (within_kept l xs limits o.assigned ys best.assigned false (pos 1) prices ranks count others o r (best_excess l xs ys best o.assigned) i (omega arith))
 
 -- a sum of a cost and a price is below another one and NO_BOUND
-below_all : (sense : Sense) (prices : List ℤ) (row : Listing) (x y : ℕ) → All IsPriceInLimits prices → HasCosts row →
+pub below_all : (sense : Sense) (prices : List ℤ) (row : Listing) (x y : ℕ) → All IsPriceInLimits prices → HasCosts row →
     reduced sense prices row y <ℤ (reduced sense prices row x +ℤ NO_BOUND)
 below_all sense prices row x y limits costs =
     let a = turned_range sense _ (IsCost-listed row x costs) in
