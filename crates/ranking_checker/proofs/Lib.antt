@@ -1,2 +1,5 @@
+pub mod AddLaws
+pub mod CoreLaws
+pub mod PairLaws
 pub mod PartLaws
 pub mod TreeLaws

@@ -11,6 +11,10 @@ use Rattle.ranking_checker.specs.declared.pairs.Pair.{Pair}
 abbrev pub pair : ℕ → ℕ → ℤ → Pair
 pair i j c = record { person = i; object = j; cost = c }
 
+-- the pair at a place
+abbrev pub pair_at : List Pair → ℕ → Pair
+pair_at ps k = slice_index_or ps k (pair 0 0 (pos 0))
+
 -- pairs that are given, at these costs or better ones
 abbrev pub AreGiven : ListedCosts → List Pair → Type 0
 AreGiven l ps = (p : Pair) → Contains ps p → IsRead l.sense l.rows (length l.rows) l.m p.person p.object p.cost

@@ -4,6 +4,7 @@ use Rattle.std.specs.Prelude.{◌≡◌, ◌≢◌, ◌⊎◌, ℕ, zero, suc, �
 use Rattle.assign_core.specs.Numbered.{IsNumber}
 use Rattle.ranking_checker.specs.declared.tree.Tree.{Tree}
 use Rattle.ranking_checker.specs.declared.limits.Closed.{Closed}
+use Rattle.ranking_checker.specs.declared.pairs.Pair.{Pair}
 use Rattle.ranking_checker.specs.Ranking.{plan_of}
 
 -- lists of the right lengths, with places of plans and numbers of persons
@@ -45,3 +46,7 @@ leaf_of tree ys = leaf_upto tree ys (tree.count - 1)
 pub record Obey (ys kept : List ℕ) (closed : List Closed) : Type 0 where
   pub keep : (k : ℕ) → (slice_index_or kept k 0 ≡ 0) ⊎ (slice_index_or ys k 0 ≡ slice_index_or kept k 0)
   pub avoid : All (λ c. object_in ys c.person ≢ c.object) closed
+
+-- some objects that obey limits have the pair
+abbrev pub CanHave : List ℕ → List Closed → Pair → Type 0
+CanHave kept closed p = (ys : List ℕ) × Obey ys kept closed × (object_in ys p.person ≡ p.object)
