@@ -39,11 +39,18 @@ costs_of ps = map (λ p. p.cost) ps
 abbrev pub triples_in_part : List Pair → List Triple
 triples_in_part ps = triples_of (persons_of ps) (objects_of ps) (costs_of ps)
 
+-- the costs of listed pairs
+abbrev pub lists_of : Sense → ℕ → ℕ → List ℕ → List ℕ → List ℤ → ListedCosts
+lists_of sense m n persons objects costs = record { sense = sense; m = m; rows = rows_given sense (triples_of persons objects costs) m 1 n }
+
 same_pair : (a b c : ℕ) (d : ℕ) (x y : ℤ) → a ≡ b → c ≡ d → x ≡ y → pair a c x ≡ pair b d y
 same_pair a b c d x y e f g = rw (e, f, g) refl
 
-same_triple : (p : Pair) (i j : ℕ) (c : ℤ) → p ≡ pair i j c → (p.person, p.object, p.cost) ≡ (i, j, c)
-same_triple p i j c e = ap (λ (q : Pair). (q.person, q.object, q.cost)) e
+abbrev triple_of : Pair → Triple
+triple_of p = (p.person, p.object, p.cost)
+
+same_triple : (p : Pair) (i j : ℕ) (c : ℤ) → p ≡ pair i j c → triple_of p ≡ triple_of (pair i j c)
+same_triple p i j c e = ap triple_of e
 
 pub pair_from : (ps : List Pair) (i j : ℕ) (c : ℤ) → Contains (triples_in_part ps) (i, j, c) → Contains ps (pair i j c)
 pair_from [] i j c h = absurd (omega (arith, h.1))
@@ -185,3 +192,7 @@ module _ (bound : ℤ) (l : ListedCosts) (xs : List ℕ) (prices : List ℤ) (tr
         (listed_in_part l ps part_given ys listed (part_has ys listed at low));
     cost = λ ys listed at low. ap (λ (p : ListedCosts). total p.rows ys) is ∙ total_in_part l ps part_given ys listed (part_has ys listed at low);
   }
+
+pub same_lists : (s t : Sense) (m k n j : ℕ) (ps qs os xs : List ℕ) (cs ds : List ℤ) → s ≡ t → m ≡ k → n ≡ j → ps ≡ qs → os ≡ xs → cs ≡ ds →
+    lists_of s m n ps os cs ≡ lists_of t k j qs xs ds
+same_lists s t m k n j ps qs os xs cs ds a b c d e f = rw (a, b, c, d, e, f) refl

@@ -1,5 +1,5 @@
 -- The first of all assignments by their costs, as plans that stand one after the other.
-use Rattle.std.specs.Prelude.{◌≡◌, ◌≢◌, ℕ, ◌<◌, ◌+◌, ◌-◌, ◌*◌, List, length, take, drop}
+use Rattle.std.specs.Prelude.{◌≡◌, ◌≢◌, ℕ, ℤ, pos, ◌<◌, ◌-◌, ◌*◌, List, length, take, drop, slice_index_or}
 use Rattle.assign_core.specs.declared.sense.Sense.{Sense}
 use Rattle.assign_core.specs.Rows.{Listing}
 use Rattle.assign_core.specs.Assignment.{IsAssignment, IsNoWorse, total}
@@ -33,3 +33,8 @@ pub record AreFirst (sense : Sense) (rows : List Listing) (count : ℕ) (plans :
 pub record AreAll (sense : Sense) (rows : List Listing) (count : ℕ) (plans : List ℕ) : Type 0 where
   pub order : AreInOrder sense rows count plans
   pub all : (ys : List ℕ) → IsAssignment rows ys → IsAmong (length rows) count plans ys
+
+-- the cost of each plan
+pub record AreCosts (rows : List Listing) (count : ℕ) (plans : List ℕ) (costs : List ℤ) : Type 0 where
+  pub long : length costs ≡ count
+  pub each : (t : ℕ) → t < count → slice_index_or costs t (pos 0) ≡ total rows (plan_of (length rows) t plans)

@@ -7,4 +7,9 @@ mod core;
 mod limits;
 mod pairs;
 mod part;
+mod ranked;
+mod totals;
 mod tree;
+
+pub use ranked::{Ranking, are_first};
+pub use totals::more_by;

@@ -5,7 +5,7 @@ ghost use Rattle.cost_lists.specs.Exact.{IsOptimum};
 ghost use Rattle.cost_lists.specs.ListedCosts.{AreInLimits};
 ghost use Rattle.plan_checker.specs.Ranks.{AreRanked};
 ghost use Rattle.ranking_checker.specs.Ranking.{plan_of};
-ghost use Rattle.ranking_checker.specs.inside.Adding.{AddsFrom};
+ghost use Rattle.ranking_checker.specs.inside.Adding.{Adds, AddsFrom};
 ghost use Rattle.ranking_checker.specs.inside.Core.{AreCore, AreGiven, pair_at};
 ghost use Rattle.ranking_checker.specs.inside.Parts.{IsShown};
 ghost use Rattle.ranking_checker.specs.inside.Trees.{CanHave, IsTree, Obey, object_in};
@@ -60,6 +60,18 @@ fn may_have(limits: &Limits, pair: Pair) -> bool
         && !is_closed(limits.closed.as_slice(), pair.person, pair.object)
 }
 
+// Adds a pair that an assignment of a part may have.
+fn add_open(pairs: &mut Vec<Pair>, limits: &Limits, pair: Pair) -> Result<(), AllocError>
+    requires { IsNumber (length limits.now.kept.items) pair.person }
+    ensures { IfOk result (λ _. Adds (CanHave limits.now.kept.items limits.now.closed.items) pair
+        pairs.old.items pairs.new.items) }
+{
+    if may_have(limits, pair) {
+        pairs.push(pair)?;
+    }
+    Ok(())
+}
+
 // Those of the pairs that an assignment of a part may have.
 fn pairs_of(alloc: Global, core: &[Pair], limits: &Limits) -> Result<Vec<Pair>, AllocError>
     requires { All (λ p. IsNumber (length limits.now.kept.items) p.person) core.now }
@@ -68,9 +80,7 @@ fn pairs_of(alloc: Global, core: &[Pair], limits: &Limits) -> Result<Vec<Pair>, 
 {
     let mut pairs = Vec::new(alloc);
     for k in 0..core.len() {
-        if may_have(limits, core[k]) {
-            pairs.push(core[k])?;
-        }
+        add_open(&mut pairs, limits, core[k])?;
     }
     Ok(pairs)
 }

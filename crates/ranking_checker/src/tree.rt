@@ -1,6 +1,8 @@
 // Trees of plans, and where an assignment falls.
-ghost use Rattle.std.specs.Prelude.{◌≡◌, ◌<◌, ℕ, IsTrue, length};
+ghost use Rattle.std.specs.Prelude.{◌≡◌, ◌<◌, ◌*◌, ◌↔◌, ℕ, IsTrue, length};
+ghost use Rattle.assign_core.specs.Numbered.{IsNumber};
 ghost use Rattle.ranking_checker.specs.Ranking.{plan_of};
+ghost use Rattle.ranking_checker.specs.inside.Parts.{HaveParts};
 ghost use Rattle.ranking_checker.specs.inside.Trees.{IsTree, leaf_of, leaf_upto, next_leaf};
 
 use cost_lists::{Object, Person};
@@ -56,4 +58,50 @@ pub fn part_of_objects(tree: Tree<'_>, objects: &[Object]) -> usize
         part = next_of(tree, objects, u, part);
     }
     part
+}
+
+// Whether a list has so many parts of n elements.
+fn has_parts(length: usize, count: usize, n: usize) -> bool
+    ensures { IsTrue result ↔ (length ≡ count * n) }
+{
+    count.checked_mul(n) == Some(length)
+}
+
+// Whether there is such a parent and such a person.
+fn is_step(count: usize, n: usize, parent: u32, person: Person) -> bool
+    ensures { IsTrue result ↔ ((parent < count) × IsNumber n person) }
+{
+    (parent as usize) < count && 0 < person && person as usize <= n
+}
+
+// Whether these are lists of the right lengths, with parents and persons of which each exists.
+pub fn is_tree(tree: Tree<'_>) -> bool
+    ensures { IsTrue result → IsTree tree.entry }
+{
+    let count = tree.count;
+    if count == 0 || tree.parents.len() != count || tree.persons.len() != count {
+        return false;
+    }
+    if !has_parts(tree.plans.len(), count, tree.n) {
+        return false;
+    }
+    for u in 1..count {
+        if !is_step(count, tree.n, tree.parents[u], tree.persons[u]) {
+            return false;
+        }
+    }
+    true
+}
+
+// Whether each plan lies in its own part.
+pub fn have_parts(tree: Tree<'_>) -> bool
+    requires { IsTree tree }
+    ensures { IsTrue result → HaveParts tree.entry }
+{
+    for t in 0..tree.count {
+        if part_of_objects(tree, plan_at(tree, t)) != t {
+            return false;
+        }
+    }
+    true
 }
