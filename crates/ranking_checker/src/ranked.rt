@@ -202,11 +202,11 @@ pub fn are_first(
     is_all: bool,
 ) -> Result<Option<Vec<Cost>>, AllocError>
     requires { IsOptimum lists.now objects.now prices.now }
-    ensures first { let (l, r) = (lists.now, ranking.entry) in IfOk result (λ found. IfSome found
+    ensures first { let l = lists.now in let r = ranking.entry in IfOk result (λ found. IfSome found
         (λ totals. AreFirst l.sense l.rows r.count r.plans.now)) }
-    ensures all { let (l, r) = (lists.now, ranking.entry) in IfOk result (λ found. IfSome found
+    ensures all { let l = lists.now in let r = ranking.entry in IfOk result (λ found. IfSome found
         (λ totals. IsTrue is_all → AreAll l.sense l.rows r.count r.plans.now)) }
-    ensures costs { let (l, r) = (lists.now, ranking.entry) in IfOk result (λ found. IfSome found
+    ensures costs { let l = lists.now in let r = ranking.entry in IfOk result (λ found. IfSome found
         (λ totals. AreCosts l.rows r.count r.plans.now totals.items)) }
 {
     let tree = Tree {

@@ -1,4 +1,4 @@
-use Rattle.std.proofs.Common.{◌≡◌, ◌≢◌, pos, length, ap, sym, subst, rules, ◌∙◌, SFits, w64}
+use Rattle.std.proofs.Common.{◌≡◌, ◌≢◌, pos, length, replicate, ap, sym, subst, rules, ◌∙◌, SFits, w64}
 use Rattle.std.specs.List.{All}
 use Rattle.std.proofs.lemmas.Int.{to_z-of_z}
 use Rattle.std.proofs.lemmas.List.{length-replicate}
@@ -16,7 +16,8 @@ first_given_twice-requires-clause-within c =
     let xs = c.args.plan.now in
     let all = subst (All (λ z. z ≢ UNLISTED)) c.as_slice.ensures.value (c.are_listed.ensures.0 c.if-not-are_listed.false) in
     let listed = listed_all l xs c.in_ok-own.own.items c.in_ok-own.ensures c.requires all in
-    let long = ap length (c.as_mut_slice.ensures.value ∙ c.in_ok-counts.ensures.items) ∙ length-replicate c.objects-m.result 0 ∙ c.objects-m.ensures.count in
+    let zeros : c.in_ok-counts.counts.items ≡ replicate c.objects-m.result 0 = search rules in
+    let long = ap length (c.as_mut_slice.ensures.value ∙ zeros) ∙ length-replicate c.objects-m.result 0 ∙ c.objects-m.ensures.count in
     subst (λ k. All (IsNumber k) xs) (sym long) (All-from_recursion (IsNumber l.m) xs
     (objects_within l.m l.rows xs c.persons-persons.ensures.rule.within listed))
 
