@@ -6,8 +6,10 @@
 mod arcs;
 mod nearest;
 mod pricing;
+mod ranking;
 mod search;
 mod values;
 mod walk;
 
+pub use ranking::{Ranking, find_ranking};
 pub use search::{Found, Shown, find_other};

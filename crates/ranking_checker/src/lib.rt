@@ -11,5 +11,5 @@ mod ranked;
 mod totals;
 mod tree;
 
-pub use ranked::{Ranking, are_first};
+pub use ranked::{RankedPlans, are_first};
 pub use totals::more_by;

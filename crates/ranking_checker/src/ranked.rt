@@ -28,7 +28,7 @@ use std::alloc::{AllocError, Global};
 /// object for that plan's person isn't the parent's. For each part there are prices and ranks of all
 /// objects, and so many further lists of prices, for the pairs that the part's assignments can have.
 #[derive(Clone, Copy)]
-pub struct Ranking<'a> {
+pub struct RankedPlans<'a> {
     /// How many plans there are.
     pub count: usize,
     /// An object for each person, of each plan.
@@ -55,7 +55,7 @@ fn cut<T>(list: &[T], start: usize, count: usize) -> Option<&[T]> {
 
 // What is said of the plan at a place, whose further lists begin at some place.
 fn showing_at<'a>(
-    ranking: Ranking<'a>,
+    ranking: RankedPlans<'a>,
     m: usize,
     place: usize,
     start: usize,
@@ -104,7 +104,7 @@ fn are_shown(
     base: Base<'_>,
     core: &[Pair],
     tree: Tree<'_>,
-    ranking: Ranking<'_>,
+    ranking: RankedPlans<'_>,
     totals: &[Cost],
     is_all: bool,
 ) -> Result<bool, AllocError>
@@ -141,7 +141,7 @@ fn are_least(
     objects: &[Object],
     prices: &[Price],
     tree: Tree<'_>,
-    ranking: Ranking<'_>,
+    ranking: RankedPlans<'_>,
     totals: &[Cost],
     is_all: bool,
 ) -> Result<bool, AllocError>
@@ -198,7 +198,7 @@ pub fn are_first(
     lists: &CostLists<'_>,
     objects: &[Object],
     prices: &[Price],
-    ranking: Ranking<'_>,
+    ranking: RankedPlans<'_>,
     is_all: bool,
 ) -> Result<Option<Vec<Cost>>, AllocError>
     requires { IsOptimum lists.now objects.now prices.now }
