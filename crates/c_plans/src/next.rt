@@ -1,9 +1,8 @@
 // Proved answers to which plan is the next best.
-ghost use Rattle.std.specs.Prelude.{◌≡◌, ◌≢◌, ◌-ℤ◌, List, ℕ, ℤ, true, IfOk, IfSome, IsTrue};
+ghost use Rattle.std.specs.Prelude.{◌≡◌, ◌≢◌, List, ℕ, ℤ, true, IfOk, IfSome, IsTrue};
 ghost use Rattle.assign_core.specs.Assignment.{AreListed, IsAssignment};
 ghost use Rattle.cost_lists.specs.Exact.{IsOptimum};
 ghost use Rattle.cost_lists.specs.ListedCosts.{ListedCosts};
-ghost use Rattle.cost_lists.specs.Own.{minimised};
 ghost use Rattle.exact_checker.specs.Verdicts.{IsVerdict};
 ghost use Rattle.plan_checker.specs.Next.{IsOnlyAssignment};
 ghost use Rattle.c_plans.specs.NextAnswers.{CostsMore, IsNext, IsNextAnswer};
