@@ -106,9 +106,7 @@ pub fn ranked_on(
     let lists = lists_of(shape, input);
     let count = totals.len();
     match ranked_after(alloc, &lists, objects, prices, count, arc_scans) {
-        Ok(answer) => put_ranked(
-            &lists, objects, prices, &answer, plans, totals, found, info,
-        ),
+        Ok(answer) => put_ranked(&lists, objects, prices, &answer, plans, totals, found, info),
         Err(_) => refuse(Fault::Memory, info),
     }
 }

@@ -1,15 +1,14 @@
 -- The core of costs that are read.
-use Rattle.std.proofs.Common.{◌≡◌, ◌⊎◌, ℕ, ℤ, pos, ◌+ℤ◌, ◌<ℤ◌, ◌<◌, ◌+◌, ◌-◌, List, [], Some, length, get_or, refl, arith, ap, sym, subst, ◌∙◌, inl, inr}
+use Rattle.std.proofs.Common.{◌≡◌, ℕ, ℤ, pos, ◌+ℤ◌, ◌<ℤ◌, ◌+◌, ◌-◌, List, [], Some, length, get_or, refl, arith, ap, sym, subst, ◌∙◌, inl, inr}
 use Rattle.std.specs.List.{All, Contains}
 use Rattle.std.proofs.lemmas.Int.{ints}
 use Rattle.assign_core.specs.Numbered.{IsNumber}
-use Rattle.assign_core.specs.Rows.{Listing, listed_in, row_of}
+use Rattle.assign_core.specs.Rows.{listed_in, row_of}
 use Rattle.assign_core.specs.Dense.{rows_cut}
 use Rattle.assign_core.specs.Assignment.{AreListed}
 use Rattle.assign_core.specs.Prices.{price_of}
 use Rattle.assign_core.specs.Sparse.{IsTripleAmong}
 use Rattle.assign_core.proofs.NumberedLemmas.{numbered-index}
-use Rattle.dual_checker.specs.Faults.{own_object}
 use Rattle.cost_lists.specs.declared.source.Pairs.{Pairs}
 use Rattle.cost_lists.specs.Blocks.{reduced_sum}
 use Rattle.cost_lists.specs.Given.{IsBestGiven, best_given, rows_given}
@@ -28,7 +27,7 @@ use Rattle.ranking_checker.specs.declared.core.Base.{Base}
 use Rattle.ranking_checker.specs.declared.pairs.Pair.{Pair}
 use Rattle.ranking_checker.specs.inside.Adding.{AddsFrom, AreOfRows}
 use Rattle.ranking_checker.specs.inside.Bases.{IsBase, IsLow, cut_pair_at, listed_pair, sum_at}
-use Rattle.ranking_checker.specs.inside.Core.{AreCore, AreGiven, pair}
+use Rattle.ranking_checker.specs.inside.Core.{AreCore, pair}
 
 module _ (l : ListedCosts) (b : Base) (are : IsBase (length l.rows) l.m b) (same : b.sense ≡ l.sense)
     (own : AreOwnCosts l.sense l.rows b.objects.now b.own.now) (listed : AreListed l.rows b.objects.now) where

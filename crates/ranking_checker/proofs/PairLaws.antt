@@ -1,5 +1,5 @@
 -- Rows of the pairs of a part: its assignments cost there what they cost in all.
-use Rattle.std.proofs.Common.{◌≡◌, ◌⊎◌, ℕ, ℤ, pos, zero, suc, ◌≤ℤ◌, ◌<ℤ◌, ◌+ℤ◌, ◌<◌, ◌≤◌, ◌-◌, List, [], ◌∷◌, Option, None, Some, IsSome, map, length, get_or, refl, arith, inl, inr, sym, ap, subst, ◌∙◌}
+use Rattle.std.proofs.Common.{◌≡◌, ℕ, ℤ, pos, zero, suc, ◌<◌, ◌≤◌, ◌-◌, List, [], ◌∷◌, Option, None, Some, IsSome, map, length, get_or, refl, arith, inl, inr, sym, ap, subst, ◌∙◌}
 use Rattle.std.specs.List.{All, Contains}
 use Rattle.std.proofs.lemmas.Int.{ints}
 use Rattle.std.proofs.lemmas.List.{get_or_default, length-map}

@@ -1,12 +1,9 @@
 -- In each part no assignment but its plan is cheaper than the last plan.
-use Rattle.std.proofs.Common.{◌≡◌, ◌≢◌, ◌⊎◌, ℕ, ℤ, pos, zero, suc, ◌+ℤ◌, ◌-ℤ◌, ◌≤ℤ◌, ◌<ℤ◌, ◌<◌, ◌≤◌, ◌-◌, ◌+◌, ◌*◌, List, [], ◌∷◌, Bool, true, false, IsTrue, length, get_or, refl, arith, rules, inl, inr, sym, ap, subst, ◌∙◌}
-use Rattle.std.specs.List.{All}
+use Rattle.std.proofs.Common.{◌≡◌, ◌≢◌, ℕ, ℤ, pos, zero, suc, ◌+ℤ◌, ◌-ℤ◌, ◌≤ℤ◌, ◌<ℤ◌, ◌<◌, ◌≤◌, ◌-◌, ◌+◌, ◌*◌, List, [], Bool, true, false, IsTrue, length, get_or, refl, arith, rules, inl, inr, ap, subst, ◌∙◌}
 use Rattle.std.proofs.lemmas.Int.{ints, by_lt_z}
 use Rattle.std.proofs.lemmas.Bool.{cases_lt}
 use Rattle.assign_core.specs.declared.sense.Sense.{Sense}
 use Rattle.assign_core.specs.declared.sense.Sense.TheVariants.{Min, Max}
-use Rattle.assign_core.specs.Numbered.{IsNumber}
-use Rattle.assign_core.specs.Rows.{Listing}
 use Rattle.assign_core.specs.Assignment.{IsAssignment, IsNoWorse, total}
 use Rattle.cost_lists.specs.Exact.{IsOptimum}
 use Rattle.cost_lists.specs.ListedCosts.{AreInLimits, ListedCosts}
@@ -19,7 +16,7 @@ use Rattle.plan_checker.proofs.RankLaws.{below_all, optimum_bounds, pair_within,
 use Rattle.ranking_checker.specs.declared.tree.Tree.{Tree}
 use Rattle.ranking_checker.specs.Ranking.{AreAll, AreCosts, AreFirst, AreInOrder, IsAmong, plan_of}
 use Rattle.ranking_checker.specs.inside.Core.{AreLow}
-use Rattle.ranking_checker.specs.inside.Parts.{AreLeast, AreTotals, HaveParts, IsPart, IsShown, Rise, bound_of, margin_at}
+use Rattle.ranking_checker.specs.inside.Parts.{AreLeast, AreTotals, HaveParts, IsShown, Rise, bound_of, margin_at}
 use Rattle.ranking_checker.specs.inside.Trees.{IsTree, leaf_of}
 use Rattle.ranking_checker.proofs.TreeLaws.{leaf_low}
 
@@ -162,7 +159,7 @@ module _ (l : ListedCosts) (xs : List ℕ) (prices : List ℤ) (limits : AreInLi
             leaf_of tree ys,
             leaf_in ys,
             none_in_part l xs prices limits o tree (leaf_of tree ys)
-            (subst (λ b. IsShown b l xs prices tree (leaf_of tree ys) NO_BOUND) bound_is (shown (leaf_of tree ys) (leaf_in ys))) ys g refl,
+                (subst (λ b. IsShown b l xs prices tree (leaf_of tree ys) NO_BOUND) bound_is (shown (leaf_of tree ys) (leaf_in ys))) ys g refl,
           ) in
           record { others = λ ys g none. absurd (none (all ys g)); all = λ _. all }
 

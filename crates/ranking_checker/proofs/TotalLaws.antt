@@ -1,9 +1,9 @@
 -- Costs of plans.
-use Rattle.std.proofs.Common.{◌≡◌, ◌≢◌, ℕ, ℤ, pos, ◌<◌, ◌≤◌, ◌+◌, List, [], Option, None, Some, IsSome, length, get_or, arith, refl, ap, sym, subst, inl, inr, ◌++◌, ◌∷◌, ◌∙◌}
+use Rattle.std.proofs.Common.{◌≡◌, ◌≢◌, ℕ, ℤ, pos, ◌<◌, ◌+◌, List, [], Option, None, Some, IsSome, length, get_or, arith, refl, ap, sym, subst, inl, inr, ◌++◌, ◌∷◌, ◌∙◌}
 use Rattle.std.specs.List.{All}
 use Rattle.std.proofs.lemmas.List.{get_or_append_left, get_or_push, length_push}
 use Rattle.assign_core.specs.declared.sense.Sense.{Sense}
-use Rattle.assign_core.specs.Numbered.{IsNumber, numbered}
+use Rattle.assign_core.specs.Numbered.{numbered}
 use Rattle.assign_core.specs.Rows.{Listing, listed_in, row_of}
 use Rattle.assign_core.specs.Assignment.{AreListed, IsAssignment, total}
 use Rattle.assign_core.proofs.NumberedLemmas.{All-numbered, low_or_same}

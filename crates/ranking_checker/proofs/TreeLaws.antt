@@ -5,7 +5,7 @@ use Rattle.std.proofs.lemmas.Bool.Decides.{eqb_tells}
 use Rattle.std.proofs.lemmas.List.{get_or_past, get_or-set_other, get_or-set_same, length-set}
 use Rattle.ranking_checker.specs.declared.tree.Tree.{Tree}
 use Rattle.ranking_checker.specs.Ranking.{plan_of}
-use Rattle.ranking_checker.specs.inside.Trees.{leaf_of, leaf_upto, next_leaf, object_in, parent_at, person_at}
+use Rattle.ranking_checker.specs.inside.Trees.{leaf_upto, next_leaf, object_in, parent_at, person_at}
 
 -- a person keeps one more object
 pub keep_more : (ys kept : List ℕ) (p x : ℕ) → ((k : ℕ) → (get_or kept k 0 ≡ 0) ⊎ (get_or ys k 0 ≡ get_or kept k 0)) → get_or ys p 0 ≡ x →

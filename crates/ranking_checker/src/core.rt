@@ -109,11 +109,7 @@ fn core_of_rows(alloc: Global, base: Base<'_>, costs: &[Cost]) -> Result<Vec<Pai
 }
 
 // The core of listed pairs.
-fn core_of_pairs(
-    alloc: Global,
-    base: Base<'_>,
-    listed: Pairs<'_>,
-) -> Result<Vec<Pair>, AllocError>
+fn core_of_pairs(alloc: Global, base: Base<'_>, listed: Pairs<'_>) -> Result<Vec<Pair>, AllocError>
     requires base { IsBase (length base.own.now) (length base.prices.now) base }
     requires pairs { ArePairs (length base.own.now) (length base.prices.now) listed }
     ensures { IfOk result (λ pairs. AddsFrom (IsLow base.entry) (listed_pair listed.entry)

@@ -1,5 +1,5 @@
 -- Pairs of low reduced cost.
-use Rattle.std.specs.Prelude.{◌≡◌, ◌≢◌, ℕ, ℤ, pos, ◌-◌, ◌+ℤ◌, ◌<ℤ◌, List, Some, Contains, length, slice_index_or}
+use Rattle.std.specs.Prelude.{◌≡◌, ℕ, ℤ, pos, ◌+ℤ◌, ◌<ℤ◌, List, Some, Contains, length, slice_index_or}
 use Rattle.assign_core.specs.Numbered.{IsNumber}
 use Rattle.assign_core.specs.Rows.{listed_in, row_of}
 use Rattle.cost_lists.specs.Blocks.{reduced_sum}

@@ -1,6 +1,6 @@
 -- Trees of plans: each plan but the first parts from an earlier one at a person, and each assignment falls into the part of
 -- one plan.
-use Rattle.std.specs.Prelude.{◌≡◌, ◌≢◌, ◌⊎◌, ℕ, zero, suc, ◌<◌, ◌≤◌, ◌-◌, ◌*◌, List, length, slice_index_or, All, not, ◌==◌, ◌&&◌, if◌then◌else◌}
+use Rattle.std.specs.Prelude.{◌≡◌, ◌≢◌, ◌⊎◌, ℕ, zero, suc, ◌<◌, ◌-◌, ◌*◌, List, length, slice_index_or, All, not, ◌==◌, ◌&&◌, if◌then◌else◌}
 use Rattle.assign_core.specs.Numbered.{IsNumber}
 use Rattle.ranking_checker.specs.declared.tree.Tree.{Tree}
 use Rattle.ranking_checker.specs.declared.limits.Closed.{Closed}

@@ -1,6 +1,5 @@
 use Rattle.std.proofs.Common.{pos, get_or, rules, SFits, w64}
 use Rattle.std.proofs.lemmas.Int.{to_z-of_z}
-use Rattle.ranking_checker.specs.inside.Adding.{Adds}
 use Rattle.ranking_checker.specs.inside.Bases.{IsLow, row_pair}
 use Rattle.ranking_checker.proofs.AddLaws.{none_yet, one_more}
 use Rattle.ranking_checker.proofs.core.add_row.Goals as goal

@@ -1,4 +1,4 @@
-use Rattle.std.proofs.Common.{◌≡◌, ◌+◌, length, pos, get_or, rules, subst, sym}
+use Rattle.std.proofs.Common.{◌+◌, length, subst}
 use Rattle.cost_lists.specs.Source.{part_of}
 use Rattle.cost_lists.proofs.CutRows.{part_fits, part_long}
 use Rattle.ranking_checker.specs.inside.Adding.{AddsFrom}

@@ -1,4 +1,4 @@
-use Rattle.std.proofs.Common.{ℕ, pos, ◌-◌, get_or, refl, arith, rules, sym, ◌∙◌, SFits, w64}
+use Rattle.std.proofs.Common.{ℕ, pos, ◌-◌, get_or, arith, rules, SFits, w64}
 use Rattle.std.proofs.lemmas.Int.{ints, to_z-of_z}
 use Rattle.assign_core.specs.declared.sense.Sense.TheVariants.{Min}
 use Rattle.assign_core.specs.Rows.{IsCost}

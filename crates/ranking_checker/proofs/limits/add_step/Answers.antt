@@ -1,6 +1,6 @@
-use Rattle.std.proofs.Common.{◌≡◌, ◌≢◌, ℕ, List, length, [], ◌∷◌, ◌++◌, get_or, sym, ap, ◌∙◌, arith}
+use Rattle.std.proofs.Common.{◌≢◌}
 use Rattle.std.proofs.lemmas.List.Elements.{All-push}
-use Rattle.ranking_checker.specs.inside.Trees.{Obey, object_in}
+use Rattle.ranking_checker.specs.inside.Trees.{object_in}
 use Rattle.ranking_checker.proofs.TreeLaws.{keep_more, left_back, parted_back}
 use Rattle.ranking_checker.proofs.limits.add_step.Goals as goal
 

@@ -1,4 +1,4 @@
-use Rattle.std.proofs.Common.{◌≡◌, ◌++◌, ◌∷◌, [], rules, sym, ◌∙◌, SFits, w64}
+use Rattle.std.proofs.Common.{sym, ◌∙◌}
 use mathlib.Core.Bool.{true≢false}
 use Rattle.ranking_checker.specs.inside.Trees.{CanHave}
 use Rattle.ranking_checker.proofs.AddLaws.{add_none, add_one}

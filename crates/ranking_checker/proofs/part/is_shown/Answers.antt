@@ -1,13 +1,9 @@
-use Rattle.std.proofs.Common.{◌≡◌, ℕ, ℤ, List, [], length, map, sym, ap, subst, ◌∙◌}
-use Rattle.assign_core.specs.Numbered.{IsNumber}
-use Rattle.assign_core.specs.Rows.{IsCost}
-use Rattle.std.specs.List.{All}
+use Rattle.std.proofs.Common.{◌≡◌, length, sym, ap, subst, ◌∙◌}
 use Rattle.std.proofs.lemmas.Int.{to_z-of_z}
 use Rattle.std.proofs.lemmas.List.Elements.{Contains-get_or}
 use Rattle.cost_lists.specs.Exact.{IsOptimum}
-use Rattle.plan_checker.specs.Ranks.{AreRanked}
 use Rattle.ranking_checker.specs.inside.Core.{AreGiven}
-use Rattle.ranking_checker.proofs.PairLaws.{costs_in, costs_long, costs_of, is_part, lists_of, objects_in, objects_long, objects_of, part_given, persons_in, persons_of, same_lists}
+use Rattle.ranking_checker.proofs.PairLaws.{costs_in, costs_long, costs_of, is_part, objects_in, objects_long, objects_of, part_given, persons_in, persons_of, same_lists}
 use Rattle.ranking_checker.proofs.part.is_shown.Goals as goal
 
 pub pairs_of-requires : goal.pairs_of-requires

@@ -1,8 +1,7 @@
-use Rattle.std.proofs.Common.{◌≡◌, length, rules, subst, ◌∙◌}
+use Rattle.std.proofs.Common.{rules, subst}
 use Rattle.ranking_checker.specs.declared.tree.Tree.{Tree}
-use Rattle.ranking_checker.specs.inside.Parts.{AreLeast, AreTotals, HaveParts, Rise}
-use Rattle.ranking_checker.specs.inside.Trees.{IsTree}
-use Rattle.ranking_checker.proofs.PartLaws.{are_all_plans, are_costs, are_first_plans}
+use Rattle.ranking_checker.specs.inside.Parts.{AreTotals, Rise}
+use Rattle.ranking_checker.proofs.PartLaws.{are_all_plans, are_first_plans}
 use Rattle.ranking_checker.proofs.ranked.are_first.Goals as goal
 
 pub returns-then-branch-clause-first : goal.returns-then-branch-clause-first

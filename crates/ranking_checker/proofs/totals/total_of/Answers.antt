@@ -1,10 +1,10 @@
-use Rattle.std.proofs.Common.{◌≡◌, ◌≢◌, pos, length, replicate, ap, sym, subst, rules, ◌∙◌, SFits, w64}
+use Rattle.std.proofs.Common.{◌≡◌, ◌≢◌, length, replicate, ap, sym, subst, rules, ◌∙◌, SFits, w64}
 use Rattle.std.specs.List.{All}
 use Rattle.std.proofs.lemmas.Int.{to_z-of_z}
 use Rattle.std.proofs.lemmas.List.{length-replicate}
 use Rattle.std.proofs.lemmas.List.Elements.{All-from_recursion}
 use Rattle.assign_core.specs.Numbered.{IsNumber}
-use Rattle.assign_core.specs.Assignment.{AreListed, IsAssignment, total}
+use Rattle.assign_core.specs.Assignment.{IsAssignment, total}
 use Rattle.assign_core.proofs.Listed.{objects_within}
 use Rattle.cost_lists.specs.declared.numbers.TheConstants.{UNLISTED}
 use Rattle.ranking_checker.proofs.TotalLaws.{listed_all}

@@ -1,7 +1,6 @@
-use Rattle.std.proofs.Common.{◌≡◌, ℕ, pos, ◌<◌, ◌+◌, get_or, length, rules, SFits, w64, subst, sym, ap, ◌∙◌}
+use Rattle.std.proofs.Common.{◌≡◌, rules, SFits, w64, subst, ap, ◌∙◌}
 use Rattle.std.proofs.lemmas.Int.{to_z-of_z}
 use Rattle.assign_core.specs.Assignment.{IsAssignment, total}
-use Rattle.ranking_checker.specs.Ranking.{plan_of}
 use Rattle.ranking_checker.proofs.TotalLaws.{AreTotalsUpto, totals_more}
 use Rattle.ranking_checker.proofs.totals.totals_of.Goals as goal
 
