@@ -151,7 +151,7 @@ enum nushbaret_code {
 
     NUSHBARET_UNDECIDED = 23,    /* the question stays open; over doubles where plans differ by less than rounding */
     NUSHBARET_TIED = 24,         /* from nushbaret_unique: another plan is as good */
-    NUSHBARET_ALONE = 25         /* from nushbaret_next: there is no other plan */
+    NUSHBARET_ALONE = 25         /* from nushbaret_next and nushbaret_ranked: there is no other plan */
 };
 
 /* Where a search stands that a budget stopped. All 0: it begins. What the fields mean is the library's own affair, and may
@@ -289,6 +289,29 @@ int32_t nushbaret_next(uint32_t sense, size_t n, size_t m,
     uint64_t arc_scans,
     uint32_t *other, size_t other_count,
     int64_t *margin,
+    struct nushbaret_info *info);
+
+/* The first assignments in the order of their costs, after a best one: none of all others costs less than the last of them
+   (under NUSHBARET_MAX more). The problem, its objects and their prices are given as for nushbaret_check. As many are
+   asked for as there are totals, at least one; plans has n values for each.
+
+   code                  written
+   NUSHBARET_BEST        plans, one after the other; totals: what each costs; *found: how many they are
+   NUSHBARET_ALONE       the same at the front of plans and totals: there are fewer, and these are all
+   NUSHBARET_UNDECIDED   nothing: the given one is best, no more is shown
+   any other             as in nushbaret_check
+
+   No two are the same. The first one costs as much as the given one, and may be another. arc_scans is as in nushbaret_next. */
+int32_t nushbaret_ranked(uint32_t sense, size_t n, size_t m,
+    const uint32_t *of_persons, size_t of_persons_count,
+    const uint32_t *of_objects, size_t of_objects_count,
+    const int64_t *costs, size_t costs_count,
+    const uint32_t *objects, size_t objects_count,
+    const int64_t *prices, size_t prices_count,
+    uint64_t arc_scans,
+    uint32_t *plans, size_t plans_count,
+    int64_t *totals, size_t totals_count,
+    size_t *found,
     struct nushbaret_info *info);
 
 /* Looks for a plan whose worst pair is as good as possible: the greatest cost of its pairs is least, under NUSHBARET_MAX the

@@ -1,8 +1,9 @@
-/* Whether a plan is the only best one, and which is the next: what the calls say is what a search of all plans finds, each
-   fault leaves the lists as they were, and so does each refused growth. */
+/* Whether a plan is the only best one, which is the next, and which are the first: what the calls say is what a search of
+   all plans finds, each fault leaves the lists as they were, and so does each refused growth. */
 #include "calls.h"
+#include <stdlib.h>
 
-enum { ROWS = 6, COLUMNS = 7, ROOM = 60 };
+enum { ROWS = 6, COLUMNS = 7, ROOM = 60, FEW = 12, MOST_PLANS = 5040 };
 
 /* What the call reads and writes. */
 struct asked {
@@ -12,11 +13,13 @@ struct asked {
     int64_t costs[ROOM], prices[COLUMNS + 1];
     uint32_t of_persons[ROOM], of_objects[ROOM], objects[ROWS + 1], other[ROWS + 1], persons[ROWS + 1];
     int32_t ranks[COLUMNS + 1];
-    int64_t margin;
+    int64_t margin, totals[FEW];
+    uint32_t plans[FEW * ROWS];
+    size_t wanted, found;
     struct nushbaret_info info;
 };
 
-/* One of the two calls. */
+/* One of the three calls. */
 typedef int32_t question(struct asked *a);
 
 static int32_t ask_unique(struct asked *a) {
@@ -30,6 +33,13 @@ static int32_t ask_next(struct asked *a) {
     const size_t pairs = a->is_sparse ? a->pairs : 0;
     int32_t code = nushbaret_next(a->sense, a->n, a->m, a->of_persons, pairs, a->of_objects, pairs, a->costs, a->pairs,
         a->objects, a->n, a->prices, a->m, UINT64_MAX, a->other, a->n, &a->margin, &a->info);
+    return blocks == 0 ? code : -1;
+}
+
+static int32_t ask_ranked(struct asked *a) {
+    const size_t pairs = a->is_sparse ? a->pairs : 0;
+    int32_t code = nushbaret_ranked(a->sense, a->n, a->m, a->of_persons, pairs, a->of_objects, pairs, a->costs, a->pairs,
+        a->objects, a->n, a->prices, a->m, UINT64_MAX, a->plans, a->wanted * a->n, a->totals, a->wanted, &a->found, &a->info);
     return blocks == 0 ? code : -1;
 }
 
@@ -58,15 +68,16 @@ static int64_t cost_of(const struct asked *a, size_t i, size_t j) {
     return least;
 }
 
-/* All plans: how many there are, the two least sums, which may be one, and how many have the least. */
+/* All plans: how many there are, their sums, the two least, which may be one, and how many have the least. */
 struct all {
-    int64_t table[ROWS][COLUMNS], least, next;
+    int64_t table[ROWS][COLUMNS], sums[MOST_PLANS], least, next;
     size_t count, plans;
 };
 
 static void look(const struct asked *a, struct all *all, size_t i, unsigned used, int64_t sum) {
     size_t j;
     if (i == a->n) {
+        all->sums[all->plans] = sum;
         if (all->plans++ == 0 || sum < all->least) {
             all->next = all->least;
             all->least = sum;
@@ -127,6 +138,7 @@ static struct asked draw(unsigned *seed) {
     const unsigned values = 1 + drawn(seed) % 12;
     size_t k;
     memset(&a, 0, sizeof a);
+    a.wanted = 1 + drawn(seed) % FEW;
     a.n = 1 + drawn(seed) % ROWS, a.m = a.n + drawn(seed) % (COLUMNS - a.n + 1);
     a.is_sparse = drawn(seed) % 2, a.sense = drawn(seed) % 2;
     a.pairs = a.is_sparse ? 1 + drawn(seed) % ROOM : a.n * a.m;
@@ -140,7 +152,7 @@ static struct asked draw(unsigned *seed) {
 
 /* How often each answer came. */
 struct counted {
-    size_t only, tied, next, alone;
+    size_t only, tied, next, alone, first, all;
 };
 
 /* Whether another plan was written, and what it costs. */
@@ -171,9 +183,44 @@ static void judge_next(const struct asked *a, const struct all *all, int32_t cod
     counted->next++;
 }
 
+static int by_sum(const void *a, const void *b) {
+    const int64_t x = *(const int64_t *)a, y = *(const int64_t *)b;
+    return (x > y) - (x < y);
+}
+
+static void judge_ranked(const struct asked *a, const struct all *all, int32_t code, struct counted *counted) {
+    static int64_t sums[MOST_PLANS];
+    const size_t few = all->plans < a->wanted ? all->plans : a->wanted;
+    size_t s, t;
+    memcpy(sums, all->sums, all->plans * sizeof *sums);
+    qsort(sums, all->plans, sizeof *sums, by_sum);
+    WANT(code == (few < a->wanted ? NUSHBARET_ALONE : NUSHBARET_BEST) && a->found == few);
+    for (t = 0; t < few; t++) {
+        WANT(sum_of(a, all, a->plans + t * a->n) == sums[t]);
+        WANT(a->totals[t] == (a->sense == NUSHBARET_MIN ? sums[t] : -sums[t]));
+        for (s = 0; s < t; s++) WANT(memcmp(a->plans + s * a->n, a->plans + t * a->n, a->n * sizeof *a->plans) != 0);
+    }
+    if (few < a->wanted) counted->all++;
+    else counted->first++;
+}
+
+static void judge(const struct asked *a, const struct all *all, question ask, int32_t code, struct counted *counted) {
+    if (ask == ask_ranked) judge_ranked(a, all, code, counted);
+    else if (ask == ask_next) judge_next(a, all, code, counted);
+    else judge_unique(a, all, code, counted);
+}
+
 /* What an answer writes stands in both; nothing else does. */
-static int is_all_else_the_same(const struct asked *a, const struct asked *before, int is_next, int32_t code) {
+static int is_all_else_the_same(const struct asked *a, const struct asked *before, question ask, int32_t code) {
     struct asked same = *before;
+    const int is_next = ask == ask_next;
+    if (ask == ask_ranked) {
+        const size_t few = a->found < a->wanted ? a->found : a->wanted;
+        memcpy(same.plans, a->plans, few * a->n * sizeof *same.plans);
+        memcpy(same.totals, a->totals, few * sizeof *same.totals);
+        same.found = a->found;
+        return memcmp(a, &same, sizeof same) == 0;
+    }
     if (code == (is_next ? NUSHBARET_BEST : NUSHBARET_TIED)) memcpy(same.other, a->other, sizeof same.other);
     if (code == NUSHBARET_BEST && !is_next) memcpy(same.ranks, a->ranks, sizeof same.ranks);
     if (code == NUSHBARET_BEST && is_next) {
@@ -193,17 +240,15 @@ static void compare(unsigned *seed, question ask, struct counted *counted) {
     if (end != NUSHBARET_BEST) return;
     before = a;
     code = ask(&a);
-    if (ask == ask_next) judge_next(&a, &all, code, counted);
-    else judge_unique(&a, &all, code, counted);
-    WANT(is_all_else_the_same(&a, &before, ask == ask_next, code));
+    judge(&a, &all, ask, code, counted);
+    WANT(is_all_else_the_same(&a, &before, ask, code));
     if (drawn(seed) % 2) a.prices[drawn(seed) % a.m] += (int64_t)(drawn(seed) % 5) - 2;
     else a.objects[drawn(seed) % a.n] = drawn(seed) % (a.m + 2);
     before = a;
     end = check_plan(&before);
     code = ask(&a);
     if (end != NUSHBARET_BEST) WANT(code == end && memcmp(&a, &before, sizeof a) == 0);
-    else if (ask == ask_next) judge_next(&a, &all, code, counted);
-    else judge_unique(&a, &all, code, counted);
+    else judge(&a, &all, ask, code, counted);
 }
 
 /* Two persons and three objects: the plan 2, 1 is the only one of its sum; with another cost there are two. */
@@ -212,7 +257,7 @@ static struct asked worked(void) {
     struct asked a;
     size_t k;
     memset(&a, 0, sizeof a);
-    a.n = 2, a.m = 3, a.pairs = 6;
+    a.n = 2, a.m = 3, a.pairs = 6, a.wanted = 4;
     memcpy(a.costs, costs, sizeof costs);
     for (k = 0; k < 6; k++) a.of_persons[k] = (uint32_t)(k / 3 + 1), a.of_objects[k] = (uint32_t)(k % 3 + 1);
     WANT(solve_plan(&a) == NUSHBARET_BEST);
@@ -223,6 +268,10 @@ static void shown(void) {
     struct asked a = worked();
     WANT(ask_unique(&a) == NUSHBARET_BEST);
     WANT(ask_next(&a) == NUSHBARET_BEST && a.margin == 4 && a.other[0] == 1 && a.other[1] == 2);
+    WANT(ask_ranked(&a) == NUSHBARET_BEST && a.found == 4 && a.totals[0] == 3 && a.totals[1] == 7 && a.totals[3] == 11);
+    WANT(a.plans[0] == 2 && a.plans[1] == 1 && a.plans[2] == 1 && a.plans[3] == 2);
+    a.wanted = 7;
+    WANT(ask_ranked(&a) == NUSHBARET_ALONE && a.found == 6);
     a.costs[4] = -1;
     WANT(solve_plan(&a) == NUSHBARET_BEST && a.info.total == 3);
     WANT(ask_unique(&a) == NUSHBARET_TIED);
@@ -266,6 +315,12 @@ static void lengths(void) {
         &a.margin, &a.info) == NUSHBARET_LENGTH);
     WANT(nushbaret_next(0, 2, 3, a.of_persons, 0, a.of_objects, 0, a.costs, 6, a.objects, 2, a.prices, 3, 0, a.other, 2,
         &a.margin, &a.info) == NUSHBARET_UNDECIDED);
+    WANT(nushbaret_ranked(0, 2, 3, a.of_persons, 0, a.of_objects, 0, a.costs, 6, a.objects, 2, a.prices, 3, 9, a.plans, 0,
+        a.totals, 0, &a.found, &a.info) == NUSHBARET_LENGTH);
+    WANT(nushbaret_ranked(0, 2, 3, a.of_persons, 0, a.of_objects, 0, a.costs, 6, a.objects, 2, a.prices, 3, 9, a.plans, 5,
+        a.totals, 3, &a.found, &a.info) == NUSHBARET_LENGTH);
+    WANT(nushbaret_ranked(0, 2, 3, a.of_persons, 0, a.of_objects, 0, a.costs, 6, a.objects, 2, a.prices, 2, 9, a.plans, 6,
+        a.totals, 3, &a.found, &a.info) == NUSHBARET_ANSWER_LENGTH);
 }
 
 static void refused(question ask, int is_sparse, int is_tied) {
@@ -319,12 +374,19 @@ void test_plans(void) {
     shown();
     faults(ask_unique);
     faults(ask_next);
+    faults(ask_ranked);
     lengths();
-    for (k = 0; k < 4; k++) refused(ask_unique, k / 2, k % 2), refused(ask_next, k / 2, k % 2);
+    for (k = 0; k < 4; k++) {
+        refused(ask_unique, k / 2, k % 2);
+        refused(ask_next, k / 2, k % 2);
+        refused(ask_ranked, k / 2, k % 2);
+    }
     ring(100000, 0, 0);
     ring(100000, 1, 0);
     ring(100000, 0, 1);
     for (k = 0; k < 6000; k++) compare(&seed, ask_unique, &counted), compare(&seed, ask_next, &counted);
+    for (k = 0; k < 3000; k++) compare(&seed, ask_ranked, &counted);
+    WANT(counted.first > 500 && counted.all > 500);
     WANT(counted.only > 1000 && counted.tied > 1000);
     WANT(counted.next > 1000 && counted.alone > 100);
 }

@@ -4,6 +4,7 @@ use Rattle.c_calls.specs.declared.fault.Fault.TheVariants.{Memory}
 use Rattle.c_calls.specs.lists.Faults.{IsWhole}
 use Rattle.c_calls.specs.lists.Input.{InputLists}
 use Rattle.c_plans.specs.Next.{IsNextRefused, NextBuffers}
+use Rattle.c_plans.specs.Ranked.{IsRankedRefused, RankedBuffers}
 use Rattle.c_plans.specs.Unique.{IsUniqueRefused, UniqueBuffers}
 
 -- buffers that are the same, part by part
@@ -29,4 +30,16 @@ next_refused g before after code whole is other margin info = record {
   is = is;
   first = whole;
   stays = same_next after before other margin info;
+}
+
+same_ranked : (a b : RankedBuffers) → a.plans ≡ b.plans → a.totals ≡ b.totals → a.found ≡ b.found → a.info ≡ b.info → a ≡ b
+same_ranked a b plans totals found info = rw (plans, totals, found, info) refl
+
+pub ranked_refused : (g : InputLists) (before after : RankedBuffers) (code : ℤ) → IsWhole g → code ≡ pos 9 →
+    after.plans ≡ before.plans → after.totals ≡ before.totals → after.found ≡ before.found → after.info ≡ before.info → IsRankedRefused g before after code
+ranked_refused g before after code whole is plans totals found info = record {
+  fault = Memory;
+  is = is;
+  first = whole;
+  stays = same_ranked after before plans totals found info;
 }

@@ -2,3 +2,5 @@ pub mod Answers
 pub mod Next
 pub mod NextAnswers
 pub mod Unique
+pub mod Ranked
+pub mod RankedAnswers

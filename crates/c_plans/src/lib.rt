@@ -5,7 +5,10 @@
 mod answer;
 mod next;
 mod next_plan;
+mod ranked;
+mod ranked_plans;
 mod unique;
 
 pub use next_plan::next_on;
+pub use ranked_plans::{length_of_each, ranked_on};
 pub use unique::unique_on;

@@ -1,19 +1,19 @@
 // Proved answers to which plan is the next best.
-ghost use Rattle.std.specs.Prelude.{◌≡◌, ◌≢◌, ◌-ℤ◌, List, ℕ, ℤ, true, IfOk, IfSome, IsTrue};
+ghost use Rattle.std.specs.Prelude.{◌≡◌, ◌≢◌, List, ℕ, ℤ, true, IfOk, IfSome, IsTrue};
 ghost use Rattle.assign_core.specs.Assignment.{AreListed, IsAssignment};
 ghost use Rattle.cost_lists.specs.Exact.{IsOptimum};
 ghost use Rattle.cost_lists.specs.ListedCosts.{ListedCosts};
-ghost use Rattle.cost_lists.specs.Own.{minimised};
 ghost use Rattle.exact_checker.specs.Verdicts.{IsVerdict};
 ghost use Rattle.plan_checker.specs.Next.{IsOnlyAssignment};
 ghost use Rattle.c_plans.specs.NextAnswers.{CostsMore, IsNext, IsNextAnswer};
 
 use super::answer::differ;
-use assign_core::{Cost, Sense};
+use assign_core::Cost;
 use cost_lists::{CostLists, Object, Price};
 use exact_checker::{Verdict, check};
 use plan_checker::{NO_BOUND, are_ranked, ranks_mean_alone, ranks_mean_next};
 use plan_search::{Found, Shown, find_other};
+use ranking_checker::more_by;
 use std::alloc::{AllocError, Global};
 
 /// What another plan costs.
@@ -67,16 +67,6 @@ fn is_another(
     }
     let verdict = check(alloc, lists, other, prices)?;
     Ok(is_assigned(verdict))
-}
-
-// How much more a second sum is than the first one, if that fits; under Max, how much less.
-fn more_by(sense: Sense, first: Cost, second: Cost) -> Option<Cost>
-    ensures { IfSome result (λ more. more ≡ minimised sense second -ℤ minimised sense first) }
-{
-    match sense {
-        Sense::Min => second.checked_sub(first),
-        Sense::Max => first.checked_sub(second),
-    }
 }
 
 // What a second assignment costs, and how much more than the first one, if that fits.

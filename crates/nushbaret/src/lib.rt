@@ -9,6 +9,7 @@ mod counts;
 mod dense;
 mod doubles;
 mod next;
+mod ranked;
 mod rows;
 mod sparse;
 mod unique;
@@ -23,6 +24,7 @@ pub use counts::{
 pub use dense::{nushbaret_dense, nushbaret_dense_from};
 pub use doubles::{nushbaret_check_doubles, nushbaret_doubles, nushbaret_doubles_from};
 pub use next::nushbaret_next;
+pub use ranked::nushbaret_ranked;
 pub use rows::nushbaret_rows;
 pub use sparse::{nushbaret_sparse, nushbaret_sparse_from};
 pub use unique::nushbaret_unique;

@@ -1,0 +1,5 @@
+pub mod Adding
+pub mod Bases
+pub mod Core
+pub mod Parts
+pub mod Trees
