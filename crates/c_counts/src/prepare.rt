@@ -1,15 +1,19 @@
 // Lists in the form that the search reads. Nothing here is trusted: the checkers judge what it finds.
 use assign_core::{Cost, Sense};
 use count_checker::CountLists;
+use count_search::Problem;
 use std::alloc::{AllocError, Global};
 
-/// Where the pairs of each row begin, the columns from 0, and the costs as ones to minimise.
+/// Where the pairs of each row begin, and the costs as ones to minimise. The search numbers columns from
+/// 0, the lists from 1: so a column 0 that nobody takes stands before theirs, and pairs aren't copied.
 #[derive(Drop)]
 pub struct Prepared {
-    pub starts: Vec<usize>,
-    pub columns: Vec<u32>,
+    starts: Vec<usize>,
     // The costs with the other sign under Max; under Min they are read where they are.
     negated: Vec<Cost>,
+    column_least: Vec<u32>,
+    column_most: Vec<u32>,
+    groups: Vec<u32>,
 }
 
 // Adds to the count of a row, at its number.
@@ -51,13 +55,14 @@ fn starts_of(alloc: Global, lists: CountLists<'_>) -> Result<Vec<usize>, AllocEr
     Ok(starts)
 }
 
-// The columns from 0.
-fn columns_of(alloc: Global, lists: CountLists<'_>) -> Result<Vec<u32>, AllocError> {
-    let mut columns = Vec::from_slice(alloc, lists.columns)?;
-    for column in columns.as_mut_slice().iter_mut() {
-        *column = column.saturating_sub(1);
+/// A list with a 0 before it.
+pub fn after_none<T: Copy + From<u8>>(alloc: Global, list: &[T]) -> Result<Vec<T>, AllocError> {
+    let mut longer = Vec::with_capacity(alloc, list.len().saturating_add(1))?;
+    longer.push(T::from(0u8))?;
+    for number in list {
+        longer.push(*number)?;
     }
-    Ok(columns)
+    Ok(longer)
 }
 
 /// A cost as one to minimise.
@@ -83,24 +88,38 @@ fn negated(alloc: Global, costs: &[Cost]) -> Result<Vec<Cost>, AllocError> {
 
 impl Prepared {
     pub fn of(alloc: Global, lists: CountLists<'_>) -> Result<Prepared, AllocError> {
-        let starts = starts_of(alloc, lists)?;
-        let columns = columns_of(alloc, lists)?;
         let negated = match lists.sense {
             Sense::Min => Vec::new(alloc),
             Sense::Max => negated(alloc, lists.costs)?,
         };
+        let groups = if lists.groups.is_empty() {
+            Vec::new(alloc)
+        } else {
+            after_none(alloc, lists.groups)?
+        };
         Ok(Prepared {
-            starts,
-            columns,
+            starts: starts_of(alloc, lists)?,
             negated,
+            column_least: after_none(alloc, lists.column_least)?,
+            column_most: after_none(alloc, lists.column_most)?,
+            groups,
         })
     }
 
-    /// The costs as ones to minimise.
-    pub fn costs<'a>(&'a self, lists: CountLists<'a>) -> &'a [Cost] {
-        match lists.sense {
-            Sense::Min => lists.costs,
-            Sense::Max => self.negated.as_slice(),
+    /// The problem as the search reads it.
+    pub fn problem<'a>(&'a self, lists: CountLists<'a>) -> Problem<'a> {
+        Problem {
+            starts: self.starts.as_slice(),
+            columns: lists.columns,
+            costs: match lists.sense {
+                Sense::Min => lists.costs,
+                Sense::Max => self.negated.as_slice(),
+            },
+            row_least: lists.row_least,
+            row_most: lists.row_most,
+            column_least: self.column_least.as_slice(),
+            column_most: self.column_most.as_slice(),
+            groups: self.groups.as_slice(),
         }
     }
 }

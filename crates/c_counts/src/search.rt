@@ -7,11 +7,11 @@ ghost use Rattle.c_counts.specs.Answers.{HasLengths, IsAnswer, IsEnd, marks_of};
 use crate::end::End;
 use crate::most_pairs::{cost_of_each, goes_by_most, solve_most};
 use crate::ones::{are_ones, goes_by_ones, solve_ones};
-use crate::prepare::Prepared;
+use crate::prepare::{Prepared, after_none};
 use count_checker::{
-    CheckedLists, CountVerdict, Marks, ShortageVerdict, Side, check, check_shortage,
+    CheckedLists, CountLists, CountVerdict, Marks, ShortageVerdict, Side, check, check_shortage,
 };
-use count_search::{Answer as Room, Found, Problem, Record, search};
+use count_search::{Answer as Room, Found, Record, search};
 use std::alloc::{AllocError, Global};
 
 /// Where a search stands, and what it ended with.
@@ -69,25 +69,41 @@ fn run(
             return solve_most(alloc, lists, cost, answer, budget);
         }
     }
+    run_auction(alloc, lists, answer, budget)
+}
+
+// Searches by the auction, for which a column that nobody takes stands before the others.
+fn run_auction(
+    alloc: Global,
+    lists: CountLists<'_>,
+    answer: &mut Answer,
+    budget: u64,
+) -> Result<Found, AllocError> {
     let prepared = Prepared::of(alloc, lists)?;
-    let problem = Problem {
-        starts: prepared.starts.as_slice(),
-        columns: prepared.columns.as_slice(),
-        costs: prepared.costs(lists),
-        row_least: lists.row_least,
-        row_most: lists.row_most,
-        column_least: lists.column_least,
-        column_most: lists.column_most,
-        groups: lists.groups,
-    };
+    let mut column_numbers = after_none(alloc, answer.column_numbers.as_slice())?;
+    let mut column_marks = after_none(alloc, answer.column_marks.as_slice())?;
     let mut room = Room {
         plan: answer.plan.as_mut_slice(),
         row_numbers: answer.row_numbers.as_mut_slice(),
-        column_numbers: answer.column_numbers.as_mut_slice(),
+        column_numbers: column_numbers.as_mut_slice(),
         row_marks: answer.row_marks.as_mut_slice(),
-        column_marks: answer.column_marks.as_mut_slice(),
+        column_marks: column_marks.as_mut_slice(),
     };
-    search(alloc, &problem, &mut room, budget, &mut answer.record)
+    let problem = prepared.problem(lists);
+    let found = search(alloc, &problem, &mut room, budget, &mut answer.record)?;
+    copy_rest(
+        answer.column_numbers.as_mut_slice(),
+        column_numbers.as_slice(),
+    );
+    copy_rest(answer.column_marks.as_mut_slice(), column_marks.as_slice());
+    Ok(found)
+}
+
+// Copies all but the first of others.
+fn copy_rest<T: Copy>(numbers: &mut [T], others: &[T]) {
+    for (number, other) in numbers.iter_mut().zip(others.iter().skip(1)) {
+        *number = *other;
+    }
 }
 
 // Whether the lists of a plan have the right lengths.

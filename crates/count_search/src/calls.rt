@@ -4,7 +4,7 @@ use super::auction::Auction;
 use super::layout::Layout;
 use super::numbers::Numbers;
 use super::phases::{Ended, first_slackness};
-use super::problem::Problem;
+use super::problem::{CostRange, Problem};
 use super::record::{AUCTION, COLD, REPAIR, Record, WARM};
 use super::repair::{PathEnd, Repair, answer_all};
 use super::shortage::{Lack, Marks, find_shortage};
@@ -115,6 +115,7 @@ fn plain_shortage(problem: &Problem<'_>, state: &State, marks: &mut Marks) -> Op
 struct OpenSearch<'a, 'b> {
     alloc: Global,
     problem: &'a Problem<'b>,
+    range: CostRange,
     state: State,
     marks: Marks,
     arc_scans: ArcScans,
@@ -138,7 +139,7 @@ const WARM_ARC_SCANS_OF_A_HAND: u64 = 2;
 impl OpenSearch<'_, '_> {
     // The auction, and its cut, with a shortage if it shows one.
     fn bid(&mut self, answer: &mut Answer<'_>) -> Result<Bids, AllocError> {
-        let Some(layout) = Layout::of(self.problem, &self.state) else {
+        let Some(layout) = Layout::of(self.problem, &self.state, self.range) else {
             return Ok(Bids::Done);
         };
         let mut auction = Auction::for_layout(
@@ -358,6 +359,7 @@ impl OpenSearch<'_, '_> {
 fn search_whole(
     alloc: Global,
     problem: &Problem<'_>,
+    range: CostRange,
     answer: &mut Answer<'_>,
     budget: u64,
     record: &mut Record,
@@ -368,6 +370,7 @@ fn search_whole(
     let mut run = OpenSearch {
         alloc,
         problem,
+        range,
         state,
         marks,
         arc_scans: ArcScans {
@@ -391,6 +394,7 @@ fn search_whole(
 fn search_exchanged(
     alloc: Global,
     problem: &Problem<'_>,
+    range: CostRange,
     answer: &mut Answer<'_>,
     budget: u64,
     record: &mut Record,
@@ -405,7 +409,7 @@ fn search_exchanged(
         column_marks: &mut *answer.row_marks,
     };
     let own = arranged.exchanged_problem(problem);
-    let found = search_whole(alloc, &own, &mut exchanged, budget, record)?;
+    let found = search_whole(alloc, &own, range, &mut exchanged, budget, record)?;
     arranged.write_plan(plan.as_slice(), answer.plan);
     Ok(match found {
         Found::RowsLack => Found::ColumnsLack,
@@ -418,6 +422,7 @@ fn search_exchanged(
 fn search_grouped(
     alloc: Global,
     problem: &Problem<'_>,
+    range: CostRange,
     keys: &[u32],
     answer: &mut Answer<'_>,
     budget: u64,
@@ -442,7 +447,7 @@ fn search_grouped(
         column_most: problem.column_most,
         groups: problem.groups,
     };
-    let found = search_whole(alloc, &own, &mut grouped, budget, record)?;
+    let found = search_whole(alloc, &own, range, &mut grouped, budget, record)?;
     arranged.write_plan(plan.as_slice(), answer.plan);
     Ok(found)
 }
@@ -464,16 +469,20 @@ pub fn search(
     budget: u64,
     record: &mut Record,
 ) -> Result<Found, AllocError> {
-    if !problem.fits() || !answer.fits(problem) {
+    let Some(range) = problem.fitting_range() else {
+        return Ok(Found::Nothing);
+    };
+    if !answer.fits(problem) {
         return Ok(Found::Nothing);
     }
     if is_better_exchanged(problem) {
-        return search_exchanged(alloc, problem, answer, budget, record);
+        return search_exchanged(alloc, problem, range, answer, budget, record);
     }
     match scattered_groups(alloc, problem)? {
         Some(keys) => {
-            search_grouped(alloc, problem, keys.keys.as_slice(), answer, budget, record)
+            let keys = keys.keys.as_slice();
+            search_grouped(alloc, problem, range, keys, answer, budget, record)
         }
-        None => search_whole(alloc, problem, answer, budget, record),
+        None => search_whole(alloc, problem, range, answer, budget, record),
     }
 }

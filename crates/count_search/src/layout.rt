@@ -1,6 +1,6 @@
 // What an auction is laid out for: its sizes, and the scale of its costs.
 use super::auction::{Sizes, Terms};
-use super::problem::{Problem, range_of};
+use super::problem::{CostRange, Problem};
 use super::state::State;
 use super::values::{short, signed, sum_of, unsigned};
 
@@ -67,12 +67,15 @@ fn scale_for(spread: i64, nodes: i64) -> i64 {
 
 impl Layout {
     /// None where there is nothing to bid for, counts don't fit, or numbers would leave their range.
-    pub fn of(problem: &Problem<'_>, state: &State) -> Option<Layout> {
+    pub fn of(problem: &Problem<'_>, state: &State, range: CostRange) -> Option<Layout> {
         let sums = Sums::of(state);
         if problem.columns.is_empty() || !sums.fits() {
             return None;
         }
-        let (mut least, mut greatest) = range_of(problem.costs);
+        let CostRange {
+            mut least,
+            mut greatest,
+        } = range;
         if is_optional(state) {
             least = least.min(0);
             greatest = greatest.max(0);

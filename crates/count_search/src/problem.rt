@@ -27,7 +27,8 @@ pub struct Row<'a> {
     pub costs: &'a [i64],
 }
 
-const MOST_PLACES: usize = 1 << 22;
+// One more than a caller's lists have.
+const MOST_PLACES: usize = (1 << 22) + 1;
 
 const MOST_PAIRS: usize = 1 << 30;
 
@@ -56,19 +57,26 @@ fn all_up_to(least: &[u32], most: &[u32]) -> bool {
     least.iter().zip(most).all(|(least, most)| *least <= *most)
 }
 
-fn are_small(costs: &[i64]) -> bool {
-    let (least, greatest) = range_of(costs);
-    costs.is_empty() || (least >= MOST_COST.wrapping_neg() && greatest <= MOST_COST)
+/// The least and the greatest cost.
+#[derive(Clone, Copy)]
+pub struct CostRange {
+    pub least: i64,
+    pub greatest: i64,
 }
 
-/// The least and the greatest cost.
-pub fn range_of(costs: &[i64]) -> (i64, i64) {
-    let (mut least, mut greatest) = (i64::MAX, i64::MIN);
-    for cost in costs {
-        least = least.min(*cost);
-        greatest = greatest.max(*cost);
+impl CostRange {
+    fn of(costs: &[i64]) -> CostRange {
+        let (mut least, mut greatest) = (i64::MAX, i64::MIN);
+        for cost in costs {
+            least = least.min(*cost);
+            greatest = greatest.max(*cost);
+        }
+        CostRange { least, greatest }
     }
-    (least, greatest)
+
+    fn is_small(self) -> bool {
+        self.least >= MOST_COST.wrapping_neg() && self.greatest <= MOST_COST
+    }
 }
 
 impl<'a> Problem<'a> {
@@ -113,16 +121,25 @@ impl<'a> Problem<'a> {
             && self.columns.len() <= MOST_PAIRS
     }
 
-    /// Whether the lists fit one another, and numbers are in their ranges.
-    pub fn fits(&self) -> bool {
+    // Whether the lists fit one another, and numbers but for costs are in their ranges.
+    fn fits(&self) -> bool {
         let columns = self.column_count();
         self.has_lengths()
             && rises_from_zero(self.starts, self.columns.len())
             && all_below(self.columns, columns)
             && all_below(self.groups, columns.wrapping_add(1))
-            && are_small(self.costs)
             && all_up_to(self.row_least, self.row_most)
             && all_up_to(self.column_least, self.column_most)
+    }
+
+    /// The least and the greatest cost, if the lists fit one another and numbers are in their ranges.
+    pub fn fitting_range(&self) -> Option<CostRange> {
+        if !self.fits() {
+            return None;
+        }
+        let range = CostRange::of(self.costs);
+        let is_small = self.costs.is_empty() || range.is_small();
+        if is_small { Some(range) } else { None }
     }
 
     /// The cost of a pair; 0 where there is none.

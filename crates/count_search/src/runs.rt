@@ -86,28 +86,10 @@ fn greater(one: f64, other: f64) -> f64 {
     if one > other { one } else { other }
 }
 
-// The two least values of each lane.
-#[derive(Clone, Copy)]
-struct Lanes {
-    best: f64x8,
-    second: f64x8,
-}
-
-impl Lanes {
-    #[inline(always)]
-    fn with(self, values: f64x8) -> Lanes {
-        let is_less = values.simd_lt(self.best);
-        let worse = values.simd_gt(self.best).select(values, self.best);
-        Lanes {
-            best: is_less.select(values, self.best),
-            second: worse.simd_lt(self.second).select(worse, self.second),
-        }
-    }
-}
-
-// The two least values.
+// The first place of the least value, and the two least values.
 #[derive(Clone, Copy)]
 struct Least {
+    place: usize,
     best: f64,
     second: f64,
 }
@@ -115,24 +97,19 @@ struct Least {
 impl Least {
     // Without branches, which would go either way.
     #[inline(always)]
-    fn with(self, value: f64) -> Least {
+    fn with(self, place: usize, value: f64) -> Least {
         Least {
+            place: if value < self.best { place } else { self.place },
             best: lesser(value, self.best),
             second: lesser(greater(value, self.best), self.second),
         }
     }
 
     #[inline(always)]
-    fn of(lanes: Lanes) -> Least {
-        let mut least = Least {
-            best: FAR_DOUBLE,
-            second: FAR_DOUBLE,
-        };
-        for value in lanes.best.to_array().iter() {
-            least = least.with(*value);
-        }
-        for value in lanes.second.to_array().iter() {
-            least.second = lesser(*value, least.second);
+    fn with_all(self, first: usize, values: f64x8) -> Least {
+        let mut least = self;
+        for (lane, value) in values.to_array().iter().enumerate() {
+            least = least.with(first.wrapping_add(lane), *value);
         }
         least
     }
@@ -158,57 +135,28 @@ impl Run<'_> {
         f64::from(cost) * self.scale + price
     }
 
-    #[inline(always)]
-    fn least_of_lanes(self) -> Lanes {
-        let mut lanes = Lanes {
-            best: f64x8::splat(FAR_DOUBLE),
-            second: f64x8::splat(FAR_DOUBLE),
-        };
-        let (costs, _) = self.costs.as_chunks::<LANES>();
-        let (prices, _) = self.prices.as_chunks::<LANES>();
-        for (costs, prices) in costs.iter().zip(prices) {
-            lanes = lanes.with(self.values(*costs, *prices));
-        }
-        lanes
-    }
-
+    // Few lanes after the first ones have a value below the second least one.
     #[inline(always)]
     fn least(self) -> Least {
-        let mut least = Least::of(self.least_of_lanes());
-        let (_, costs) = self.costs.as_chunks::<LANES>();
-        let (_, prices) = self.prices.as_chunks::<LANES>();
-        for (cost, price) in costs.iter().zip(prices) {
-            least = least.with(self.value(*cost, *price));
-        }
-        least
-    }
-
-    // The first place of a value.
-    #[inline(always)]
-    fn place_of(self, value: f64) -> usize {
-        let (costs, _) = self.costs.as_chunks::<LANES>();
-        let (prices, _) = self.prices.as_chunks::<LANES>();
-        let mut place = 0usize;
+        let mut least = Least {
+            place: NO_PLACE,
+            best: FAR_DOUBLE,
+            second: FAR_DOUBLE,
+        };
+        let (costs, rest_of_costs) = self.costs.as_chunks::<LANES>();
+        let (prices, rest_of_prices) = self.prices.as_chunks::<LANES>();
+        let mut first = 0usize;
         for (costs, prices) in costs.iter().zip(prices) {
             let values = self.values(*costs, *prices);
-            let lanes = values.simd_eq(f64x8::splat(value)).to_bitmask();
-            if lanes != 0 {
-                return place.wrapping_add(lanes.trailing_zeros() as usize);
+            if values.simd_lt(f64x8::splat(least.second)).any() {
+                least = least.with_all(first, values);
             }
-            place = place.wrapping_add(LANES);
+            first = first.wrapping_add(LANES);
         }
-        self.place_in_rest(place, value)
-    }
-
-    fn place_in_rest(self, first: usize, value: f64) -> usize {
-        let (_, costs) = self.costs.as_chunks::<LANES>();
-        let (_, prices) = self.prices.as_chunks::<LANES>();
-        for (k, (cost, price)) in costs.iter().zip(prices).enumerate() {
-            if self.value(*cost, *price) == value {
-                return first.wrapping_add(k);
-            }
+        for (k, (cost, price)) in rest_of_costs.iter().zip(rest_of_prices).enumerate() {
+            least = least.with(first.wrapping_add(k), self.value(*cost, *price));
         }
-        NO_PLACE
+        least
     }
 
     /// The two best of the row's pairs.
@@ -216,7 +164,7 @@ impl Run<'_> {
     pub fn two_best(self) -> Two {
         let least = self.least();
         Two {
-            place: self.place_of(least.best),
+            place: least.place,
             best: saturating_f64_to_i64(least.best),
             second: saturating_f64_to_i64(least.second),
         }
