@@ -23,7 +23,7 @@ use Rattle.block_checker.specs.inside.Reading.{IsRead}
 use Rattle.block_checker.proofs.GivenPairs.{pair_read, row_read}
 use Rattle.plan_checker.specs.Ranks.{own_sum}
 use Rattle.plan_checker.proofs.Reading.{cut_pair}
-use Rattle.ranking_checker.specs.declared.core.Base.{Base}
+use Rattle.ranking_checker.specs.declared.low.Base.{Base}
 use Rattle.ranking_checker.specs.declared.pairs.Pair.{Pair}
 use Rattle.ranking_checker.specs.inside.Adding.{AddsFrom, AreOfRows}
 use Rattle.ranking_checker.specs.inside.Bases.{IsBase, IsLow, cut_pair_at, listed_pair, sum_at}

@@ -3,8 +3,8 @@
 //! the last plan but the part's own one.
 #![tactic(auto)]
 
-mod core;
 mod limits;
+mod low;
 mod pairs;
 mod part;
 mod ranked;

@@ -10,8 +10,8 @@ ghost use Rattle.ranking_checker.specs.inside.Core.{AreCore, AreGiven, pair_at};
 ghost use Rattle.ranking_checker.specs.inside.Parts.{IsShown};
 ghost use Rattle.ranking_checker.specs.inside.Trees.{CanHave, IsTree, Obey, object_in};
 
-use super::core::Base;
 use super::limits::{Closed, Limits, limits_of};
+use super::low::Base;
 use super::pairs::Pair;
 use super::tree::{Tree, plan_at};
 use assign_core::Cost;

@@ -9,7 +9,7 @@ ghost use Rattle.ranking_checker.specs.inside.Core.{AreCore};
 ghost use Rattle.ranking_checker.specs.inside.Parts.{AreLeast, AreTotals, HaveParts, IsShown, Rise, bound_of, margin_at};
 ghost use Rattle.ranking_checker.specs.inside.Trees.{IsTree};
 
-use super::core::{Base, core_of};
+use super::low::{Base, core_of};
 use super::pairs::Pair;
 use super::part::{Showing, is_shown};
 use super::totals::{more_by, rise, totals_of};

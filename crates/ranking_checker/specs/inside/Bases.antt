@@ -6,7 +6,7 @@ use Rattle.cost_lists.specs.declared.source.Pairs.{Pairs}
 use Rattle.cost_lists.specs.Exact.{IsPriceInLimits}
 use Rattle.cost_lists.specs.Own.{minimised}
 use Rattle.cost_lists.specs.Source.{part_of}
-use Rattle.ranking_checker.specs.declared.core.Base.{Base}
+use Rattle.ranking_checker.specs.declared.low.Base.{Base}
 use Rattle.ranking_checker.specs.declared.pairs.Pair.{Pair}
 use Rattle.ranking_checker.specs.inside.Core.{pair}
 

@@ -4,7 +4,7 @@ use Rattle.assign_core.specs.declared.sense.Sense.TheVariants.{Min}
 use Rattle.assign_core.specs.Rows.{IsCost}
 use Rattle.cost_lists.specs.Exact.{IsPriceInLimits}
 use Rattle.plan_checker.proofs.Reading.{sum_in}
-use Rattle.ranking_checker.proofs.core.is_low.Goals as goal
+use Rattle.ranking_checker.proofs.low.is_low.Goals as goal
 
 pub sum_of-own_sum-requires-clause-cost : goal.sum_of-own_sum-requires-clause-cost
 sum_of-own_sum-requires-clause-cost c =

@@ -3,7 +3,7 @@ use Rattle.std.proofs.lemmas.Int.{to_z-of_z}
 use Rattle.ranking_checker.specs.inside.Adding.{AddsFrom}
 use Rattle.ranking_checker.specs.inside.Bases.{IsLow, listed_pair}
 use Rattle.ranking_checker.proofs.AddLaws.{none_yet, one_more}
-use Rattle.ranking_checker.proofs.core.core_of_pairs.Goals as goal
+use Rattle.ranking_checker.proofs.low.core_of_pairs.Goals as goal
 
 pub loop-k-init : goal.loop-k-init
 loop-k-init c = rw c.new-pairs.ensures.items (none_yet (IsLow c.args.base) (listed_pair c.args.listed) [])

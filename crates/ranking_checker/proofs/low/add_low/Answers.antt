@@ -4,7 +4,7 @@ use Rattle.std.proofs.lemmas.Int.{to_z-of_z}
 use Rattle.ranking_checker.specs.inside.Bases.{IsLow}
 use Rattle.ranking_checker.specs.inside.Core.{pair}
 use Rattle.ranking_checker.proofs.AddLaws.{add_none, add_one}
-use Rattle.ranking_checker.proofs.core.add_low.Goals as goal
+use Rattle.ranking_checker.proofs.low.add_low.Goals as goal
 
 pub returns-in_ok-push : goal.returns-in_ok-push
 returns-in_ok-push c =

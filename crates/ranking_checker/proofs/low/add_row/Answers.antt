@@ -2,7 +2,7 @@ use Rattle.std.proofs.Common.{pos, get_or, rules, SFits, w64}
 use Rattle.std.proofs.lemmas.Int.{to_z-of_z}
 use Rattle.ranking_checker.specs.inside.Bases.{IsLow, row_pair}
 use Rattle.ranking_checker.proofs.AddLaws.{none_yet, one_more}
-use Rattle.ranking_checker.proofs.core.add_row.Goals as goal
+use Rattle.ranking_checker.proofs.low.add_row.Goals as goal
 
 pub loop-j-init : goal.loop-j-init
 loop-j-init c = none_yet (IsLow c.args.base) (row_pair c.args.person c.args.row.now) c.args.pairs.now.items

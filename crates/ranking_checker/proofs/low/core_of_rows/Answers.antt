@@ -4,7 +4,7 @@ use Rattle.cost_lists.proofs.CutRows.{part_fits, part_long}
 use Rattle.ranking_checker.specs.inside.Adding.{AddsFrom}
 use Rattle.ranking_checker.specs.inside.Bases.{IsLow, cut_pair_at, row_pair}
 use Rattle.ranking_checker.proofs.AddLaws.{no_rows, row_more}
-use Rattle.ranking_checker.proofs.core.core_of_rows.Goals as goal
+use Rattle.ranking_checker.proofs.low.core_of_rows.Goals as goal
 
 pub loop-i-init : goal.loop-i-init
 loop-i-init c =

@@ -1,5 +1,5 @@
 use Rattle.ranking_checker.proofs.CoreLaws.{core_from_pairs, core_from_rows}
-use Rattle.ranking_checker.proofs.core.core_of.Goals as goal
+use Rattle.ranking_checker.proofs.low.core_of.Goals as goal
 
 pub returns-in_ok-core_of_rows-in-Dense : goal.returns-in_ok-core_of_rows-in-Dense
 returns-in_ok-core_of_rows-in-Dense c =
