@@ -14,8 +14,9 @@ use crate::alone::{go_alone, outcome_of};
 use crate::gate::{Gate, TurnFault};
 use crate::place::{close_place, open_place};
 use crate::working::{Shared, run_all, seat_workers, unseat_workers};
-use assign_core::{GREATEST_FIRST_PRICE, Outcome, Prices, SolveFault};
+use assign_core::{GREATEST_FIRST_PRICE, Outcome, Person, Prices, SolveFault};
 use auction_book::Book;
+use candidates::SHORT_ROW;
 use scaled_values::Scaled;
 use std::alloc::{AllocError, Global};
 use std::sync::{Arc, Wait};
@@ -28,7 +29,17 @@ pub struct Tally {
     pub accepted: u128,
 }
 
-// A book at the start of a run, with candidates for its persons.
+// Whether some row is long enough for candidates.
+fn has_long_row(scaled: &Scaled) -> bool {
+    for i in 0..scaled.n() {
+        if scaled.problem().row(Person(i + 1)).len() > SHORT_ROW {
+            return true;
+        }
+    }
+    false
+}
+
+// A book at the start of a run, with candidates for persons with long rows.
 fn open_book(
     alloc: Global,
     scaled: Arc<Scaled>,
@@ -41,7 +52,9 @@ fn open_book(
     ensures book { IfOk result (λ b. b ≡ opened (arc_value scaled) prices workers) }
 {
     let mut book = Book::open_from(alloc, scaled, prices, workers)?;
-    book.keep_lists(alloc);
+    if has_long_row(book.scaled()) {
+        book.keep_lists(alloc);
+    }
     Ok(book)
 }
 
