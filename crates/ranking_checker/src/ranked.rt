@@ -188,8 +188,8 @@ fn are_least(
 /// The time is linear in the costs, in the plans' persons and listed pairs, and for each plan in the pairs
 /// of the core, those whose reduced cost is at most what the last plan costs more than the best (all
 /// pairs with `is_all`), times the pairs that its part closes, and in its further lists for each of
-/// these pairs. The memory is 16 bytes a pair of the core, twice, with 16 more a pair of a part, and 8
-/// bytes a plan, 20 a person and 5 an object.
+/// these pairs. The memory is up to 32 bytes a pair of the core and 48 a pair of a part, 8 a plan, 20 a
+/// person and 5 an object.
 ///
 /// # Errors
 /// `AllocError` if memory is refused.
