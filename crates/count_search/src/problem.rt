@@ -121,7 +121,7 @@ impl<'a> Problem<'a> {
             && self.columns.len() <= MOST_PAIRS
     }
 
-    // Whether the lists fit one another, and numbers but for costs are in their ranges.
+    // Whether the lists fit one another, and numbers other than costs are in their ranges.
     fn fits(&self) -> bool {
         let columns = self.column_count();
         self.has_lengths()

@@ -8,7 +8,7 @@ use std::alloc::{AllocError, Global};
 pub struct Components {
     /// For each node 0, or one more than the node that its component was found at.
     found_at: Vec<usize>,
-    /// How many nodes were entered when each was, and the least such number that it reaches.
+    /// How many nodes were entered when each was, and the least of these numbers that it reaches.
     numbers: Vec<usize>,
     lowest: Vec<usize>,
     /// The next arc of each node.

@@ -67,7 +67,7 @@ fn has_parts(length: usize, count: usize, n: usize) -> bool
     count.checked_mul(n) == Some(length)
 }
 
-// Whether there is such a parent and such a person.
+// Whether there are this parent and this person.
 fn is_step(count: usize, n: usize, parent: u32, person: Person) -> bool
     ensures { IsTrue result ↔ ((parent < count) × IsNumber n person) }
 {
