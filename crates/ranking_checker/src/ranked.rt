@@ -185,7 +185,8 @@ fn are_least(
 /// with `is_all`, if they are shown to be all. The objects and prices are an optimum. All lists may have
 /// any length, and hold any numbers.
 ///
-/// The time is linear in the costs, in the plans' persons and listed pairs, and for each plan in the pairs
+/// The time is linear in the costs, in the square of the plans and in the persons and listed pairs of
+/// each, and for each plan in the pairs
 /// of the core, those whose reduced cost is at most what the last plan costs more than the best (all
 /// pairs with `is_all`), times the pairs that its part closes, and in its further lists for each of
 /// these pairs. The memory is up to 32 bytes a pair of the core and 48 a pair of a part, 8 a plan, 20 a
