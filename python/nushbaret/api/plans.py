@@ -16,7 +16,9 @@ class _KBest(Iterator[Plan]):
     again."""
 
     def __init__(self, problem: AssignmentProblem, result: Result, count: int, timeout: Optional[float]):
-        self._problem, self._result, self._count, self._timeout = problem, result, count, timeout
+        # The costs as they are now, whatever is written to them until the last plan.
+        self._problem = problem._replace(costs=problem.costs.owned())
+        self._result, self._count, self._timeout = result, count, timeout
         self._done = 0
         self._begin()
 

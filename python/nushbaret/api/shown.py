@@ -70,6 +70,14 @@ def numbers(values: Iterable[int], as_array: bool) -> Any:
     return fixed(numpy.array(list(values), numpy.intp))
 
 
+def places(items: Any, as_array: bool) -> Any:
+    """Row or column numbers that a call of the library counts from 1, as a result shows them."""
+    if not as_array:
+        return FixedList(item - 1 for item in items)
+    numpy = importlib.import_module("numpy")
+    return fixed(numpy.frombuffer(items, numpy.uint32).astype(numpy.intp) - 1)
+
+
 def frame_of(pairs: Sequence[Tuple[Any, Any]], costs: Optional[List[Number]]) -> Any:
     """A DataFrame with columns row, column and, where they are known, cost."""
     import pandas  # type: ignore

@@ -1,10 +1,11 @@
 """What a result stands on: a problem that a call solved, whose costs are read again where they are needed."""
 from array import array
 from fractions import Fraction
-from functools import cached_property, partial
+from functools import cached_property
 from typing import Any, Iterable, Iterator, List, Optional, Sequence, Tuple
 
 from ..costs import problem as reading
+from ..costs.kinds import AnyWholeNumbers
 from ..costs.limits import GREATEST_PRICE
 from ..costs.numbers import Number, Ratio, Unit
 from ..costs.problem import AssignmentProblem, costs_of_pairs
@@ -14,7 +15,7 @@ from ..lap.paths import Subproblem
 from ..lap.plan_check import check_wholly
 from ..lap.ranking import Ranking, plans_shown
 from ..lap.solving import Outcome, solved
-from .shown import FixedList, numbers
+from .shown import FixedList, numbers, places
 
 # Whole duals, in a unit.
 WholeDuals = Tuple[proved.Duals, Unit]
@@ -75,6 +76,8 @@ class SolvedProblem:
         if (problem.n_rows, problem.n_columns) != (self.shape.n_rows, self.shape.n_columns):
             raise ValueError(CHANGED)
         now = costs_of_pairs(problem, *self.pairs)
+        if now == self.costs and isinstance(problem.costs, AnyWholeNumbers) and problem.unit == self.shape.unit:
+            return problem
         if None in now or not all(map(_are_equal, ratios_of(problem, now), self.ratios)):
             raise ValueError(CHANGED)
         return problem
@@ -156,12 +159,9 @@ class SolvedProblem:
         code, objects = proved.next_objects(problem, answer)
         if code != "BEST":
             return code, None
-        return code, self._shown_plan(problem, *proved.pairs_of(problem, answer._replace(objects=objects)))
-
-    def _shown_plan(self, problem: AssignmentProblem, rows: List[int],
-                    columns: List[int]) -> Tuple[Any, Any, Number]:
+        rows, columns = proved.pairs_of(problem, answer._replace(objects=objects))
         cost = sum_of(problem, ratios_of(problem, costs_of_pairs(problem, rows, columns)))
-        return numbers(rows, self.as_arrays), numbers(columns, self.as_arrays), cost
+        return code, (numbers(rows, self.as_arrays), numbers(columns, self.as_arrays), cost)
 
     def plans_in_order(self, problem: AssignmentProblem, count: int,
                        done: int) -> Iterator[Tuple[Any, Any, Number]]:
@@ -169,7 +169,9 @@ class SolvedProblem:
         the library shows."""
         asked = self._priced(problem)
         if asked is not None:
-            done = yield from plans_shown(*asked, count, done, partial(self._shown_plan, problem))
+            rows = numbers(range(asked[1].n), self.as_arrays)
+            done = yield from plans_shown(*asked, count, done, lambda objects, total: (
+                rows, places(objects, self.as_arrays), problem.costs.total([(total, 1)])))
         if done < count:
             ranking = self.ranking(problem)
             for part in ranking.in_order(count, done):

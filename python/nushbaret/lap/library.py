@@ -194,13 +194,14 @@ def next_objects(sense: bool, n: int, m: int, lists: Sequence[Any], objects: Num
 
 
 def first_objects(count: int, sense: bool, n: int, m: int, lists: Sequence[Any], objects: Numbers,
-                  prices: Numbers) -> Tuple[str, Numbers]:
-    """What `nushbaret_ranked` says of a plan and its prices, and the objects of so many first plans in a row."""
+                  prices: Numbers) -> Tuple[str, Numbers, Numbers]:
+    """What `nushbaret_ranked` says of a plan and its prices, the objects of so many first plans in a row, and what each
+    costs."""
     look_at_time()
     found, plans, totals = ctypes.c_size_t(), array("I", bytes(4 * n * count)), array("q", bytes(8 * count))
     code, _ = call("ranked", sense, n, m, *lists, objects, prices, piece=(
         _ARC_SCANS_FOR_NEXT, *plans.buffer_info(), *totals.buffer_info(), ctypes.addressof(found)))
-    return code, plans[:n * found.value]
+    return code, plans[:n * found.value], totals[:found.value]
 
 
 def progress_asked() -> Optional[Callable[[int, int], Any]]:

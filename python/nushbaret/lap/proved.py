@@ -160,11 +160,12 @@ def next_objects(problem: AssignmentProblem, best: Assignment) -> Tuple[str, Any
     return ("", None) if about is None else library.next_objects(*about)
 
 
-def first_objects(problem: AssignmentProblem, best: Assignment, count: int) -> Tuple[str, Any]:
-    """What `nushbaret_ranked` says of an answer, and the objects of the first plans, one after the other; nothing where
-    it can't be asked. It orders plans by their persons, which are the rows unless there are more of these."""
+def first_objects(problem: AssignmentProblem, best: Assignment, count: int) -> Tuple[str, Any, Any]:
+    """What `nushbaret_ranked` says of an answer, the objects of the first plans, one after the other, and what each
+    costs; nothing where it can't be asked. It orders plans by their persons, which are the rows unless there are more
+    of these. Then each row has a pair."""
     about = None if problem.n_rows > problem.n_columns else _asked_about(problem, best)
-    return ("", None) if about is None else library.first_objects(count, *about)
+    return ("", (), ()) if about is None else library.first_objects(count, *about)
 
 
 def best_of(asked: Instance) -> Assignment:

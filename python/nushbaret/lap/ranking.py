@@ -31,14 +31,14 @@ from .matching import Group, prove_short
 from .paths import (INFINITE, NOBODY, Branch, Choice, PathSearch, Paths, Subproblem, near_pairs_of,
                     usual_reduced_cost)
 from .plan_check import check_problem
-from .proved import Assignment, Duals, first_objects, pairs_of
+from .proved import Assignment, Duals, first_objects
 from .solving import BestPlan, least_sum
 
 
 # So many pairs of a row are looked at first, on average; then so many times as many. Few pairs are looked at at once.
 _FIRST_PAIRS, _TIMES, _FEW = 3, 6, 2048
 # So many plans the library is asked for at first; lists of more objects it isn't asked for.
-_FIRST_PLANS, _MOST_OBJECTS = 16, 2**22
+_FIRST_PLANS, _MOST_OBJECTS = 128, 2**22
 # What waits in line, in the order of one cost: a branch that wasn't followed, a part whose plan need not be the first
 # one of its cost, and one whose plan is.
 _BRANCH, _FOUND, _FIRST = range(3)
@@ -228,20 +228,22 @@ class _Taken(NamedTuple):
 
 
 def plans_shown(problem: AssignmentProblem, answer: Assignment, count: int, done: int,
-                made: Callable[[List[int], List[int]], Any]) -> Generator[Any, None, int]:
-    """What is made of rows and columns of the first plans from an answer on, so many at most, without those that are
-    done, as far as the library shows them. Returns how many are done then, `count` where there are no others."""
+                made: Callable[[Any, int], Any]) -> Generator[Any, None, int]:
+    """What is made of the objects of all rows and the costs of the first plans from an answer on, so many at most,
+    without those that are done, as far as the library shows them. Returns how many are done then, `count` where there
+    are no others."""
     wanted = _FIRST_PLANS
     while done < count:
         wanted = min(count, max(wanted, done + 1))
         if wanted * answer.n > _MOST_OBJECTS:
             return done
-        code, plans = first_objects(problem, answer, wanted)
+        code, plans, totals = first_objects(problem, answer, wanted)
         if code not in ("BEST", "ALONE"):
             return done
-        for place in range(answer.n * done, len(plans), answer.n):
+        for total in totals[done:]:
+            place = answer.n * done
             done += 1
-            yield made(*pairs_of(problem, answer._replace(objects=plans[place:place + answer.n])))
+            yield made(plans[place:place + answer.n], total)
         if code == "ALONE":
             return count
         wanted *= _TIMES
@@ -251,7 +253,8 @@ def plans_shown(problem: AssignmentProblem, answer: Assignment, count: int, done
 def plans_in_order(best: BestPlan, count: int) -> Iterator[Tuple[List[int], List[int]]]:
     """Rows and columns of the first plans from a best one on, so many at most."""
     rows, columns = best.rows, best.columns
-    done = yield from plans_shown(best.problem, best.answer, count, 0, lambda *pairs: pairs)
+    done = yield from plans_shown(best.problem, best.answer, count, 0,
+                                  lambda objects, _: ([*range(len(objects))], [item - 1 for item in objects]))
     if done < count:
         ratios = [(cost, 1) for cost in costs_of_pairs(best.problem, rows, columns)]
         ranking = Ranking(best.problem, (rows, columns), ratios, duals_of_whole(best), ONE)

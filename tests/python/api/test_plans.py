@@ -34,7 +34,7 @@ def pairs_of(plan, n_rows, n_columns):
 
 def without_ranked():
     """Lets Python find the plans in order, as where the library doesn't decide."""
-    return mock.patch.object(ranking, "first_objects", return_value=("UNDECIDED", array("I")))
+    return mock.patch.object(ranking, "first_objects", return_value=("UNDECIDED", array("I"), array("q")))
 
 
 def kept(costs, keeps):
