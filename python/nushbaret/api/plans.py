@@ -32,8 +32,7 @@ class _KBest(Iterator[Plan]):
             return self._result._plan(*plan)
 
     def __getstate__(self) -> Any:
-        problem = self._problem._replace(costs=self._problem.costs.owned(), arrays=None)
-        return problem, self._result, self._count, self._timeout, self._done
+        return self._problem._replace(arrays=None), self._result, self._count, self._timeout, self._done
 
     def __setstate__(self, state: Any) -> None:
         self._problem, self._result, self._count, self._timeout, self._done = state

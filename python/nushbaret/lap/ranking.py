@@ -50,7 +50,7 @@ class Ranking:
 
     def __init__(self, problem: AssignmentProblem, pairs: Tuple[List[int], List[int]], ratios: Sequence[Ratio],
                  duals: Duals, unit: Unit):
-        self.given, self.pairs_of_best, self.ratios = problem._replace(costs=problem.costs.owned()), pairs, ratios
+        self.given, self.pairs_of_best, self.ratios = problem, pairs, ratios
         self.duals, self.unit_of_duals = duals, unit
         self.sign = -1 if problem.maximize else 1
         self.waiting: List[Tuple[Any, ...]] = []
