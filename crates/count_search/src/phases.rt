@@ -32,7 +32,7 @@ const FALL_IN_A_WAR: i64 = 5;
 const BIDS_OF_A_HAND: u64 = 20;
 
 // So many in a phase after quiet ones show that the slackness fell by too much.
-const BIDS_AFTER_QUIET: u64 = 7;
+const BIDS_AFTER_QUIET: u64 = 4;
 
 const FEW_BIDS: u64 = 1000;
 
