@@ -1,0 +1,6 @@
+//! Stub.
+#![tactic(auto)]
+
+mod lists;
+
+pub use lists::{Wide, WideLists, WidePairs, WideSource};
