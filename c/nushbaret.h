@@ -399,7 +399,7 @@ struct nushbaret_wide_number {
     int64_t high;
 };
 
-/* Solves a problem of such costs, which is given as for nushbaret_check. There are n values in objects, n in persons and m in
+/* Solves a problem of these costs, given as for nushbaret_check. There are n values in objects, n in persons and m in
    prices.
 
    code                  written

@@ -39,8 +39,8 @@ impl Lists {
         Ok(())
     }
 
-    // One more object, which each person lists at the bound. Nobody has it in a best plan, so its price is 0, and
-    // the bound is the greatest number of a row.
+    // One more object, which each person lists at the bound. Nobody has it in a best plan, so its price
+    // is 0, and the bound is the greatest number of a row.
     fn push_bounds(&mut self, state: &State, shift: u32) -> Result<(), AllocError> {
         let cost = shifted(state.bound(), shift);
         let mut person = 0u32;

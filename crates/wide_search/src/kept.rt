@@ -13,8 +13,8 @@ pub struct Pair {
     pub cost: i128,
 }
 
-/// What a pair's cost is in a level, before it is rounded: its reduced cost, less its object's price up to the
-/// bound. So an object that nobody has in a best plan keeps a price of 0.
+/// What a pair's cost is in a level, before it is rounded: its reduced cost, less its object's price up
+/// to the bound. So an object that nobody has in a best plan keeps a price of 0.
 pub fn left_of(state: &State, bound: i128, pair: Pair) -> i128 {
     let row = number_at(state.rows.as_slice(), pair.person);
     let price = number_at(state.prices.as_slice(), pair.object);
@@ -24,12 +24,12 @@ pub fn left_of(state: &State, bound: i128, pair: Pair) -> i128 {
         .wrapping_sub(price.min(bound))
 }
 
-// Whether no plan that is best may do without the pair.
+// Whether the pair may be better than a person's own one at some prices of later levels.
 fn stays(state: &State, bound: i128, pair: Pair) -> bool {
     left_of(state, bound, pair) < bound.wrapping_mul(2)
 }
 
-// Puts those pairs of a person that stay behind the others.
+// Adds those pairs of a person that stay.
 fn push_row(
     kept: &mut Vec<Pair>,
     unit: Unit,

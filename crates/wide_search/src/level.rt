@@ -8,7 +8,7 @@ const HALL: i32 = 1;
 
 const MEMORY: i32 = 9;
 
-/// Whom a level's costs are of: listed pairs, or all of them where there are none.
+/// The pairs that the costs of a level belong to; all pairs where none are listed.
 #[derive(Clone, Copy)]
 pub struct Level<'a> {
     pub form: Form,

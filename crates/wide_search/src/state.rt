@@ -4,8 +4,8 @@ use std::alloc::{AllocError, Global};
 /// Above each row's number at first.
 pub const NO_ROW: i128 = i128::MAX;
 
-/// Where a search stands: at these numbers of rows and prices no reduced cost is below 0, and those of the
-/// plan are below two to the power of `shift`.
+/// Where a search stands: at these numbers of rows and prices no reduced cost is below 0, and those of
+/// the plan are below two to the power of `shift`.
 #[derive(Drop)]
 pub struct State {
     pub rows: Vec<i128>,
@@ -28,7 +28,7 @@ impl State {
         })
     }
 
-    /// Twice `n + 1` units of the last level: no plan that costs as little has a pair of a greater reduced cost.
+    /// Twice `n + 1` units of the last level: no best plan has a pair of a greater reduced cost.
     pub fn bound(&self) -> i128 {
         let persons = self.rows.len() as i128;
         persons

@@ -41,8 +41,8 @@ pub fn length_of(size: u128) -> u32 {
     WIDTH.wrapping_sub(size.leading_zeros())
 }
 
-/// The unit of some costs, the greatest power of two that divides all, and how far they are to be shifted for the
-/// first level.
+/// The unit of some costs, the greatest power of two that divides all, and how far they are to be
+/// shifted for the first level.
 pub fn unit_of(sense: Sense, costs: &[Wide]) -> (Unit, u32) {
     let bits = bits_of(costs);
     if bits == 0 {
