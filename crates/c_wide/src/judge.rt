@@ -39,7 +39,9 @@ fn shape_of(input: &WideInput<'_>) -> Result<Shape, Fault>
     let Some(m) = size_by(input.m) else {
         return Err(Fault::Size);
     };
-    if !has_pairs(input) || !are_all(input.by_person, input.n) || !are_all(input.by_object, input.m)
+    if !has_pairs(input)
+        || !are_all(input.by_person, input.n)
+        || !are_all(input.by_object, input.m)
     {
         return Err(Fault::Length);
     }
