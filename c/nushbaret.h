@@ -108,7 +108,7 @@
 extern "C" {
 #endif
 
-#define NUSHBARET_VERSION "5.7.0"
+#define NUSHBARET_VERSION "5.8.0"
 
 /* The sense: the least sum of costs, or the greatest. */
 #define NUSHBARET_MIN 0u
@@ -390,6 +390,44 @@ int32_t nushbaret_block(uint32_t sense, size_t n, size_t m,
     uint32_t *better_persons, size_t better_persons_count,
     uint32_t *better_objects, size_t better_objects_count,
     int64_t *better_costs, size_t better_costs_count,
+    struct nushbaret_info *info);
+
+/* COSTS OF 128 BITS. The same problems with greater costs: from -2^100 to 2^100. A number is high * 2^64 + low, so a number of
+   64 bits has high 0, or -1 if it is below 0; low is the remainder. */
+struct nushbaret_wide_number {
+    uint64_t low;
+    int64_t high;
+};
+
+/* Solves a problem of these costs, given as for nushbaret_check. There are n values in objects, n in persons and m in
+   prices.
+
+   code                  written
+   NUSHBARET_BEST        objects; prices, from 0 to 2^124, that prove them optimal; *total
+   NUSHBARET_HALL        info->persons and info->objects say how many numbers stand at the beginning of persons and of
+                         objects, rising
+   NUSHBARET_UNDECIDED   nothing: the search found nothing that the checker takes (never seen)
+   any other             as in nushbaret_check: a fault, and info->place
+
+   The costs are solved level by level, each as a problem of 64 bits: the first 39 bits of all pairs, then more bits of those that
+   are left. A Hall set doesn't depend on costs: nushbaret_check_hall checks it, on costs of 0. */
+int32_t nushbaret_wide(uint32_t sense, size_t n, size_t m,
+    const uint32_t *of_persons, size_t of_persons_count,
+    const uint32_t *of_objects, size_t of_objects_count,
+    const struct nushbaret_wide_number *costs, size_t costs_count,
+    uint32_t *objects, size_t objects_count,
+    uint32_t *persons, size_t persons_count,
+    struct nushbaret_wide_number *prices, size_t prices_count,
+    struct nushbaret_wide_number *total,
+    struct nushbaret_info *info);
+
+/* Checks an assignment of any origin: as nushbaret_check, with prices from 0 to 2^124. */
+int32_t nushbaret_check_wide(uint32_t sense, size_t n, size_t m,
+    const uint32_t *of_persons, size_t of_persons_count,
+    const uint32_t *of_objects, size_t of_objects_count,
+    const struct nushbaret_wide_number *costs, size_t costs_count,
+    const uint32_t *objects, size_t objects_count,
+    const struct nushbaret_wide_number *prices, size_t prices_count,
     struct nushbaret_info *info);
 
 /* DOUBLES. Dense problems whose costs are doubles, each of which is taken for exactly the number that it is. An infinity

@@ -165,6 +165,7 @@ int main(void) {
     test_double_blocks();
     test_plans();
     test_bottleneck();
+    test_wide();
     test_drawn();
     test_memory();
     test_large();

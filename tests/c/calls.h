@@ -60,6 +60,9 @@ int is_school_right(void);
 int is_bottleneck_right(unsigned *seed);
 int is_bottleneck_long_right(void);
 
+/* Whether costs of 128 bits are. */
+int is_wide_right(unsigned *seed);
+
 void test_answers(void);
 void test_faults(void);
 void test_verdicts(void);
@@ -67,6 +70,7 @@ void test_blocks(void);
 void test_double_blocks(void);
 void test_plans(void);
 void test_bottleneck(void);
+void test_wide(void);
 void test_drawn(void);
 void test_memory(void);
 void test_large(void);

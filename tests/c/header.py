@@ -16,6 +16,7 @@ ROWS = TOP / "crates/c_rows/src/info.rt"
 DOUBLES = BASE / "doubles"
 COUNTS = TOP / "crates/c_counts/src"
 PLANS = TOP / "crates/c_plans/src"
+WIDE = TOP / "crates/wide_checker/src/numbers.rt"
 SEARCH = TOP / "crates/count_search/src"
 HEADER = re.sub(r"/\*.*?\*/", "", (TOP / "c/nushbaret.h").read_text(), flags=re.S)
 NUMBERS = {"u8": "uint8_t", "u32": "uint32_t", "u64": "uint64_t", "usize": "size_t", "i32": "int32_t",
@@ -23,7 +24,8 @@ NUMBERS = {"u8": "uint8_t", "u32": "uint32_t", "u64": "uint64_t", "usize": "size
            "Person": "uint32_t", "Object": "uint32_t", "Cost": "int64_t", "Price": "int64_t",
            "Record": "struct nushbaret_record", "Info": "struct nushbaret_info",
            "RowsInfo": "struct nushbaret_rows_info", "DoublesInfo": "struct nushbaret_doubles_info",
-           "CountsInfo": "struct nushbaret_counts_info", "CountsRecord": "struct nushbaret_counts_record"}
+           "CountsInfo": "struct nushbaret_counts_info", "CountsRecord": "struct nushbaret_counts_record",
+           "Wide": "struct nushbaret_wide_number"}
 # What a code's variant is called in the header, where that isn't its own name.
 CALLED = {"Verdict::Length": "ANSWER_LENGTH", "Verdict::PriceRange": "PRICE_RANGE", "HallVerdict::Range": "HALL_RANGE",
           "HallVerdict::Order": "HALL_ORDER", "HallVerdict::Missing": "HALL_MISSING",
@@ -147,6 +149,7 @@ compare("nushbaret_counts_record", "uint64_t state[8]",
 compare("nushbaret_rows_info", fields("nushbaret_rows_info"), crate_fields(ROWS, "RowsInfo"))
 compare("nushbaret_doubles_info", fields("nushbaret_doubles_info"), crate_fields(DOUBLES / "info.rt", "DoublesInfo"))
 compare("nushbaret_record", fields("nushbaret_record"), crate_fields(SOLVER / "record.rt", "Record"))
+compare("nushbaret_wide_number", fields("nushbaret_wide_number"), crate_fields(WIDE, "Wide"))
 compare("nushbaret_info", fields("nushbaret_info"), crate_fields(LISTS / "info.rt", "Info"))
 for crate, name, named in [("cost_lists", "MOST_PERSONS", "GREATEST_NUMBER"),
                            ("assign_core", "GREATEST_COST", "GREATEST_COST"),

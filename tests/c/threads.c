@@ -103,7 +103,8 @@ static void on_its_stack(void) {
 static void *many(void *seed) {
     int trial;
     for (trial = 0; trial < 500; trial++)
-        if (!is_right((unsigned *)seed) || !are_counts_right() || !is_bottleneck_right((unsigned *)seed)) return seed;
+        if (!is_right((unsigned *)seed) || !are_counts_right() || !is_bottleneck_right((unsigned *)seed)
+            || !is_wide_right((unsigned *)seed)) return seed;
     return NULL;
 }
 

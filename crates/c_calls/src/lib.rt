@@ -11,4 +11,4 @@ mod size;
 
 pub use buffers::put_hall;
 pub use fault::Fault;
-pub use size::Shape;
+pub use size::{Shape, are_all, pairs_of, sense_by, size_by};

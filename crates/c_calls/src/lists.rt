@@ -18,4 +18,5 @@ pub use form::{Form, form_of};
 pub use info::Info;
 pub use input::Input;
 pub use judging::judge;
+pub use rule::{UpTo, first_wrong};
 pub use solve::{solve_from, solve_input};

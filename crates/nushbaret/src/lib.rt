@@ -14,6 +14,7 @@ mod rows;
 mod sparse;
 mod unique;
 mod version;
+mod wide;
 
 pub use blocks::{nushbaret_block, nushbaret_block_doubles};
 pub use bottleneck::nushbaret_bottleneck;
@@ -29,3 +30,4 @@ pub use rows::nushbaret_rows;
 pub use sparse::{nushbaret_sparse, nushbaret_sparse_from};
 pub use unique::nushbaret_unique;
 pub use version::nushbaret_version;
+pub use wide::{nushbaret_check_wide, nushbaret_wide};

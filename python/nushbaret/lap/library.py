@@ -11,7 +11,7 @@ from typing import Any, Callable, Dict, List, NamedTuple, Optional, Sequence, Tu
 
 from ..costs.limits import FEW, BorrowedNumbers, Numbers
 
-VERSION = "5.7.0"
+VERSION = "5.8.0"
 
 CODES = (
     "BEST", "HALL",
