@@ -1,0 +1,4 @@
+pub mod Values
+pub mod PairRows
+pub mod CutWide
+pub mod Limits

@@ -1,0 +1,10 @@
+//! Checks assignments with exact prices, and Hall sets, over costs of 128 bits.
+#![tactic(auto)]
+
+mod lists;
+mod numbers;
+mod source;
+
+pub use lists::WideLists;
+pub use numbers::{GREATEST_WIDE_COST, GREATEST_WIDE_PRICE, Wide, first_beyond, is_wide_cost};
+pub use source::{WidePairs, WideSource};
