@@ -2,3 +2,4 @@ pub mod Values
 pub mod PairRows
 pub mod CutWide
 pub mod Limits
+pub mod WideOwns

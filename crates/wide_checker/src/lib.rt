@@ -3,7 +3,9 @@
 
 mod lists;
 mod numbers;
+mod own;
 mod source;
+mod total;
 
 pub use lists::WideLists;
 pub use numbers::{GREATEST_WIDE_COST, GREATEST_WIDE_PRICE, Wide, first_beyond, is_wide_cost};

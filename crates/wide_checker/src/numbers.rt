@@ -1,7 +1,7 @@
 // Numbers of 128 bits in two words, and their limits.
 ghost use Rattle.std.specs.Prelude.{◌≡◌, ◌↔◌, ◌<◌, ◌^◌, pos, length, map, slice_index_or, All, IsTrue, MatchOption};
 ghost use Rattle.std.specs.Int.{int_div_euclid, int_rem_euclid};
-ghost use Rattle.wide_checker.specs.WideNumbers.{IsFirstBeyond, IsWideCost, wide_value};
+ghost use Rattle.wide_checker.specs.WideNumbers.{IsFirstBeyond, IsInCosts, IsInPrices, IsWideCost, wide_value};
 
 /// The whole number `high * 2^64 + low`.
 #[repr(C)]
@@ -59,6 +59,26 @@ pub fn value_at(numbers: &[Wide], place: usize) -> i128
     ensures { result ≡ slice_index_or (map wide_value numbers.now) place (pos 0) }
 {
     numbers[place].value()
+}
+
+/// The cost at a place.
+pub fn cost_at(costs: &[Wide], place: usize) -> i128
+    requires place { place < length costs.now }
+    requires costs { All IsWideCost costs.now }
+    ensures value { result ≡ slice_index_or (map wide_value costs.now) place (pos 0) }
+    ensures range { IsInCosts result }
+{
+    value_at(costs, place)
+}
+
+/// The price at a place.
+pub fn price_at(prices: &[Wide], place: usize) -> i128
+    requires place { place < length prices.now }
+    requires prices { All IsInPrices (map wide_value prices.now) }
+    ensures value { result ≡ slice_index_or (map wide_value prices.now) place (pos 0) }
+    ensures range { IsInPrices result }
+{
+    value_at(prices, place)
 }
 
 /// Whether a number is a cost: its absolute value is at most `GREATEST_WIDE_COST`.
