@@ -1,5 +1,12 @@
-pub mod Values
+pub mod Words
 pub mod PairRows
 pub mod CutWide
 pub mod Limits
 pub mod WideOwns
+mod Earliest
+mod Unowned
+mod Ranks
+mod Better
+mod WideRowSums
+mod WidePairSums
+mod Differences

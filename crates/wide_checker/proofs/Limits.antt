@@ -16,7 +16,7 @@ use Rattle.wide_checker.specs.WideLimits.{HasWideCosts, AreInWideLimits}
 use Rattle.wide_checker.specs.WideSources.{AreWidePairs, IsWideGiven, IsWideSource, triples_in, wide_rows}
 use Rattle.wide_checker.proofs.CutWide.{cut_costs_wide, cut_within_wide}
 use Rattle.wide_checker.proofs.PairRows.{IsWideTriple, wide_costs, wide_triples, wide_within}
-use Rattle.wide_checker.proofs.Values.{all_values}
+use Rattle.wide_checker.proofs.Words.{all_values}
 
 rows_long : (sense : Sense) (n m : ℕ) (source : WideSource) → length (wide_rows sense n m source) ≡ n
 rows_long sense n m (Dense costs) = length-rows_cut m n (map wide_value costs.now)

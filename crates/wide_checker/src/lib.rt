@@ -3,9 +3,15 @@
 
 mod lists;
 mod numbers;
+mod overpriced;
 mod own;
+mod pairs;
+mod priced;
+mod rows;
 mod source;
 mod total;
+mod unlisted;
+mod values;
 
 pub use lists::WideLists;
 pub use numbers::{GREATEST_WIDE_COST, GREATEST_WIDE_PRICE, Wide, first_beyond, is_wide_cost};

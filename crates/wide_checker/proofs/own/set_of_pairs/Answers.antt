@@ -7,7 +7,7 @@ use Rattle.wide_checker.specs.declared.numbers.TheConstants.{UNLISTED}
 use Rattle.std.proofs.lemmas.List.{length-map}
 use Rattle.cost_lists.specs.Own.{minimised}
 use Rattle.wide_checker.specs.WideNumbers.{IsInCosts, wide_value}
-use Rattle.wide_checker.proofs.Values.{all_values}
+use Rattle.wide_checker.proofs.Words.{all_values}
 use Rattle.wide_checker.proofs.WideOwns.{AreOwnSoFar, own_given, own_none, own_skip, own_take}
 use Rattle.wide_checker.proofs.own.set_of_pairs.Goals as goal
 use Rattle.wide_checker.proofs.own.set_of_pairs.Goals.{then-pairs-k, else-pairs-k}

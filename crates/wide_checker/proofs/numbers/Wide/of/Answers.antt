@@ -1,7 +1,7 @@
 use Rattle.std.proofs.Common.{arith, rules, SFits, w64}
 use Rattle.std.proofs.lemmas.Int.{ints, to_z-of_z}
 use Rattle.wide_checker.specs.WideNumbers.{wide_value}
-use Rattle.wide_checker.proofs.Values.{euclid_whole}
+use Rattle.wide_checker.proofs.Words.{euclid_whole}
 use Rattle.wide_checker.proofs.numbers.Wide.of.Goals as goal
 
 pub returns : goal.returns
