@@ -10,3 +10,4 @@ mod Better
 mod WideRowSums
 mod WidePairSums
 mod Differences
+mod WideDuality

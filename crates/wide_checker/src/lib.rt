@@ -1,6 +1,7 @@
 //! Checks assignments with exact prices, and Hall sets, over costs of 128 bits.
 #![tactic(auto)]
 
+mod checker;
 mod lists;
 mod numbers;
 mod overpriced;
@@ -13,6 +14,7 @@ mod total;
 mod unlisted;
 mod values;
 
+pub use checker::check;
 pub use lists::WideLists;
 pub use numbers::{GREATEST_WIDE_COST, GREATEST_WIDE_PRICE, Wide, first_beyond, is_wide_cost};
 pub use source::{WidePairs, WideSource};
