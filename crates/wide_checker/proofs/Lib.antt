@@ -11,3 +11,4 @@ mod WideRowSums
 mod WidePairSums
 mod Differences
 mod WideDuality
+mod WideHall

@@ -2,6 +2,7 @@
 #![tactic(auto)]
 
 mod checker;
+mod hall;
 mod lists;
 mod numbers;
 mod overpriced;
@@ -15,6 +16,7 @@ mod unlisted;
 mod values;
 
 pub use checker::check;
+pub use hall::leaves_no_plan;
 pub use lists::WideLists;
 pub use numbers::{GREATEST_WIDE_COST, GREATEST_WIDE_PRICE, Wide, first_beyond, is_wide_cost};
 pub use source::{WidePairs, WideSource};
