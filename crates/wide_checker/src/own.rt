@@ -122,6 +122,12 @@ pub fn own_costs(
 {
     let (n, m) = (lists.persons() as usize, lists.objects());
     let mut own: Vec<i128> = vec![in alloc; UNLISTED; n]?;
-    set_own(own.as_mut_slice(), lists.sense(), m, lists.source(), objects);
+    set_own(
+        own.as_mut_slice(),
+        lists.sense(),
+        m,
+        lists.source(),
+        objects,
+    );
     Ok(own)
 }

@@ -1,9 +1,7 @@
-use Rattle.std.proofs.Common.{◌≡◌, ℕ, ℤ, List, pos, length, replicate, map, refl, arith, rules, ap, sym, subst, ◌∙◌}
-use Rattle.std.specs.List.{All}
+use Rattle.std.proofs.Common.{◌≡◌, ℕ, ℤ, List, length, map, arith, ap, sym, subst, ◌∙◌}
 use Rattle.std.proofs.lemmas.List.{length-map}
 use Rattle.assign_core.specs.declared.sense.Sense.TheVariants.{Min}
 use Rattle.assign_core.specs.Hall.{IsHallSet}
-use Rattle.assign_core.specs.Rows.{IsCost}
 use Rattle.cost_lists.specs.Given.{triples_of}
 use Rattle.cost_lists.proofs.GivenRows.{rows_list}
 use Rattle.cost_lists.proofs.Triples.{triples_among}
@@ -40,7 +38,7 @@ returns c = λ sense.
     let yes = c.in_ok-check_hall.ensures.yes in
     let says = c.is_yes.ensures in (
       (λ t. hall_given Min sense p.persons.now p.objects.now zeros costs n m persons objects e f here there
-      (subst (λ r. IsHallSet r persons objects) rows (yes.0 (says.0 t)))),
+          (subst (λ r. IsHallSet r persons objects) rows (yes.0 (says.0 t)))),
       (λ h. says.1 (yes.1 (subst (λ r. IsHallSet r persons objects) (sym rows)
-      (hall_given sense Min p.persons.now p.objects.now costs zeros n m persons objects f e there here h)))),
+          (hall_given sense Min p.persons.now p.objects.now costs zeros n m persons objects f e there here h)))),
     )
