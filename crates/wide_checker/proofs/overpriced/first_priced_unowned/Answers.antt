@@ -7,7 +7,7 @@ use Rattle.cost_lists.specs.Exact.{AreFree}
 use Rattle.dual_checker.specs.Faults.{IsFirst}
 use Rattle.dual_checker.proofs.Firsts.{one_more}
 use Rattle.exact_checker.specs.Faults.{IsPricedUnowned}
-use Rattle.wide_checker.proofs.Unowned.{IsFine, fine_unless, free_from, priced_from}
+use Rattle.exact_checker.proofs.Unowned.{IsFine, fine_unless, free_from, priced_from}
 use Rattle.wide_checker.specs.WideNumbers.{wide_value}
 use Rattle.wide_checker.proofs.overpriced.first_priced_unowned.Goals as goal
 
