@@ -1,11 +1,11 @@
-mod Earliest
-mod PairSums
-mod RowSums
-mod Better
-mod Unowned
+pub mod Earliest
+pub mod PairSums
+pub mod RowSums
+pub mod Better
+pub mod Unowned
 mod Differences
 mod HallDifferences
 mod HallPairs
-mod Ranks
+pub mod Ranks
 mod OwnMarks
 mod Marks

@@ -16,8 +16,8 @@ use Rattle.exact_checker.specs.declared.verdict.Verdict.{Verdict}
 use Rattle.exact_checker.specs.declared.verdict.Verdict.TheVariants.{Length, Unlisted, Twice, PriceRange, Slack, Overpriced, Yes}
 use Rattle.exact_checker.specs.Faults.{IsBetterFor, IsPricedUnowned}
 use Rattle.wide_checker.specs.WideVerdicts.{IsBeyondPrices, IsWideVerdict}
-use Rattle.wide_checker.proofs.Better.{choice_unbeaten}
-use Rattle.wide_checker.proofs.Ranks.{Passes, same_rank}
+use Rattle.exact_checker.proofs.Better.{choice_unbeaten}
+use Rattle.exact_checker.proofs.Ranks.{Passes, same_rank}
 
 -- the facts that the checker tests, in their order
 abbrev Fact : ListedCosts → List ℕ → List ℤ → ℕ → Type 0

@@ -1,10 +1,9 @@
 -- The rows of given costs are in the limits.
-use Rattle.std.proofs.Common.{◌≡◌, ℕ, ℤ, List, length, map, ap, sym, subst, ◌∙◌}
+use Rattle.std.proofs.Common.{◌≡◌, ℕ, length, map, ap, sym, subst, ◌∙◌}
 use Rattle.std.specs.List.{All}
 use Rattle.std.proofs.lemmas.List.{length-map}
 use Rattle.assign_core.specs.declared.sense.Sense.{Sense}
 use Rattle.assign_core.specs.Rows.{IsWithin}
-use Rattle.assign_core.specs.Sparse.{Triple}
 use Rattle.assign_core.proofs.DenseRows.{length-rows_cut}
 use Rattle.cost_lists.specs.ListedCosts.{ListedCosts, IsCount}
 use Rattle.cost_lists.proofs.GivenRows.{length-rows_given}

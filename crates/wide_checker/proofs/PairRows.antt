@@ -1,5 +1,5 @@
 -- Rows of listed pairs with costs of any size: what they list, and their limits.
-use Rattle.std.proofs.Common.{◌≡◌, ℕ, ℤ, pos, ◌<◌, ◌≤◌, ◌+◌, zero, suc, List, [], Option, None, Some, length, get_or}
+use Rattle.std.proofs.Common.{◌≡◌, ℕ, ℤ, pos, ◌<◌, ◌≤◌, ◌+◌, zero, suc, List, [], Option, None, Some, length}
 use Rattle.std.proofs.Common.{refl, ap, arith, sym, subst, ◌∙◌, inl, inr, ◌⊎◌}
 use Rattle.std.specs.List.{All}
 use Rattle.std.proofs.lemmas.Bool.{cases_lt}

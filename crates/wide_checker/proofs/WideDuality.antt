@@ -1,5 +1,5 @@
 -- Weak duality with exact prices in the wide limits.
-use Rattle.std.proofs.Common.{ℕ, ℤ, pos, ◌≤ℤ◌, ◌<◌, zero, suc, List, length, arith, inl, inr}
+use Rattle.std.proofs.Common.{ℕ, ℤ, pos, ◌≤ℤ◌, zero, suc, List, length, arith, inl, inr}
 use Rattle.std.specs.List.{All}
 use Rattle.std.proofs.lemmas.Int.{ints}
 use Rattle.std.proofs.lemmas.Bool.{cases_lt}

@@ -1,6 +1,6 @@
 -- Hall sets don't depend on costs.
-use Rattle.std.proofs.Common.{◌≡◌, ◌↔◌, ℕ, ℤ, ◌+◌, ◌-◌, zero, suc, List, [], ◌∷◌, Option, Some, IsSome, Bool, true, false, cond, nat_eq, ◌&&◌, take, drop}
-use Rattle.std.proofs.Common.{pos, ◌<◌, length, get_or, replicate, ap, refl, rules, arith, sym, subst, ◌∙◌, length-take, length-drop}
+use Rattle.std.proofs.Common.{◌≡◌, ℕ, ℤ, ◌+◌, zero, suc, List, [], ◌∷◌, Option, Some, IsSome, Bool, true, false, cond, nat_eq, ◌&&◌, take, drop}
+use Rattle.std.proofs.Common.{pos, length, get_or, replicate, ap, refl, rules, arith, sym, subst, ◌∙◌, length-take, length-drop}
 use Rattle.std.specs.List.{All}
 use Rattle.std.proofs.lemmas.Int.{ints}
 use Rattle.std.proofs.lemmas.List.{get_or-replicate, length-replicate}

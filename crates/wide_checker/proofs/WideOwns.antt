@@ -1,6 +1,6 @@
 -- The costs of persons' own objects, of any size, from listed pairs one after another.
-use Rattle.std.proofs.Common.{◌≡◌, ◌≢◌, ℕ, ℤ, pos, ◌≤ℤ◌, ◌<◌, ◌≤◌, ◌+◌, ◌-◌, zero, suc, List, [], Option, None}
-use Rattle.std.proofs.Common.{Some, IsSome, unwrap_or, length, get_or, set, replicate, refl, rules, ap, arith, sym}
+use Rattle.std.proofs.Common.{◌≡◌, ◌≢◌, ℕ, ℤ, pos, ◌≤ℤ◌, ◌<◌, ◌≤◌, ◌+◌, zero, suc, List, [], Option, None}
+use Rattle.std.proofs.Common.{Some, IsSome, length, get_or, set, replicate, refl, rules, ap, arith, sym}
 use Rattle.std.proofs.Common.{subst, ◌∙◌, inl, inr, ◌⊎◌}
 use Rattle.std.specs.List.{All, Contains}
 use Rattle.std.specs.Int.{int_min}
@@ -11,7 +11,7 @@ use Rattle.assign_core.specs.declared.sense.Sense.{Sense}
 use Rattle.assign_core.specs.declared.sense.Sense.TheVariants.{Min, Max}
 use Rattle.assign_core.specs.Numbered.{IsNumber, numbered}
 use Rattle.assign_core.specs.Rows.{Listing, IsListed, listed_in, listed_or_zero, row_of}
-use Rattle.assign_core.specs.Assignment.{AreListed, IsNoWorse}
+use Rattle.assign_core.specs.Assignment.{AreListed}
 use Rattle.assign_core.proofs.Listed.{entry_found}
 use Rattle.assign_core.proofs.NumberedLemmas.{All-numbered, low_or_same}
 use Rattle.assign_core.proofs.Orders.{le_antisymmetric}

@@ -1,5 +1,5 @@
 -- Sums of costs and prices in listed pairs of any costs.
-use Rattle.std.proofs.Common.{◌≡◌, ℕ, ℤ, pos, ◌+ℤ◌, ◌<ℤ◌, ◌<◌, ◌-◌, List, Option, None, Some, length, get_or, refl, arith, ap, sym, subst, ◌∙◌}
+use Rattle.std.proofs.Common.{◌≡◌, ℕ, ℤ, pos, ◌<◌, ◌-◌, List, Option, None, Some, length, get_or, refl, arith, ap, sym, subst, ◌∙◌}
 use Rattle.std.specs.List.{All, Contains}
 use Rattle.std.proofs.lemmas.Int.{ints}
 use Rattle.assign_core.specs.declared.sense.Sense.{Sense}
@@ -12,13 +12,9 @@ use Rattle.cost_lists.proofs.BestGiven.{best_given_is}
 use Rattle.cost_lists.proofs.Owns.{turned_order}
 use Rattle.cost_lists.proofs.Triples.{place_of_triple, triple_contained}
 use Rattle.exact_checker.specs.Under.{IsUnder}
-use Rattle.wide_checker.proofs.Earliest.{IsMet}
+use Rattle.exact_checker.proofs.Earliest.{IsMet}
+use Rattle.exact_checker.proofs.PairSums.{IsUnderAt}
 use Rattle.wide_checker.proofs.PairRows.{IsWideTriple, wide_list}
-
--- the sum at a place is below its person's value
-abbrev pub IsUnderAt : Sense → List ℕ → List ℕ → List ℤ → List ℤ → List ℤ → ℕ → Type 0
-IsUnderAt sense persons objects costs prices values q =
-    (minimised sense (get_or costs q (pos 0)) +ℤ get_or prices (get_or objects q 0 - 1) (pos 0)) <ℤ get_or values (get_or persons q 0 - 1) (pos 0)
 
 module _ (sense : Sense) (persons objects : List ℕ) (costs prices values : List ℤ)
     (objects_long : length objects ≡ length persons) (costs_long : length costs ≡ length persons)

@@ -1,5 +1,5 @@
 -- Sums of costs and prices in rows of costs of any size.
-use Rattle.std.proofs.Common.{◌≡◌, ℕ, ℤ, pos, ◌≤ℤ◌, ◌<ℤ◌, ◌<◌, ◌≤◌, ◌+◌, ◌-◌, ◌*◌, List, Some, IsSome, length, get_or, refl, arith, ap, sym, subst, ◌∙◌, inl, inr}
+use Rattle.std.proofs.Common.{◌≡◌, ℕ, ℤ, pos, ◌≤ℤ◌, ◌<ℤ◌, ◌<◌, ◌≤◌, ◌+◌, ◌-◌, ◌*◌, List, Some, IsSome, length, get_or, refl, arith, ap, sym, subst, ◌∙◌}
 use Rattle.std.proofs.lemmas.Int.{ints}
 use Rattle.assign_core.specs.declared.sense.Sense.{Sense}
 use Rattle.assign_core.specs.Numbered.{IsNumber}
@@ -7,27 +7,14 @@ use Rattle.assign_core.specs.Rows.{listed_in, row_of}
 use Rattle.assign_core.specs.Dense.{row_from, rows_cut}
 use Rattle.assign_core.proofs.DenseRows.{length-rows_cut}
 use Rattle.assign_core.proofs.Listed.{listing_within}
-use Rattle.assign_core.proofs.NumberedLemmas.{low_or_same, numbered-index, numbered-next}
+use Rattle.assign_core.proofs.NumberedLemmas.{numbered-index, numbered-next}
 use Rattle.dual_checker.specs.Faults.{IsFirst}
 use Rattle.cost_lists.specs.Own.{minimised}
 use Rattle.cost_lists.specs.Source.{part_of}
 use Rattle.cost_lists.proofs.CutRows.{cost_read, cut_row, listed_number, part_fits, part_long}
 use Rattle.exact_checker.specs.inside.Sums.{sum_at}
 use Rattle.exact_checker.specs.Under.{IsUnder}
-
--- no sum in the parts of the first i persons is below their values
-abbrev pub NoneUnder : Sense → List ℤ → List ℤ → List ℤ → ℕ → Type 0
-NoneUnder sense costs prices values i =
-    (q j : ℕ) → q < i → j < length prices → get_or values q (pos 0) ≤ℤ sum_at sense (part_of (length prices) q costs) prices j
-
--- and of one more
-pub none_more : (sense : Sense) (costs prices values : List ℤ) (i : ℕ) → NoneUnder sense costs prices values i →
-    ((j : ℕ) → j < length prices → get_or values i (pos 0) ≤ℤ sum_at sense (part_of (length prices) i costs)
-    prices j) → NoneUnder sense costs prices values (i + 1)
-none_more sense costs prices values i before here q j lt room = elim (low_or_same q i lt) [
-  | inl less ↦ before q j less room
-  | inr same ↦ subst (λ p. get_or values p (pos 0) ≤ℤ sum_at sense (part_of (length prices) p costs) prices j) (sym same) (here j room)
-]
+use Rattle.exact_checker.proofs.RowSums.{NoneUnder}
 
 some_same : {a b : ℤ} → Some a ≡ Some b → a ≡ b
 some_same e = cc

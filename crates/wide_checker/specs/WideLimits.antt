@@ -1,5 +1,5 @@
 -- The limits of rows whose costs have 128 bits.
-use Rattle.std.specs.Prelude.{List, length, All}
+use Rattle.std.specs.Prelude.{length, All}
 use Rattle.assign_core.specs.Rows.{Listing, IsWithin}
 use Rattle.cost_lists.specs.ListedCosts.{ListedCosts, IsCount}
 use Rattle.wide_checker.specs.WideNumbers.{IsInCosts}

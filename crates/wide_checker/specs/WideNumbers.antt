@@ -1,5 +1,5 @@
 -- Numbers of 128 bits in two words, and their limits.
-use Rattle.std.specs.Prelude.{ℕ, ℤ, pos, neg_ℤ, ◌+ℤ◌, ◌*ℤ◌, ◌≤ℤ◌, ◌<◌, ◌^◌, List, length, slice_index_or, Contains, All}
+use Rattle.std.specs.Prelude.{ℕ, ℤ, pos, neg_ℤ, ◌+ℤ◌, ◌*ℤ◌, ◌≤ℤ◌, ◌<◌, ◌^◌, List, length, slice_index_or}
 use Rattle.wide_checker.specs.declared.numbers.Wide.{Wide}
 use Rattle.wide_checker.specs.declared.numbers.TheConstants.{GREATEST_WIDE_COST, GREATEST_WIDE_PRICE}
 
@@ -12,7 +12,7 @@ pub record IsInCosts (c : ℤ) : Type 0 where
   pub least : neg_ℤ GREATEST_WIDE_COST ≤ℤ c
   pub greatest : c ≤ℤ GREATEST_WIDE_COST
 
--- such a cost in two words
+-- a cost in two words
 abbrev pub IsWideCost : Wide → Type 0
 IsWideCost w = IsInCosts (wide_value w)
 

@@ -1,5 +1,5 @@
 -- Costs as they are given, and their rows.
-use Rattle.std.specs.Prelude.{◌≡◌, ℕ, ℤ, ◌*◌, List, length, map, All}
+use Rattle.std.specs.Prelude.{◌≡◌, ℕ, ◌*◌, List, length, map, All}
 use Rattle.assign_core.specs.declared.sense.Sense.{Sense}
 use Rattle.assign_core.specs.Numbered.{IsNumber}
 use Rattle.assign_core.specs.Dense.{rows_cut}

@@ -1,5 +1,5 @@
 -- The meaning of each verdict on two lists, one of objects and one of prices.
-use Rattle.std.specs.Prelude.{◌≡◌, ℕ, ℤ, List, length, All}
+use Rattle.std.specs.Prelude.{ℕ, ℤ, List, length, All}
 use Rattle.assign_core.specs.Assignment.{AreListed, IsAssignment}
 use Rattle.assign_core.specs.Prices.{price_of}
 use Rattle.dual_checker.specs.Faults.{IsFirst, AreLong, IsGivenTwice, IsUnlisted}

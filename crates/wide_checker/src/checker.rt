@@ -81,9 +81,9 @@ fn first_fault(
     Verdict::Yes
 }
 
-/// Whether the objects of persons 1 to `n` and the prices of objects 1 to `m` are an assignment with
-/// exact prices; if not, the first fault in the order of `Verdict`, by its lowest number. Prices are
-/// from 0 to `GREATEST_WIDE_PRICE`.
+/// Whether the objects of persons 1 to `n` and the prices of objects 1 to `m` are an assignment
+/// with exact prices; if not, the first fault in the order of `Verdict`, by its lowest number.
+/// Prices are from 0 to `GREATEST_WIDE_PRICE`.
 ///
 /// `Yes` proves the assignment optimal: complementary slackness 0, in the unit of the costs
 /// (Bertsekas, Network Optimization, 1998, section 7.1). The lists may have any length and hold any

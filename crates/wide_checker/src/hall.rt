@@ -72,9 +72,9 @@ fn is_hall_of_pairs(
     Ok(is_yes(check_hall(alloc, &lists, persons, objects)?))
 }
 
-/// Whether these persons and objects are a Hall set of the costs, so that no assignment exists: the
-/// persons would need different objects out of fewer (P. Hall, On representatives of subsets, 1935).
-/// The lists may have any length and hold any numbers.
+/// Whether these persons and objects are a Hall set of the costs, so that no assignment exists:
+/// the persons would need different objects out of fewer (P. Hall, On representatives of subsets,
+/// 1935). The lists may have any length and hold any numbers.
 ///
 /// The time is linear in the costs, or in the listed pairs; the memory is 8 bytes for each of them.
 ///

@@ -13,8 +13,8 @@ use assign_core::Sense;
 use cost_lists::{Object, Person};
 use std::marker::Model;
 
-/// The costs of persons 1 to `n` and objects 1 to `m`, and whether low or high ones are wanted. They
-/// are read where they are, and not copied.
+/// The costs of persons 1 to `n` and objects 1 to `m`, and whether low or high ones are wanted.
+/// They are read where they are, and not copied.
 #[derive(Drop)]
 pub struct WideLists<'a> {
     sense: Sense,
@@ -30,7 +30,11 @@ impl<'a> Model for WideLists<'a> {
 
     ghost use Rattle.wide_checker.specs.WideSources.{IsWideGiven, wide_rows};
 
-    ghost view = { λ l. record { sense = l.sense; m = l.m; rows = wide_rows l.sense l.n l.m l.source } };
+    ghost view = { λ l. record {
+      sense = l.sense;
+      m = l.m;
+      rows = wide_rows l.sense l.n l.m l.source;
+    } };
 
     ghost invariant = { λ l. IsWideGiven l.n l.m l.source };
 }

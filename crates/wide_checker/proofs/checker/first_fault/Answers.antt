@@ -9,7 +9,7 @@ use Rattle.cost_lists.specs.Exact.{AreFree}
 use Rattle.wide_checker.specs.WideNumbers.{wide_value}
 use Rattle.wide_checker.proofs.WideOwns.{own_of_listed, wide_range}
 use Rattle.exact_checker.specs.Faults.{IsPricedUnowned}
-use Rattle.wide_checker.proofs.Better.{better_first, choices_from, short_first, values_are}
+use Rattle.exact_checker.proofs.Better.{better_first, choices_from, short_first, values_are}
 use Rattle.wide_checker.proofs.checker.first_fault.Goals as goal
 
 pub returns-in-Some : goal.returns-in-Some

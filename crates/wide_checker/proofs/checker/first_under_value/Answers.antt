@@ -3,7 +3,7 @@ use Rattle.assign_core.specs.Dense.{rows_cut}
 use Rattle.cost_lists.specs.Given.{rows_given}
 use Rattle.wide_checker.specs.WideNumbers.{wide_value}
 use Rattle.wide_checker.specs.WideSources.{triples_in}
-use Rattle.wide_checker.proofs.Better.{under_shown}
+use Rattle.exact_checker.proofs.Better.{under_shown}
 use Rattle.wide_checker.proofs.checker.first_under_value.Goals as goal
 
 pub returns-in-Dense : goal.returns-in-Dense

@@ -1,9 +1,7 @@
-use Rattle.std.proofs.Common.{◌≡◌, ℕ, ℤ, List, pos, length, replicate, map, refl, arith, rules, ap, sym, subst, ◌∙◌}
-use Rattle.std.specs.List.{All}
+use Rattle.std.proofs.Common.{◌≡◌, ℕ, ℤ, List, length, map, arith, ap, sym, subst, ◌∙◌}
 use Rattle.std.proofs.lemmas.List.{length-map}
 use Rattle.assign_core.specs.declared.sense.Sense.TheVariants.{Min}
 use Rattle.assign_core.specs.Hall.{IsHallSet}
-use Rattle.assign_core.specs.Rows.{IsCost}
 use Rattle.cost_lists.specs.Given.{triples_of}
 use Rattle.cost_lists.proofs.GivenRows.{rows_list}
 use Rattle.cost_lists.proofs.Triples.{triples_among}

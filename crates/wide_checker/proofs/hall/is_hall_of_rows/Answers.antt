@@ -1,6 +1,5 @@
 use Rattle.std.proofs.Common.{◌≡◌, ℕ, ℤ, List, length, map, arith, ap, sym, subst}
 use Rattle.std.proofs.lemmas.List.{length-map}
-use Rattle.assign_core.specs.Dense.{rows_cut}
 use Rattle.assign_core.specs.Hall.{IsHallSet}
 use Rattle.wide_checker.specs.WideNumbers.{wide_value}
 use Rattle.wide_checker.proofs.WideHall.{hall_cut}

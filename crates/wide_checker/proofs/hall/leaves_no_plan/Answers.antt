@@ -1,5 +1,4 @@
-use Rattle.std.proofs.Common.{◌≡◌, ◌↔◌, ℕ, List, Bool, IsTrue, length, map, ap, subst, ◌∙◌}
-use Rattle.std.specs.Result.{IfOk}
+use Rattle.std.proofs.Common.{◌↔◌, ℕ, List, IsTrue, map, ap, subst, ◌∙◌}
 use Rattle.std.proofs.lemmas.Result.{IfOk-weaker}
 use Rattle.assign_core.specs.Assignment.{IsAssignment}
 use Rattle.assign_core.specs.Dense.{rows_cut}

@@ -3,7 +3,6 @@ use Rattle.std.specs.Int.{w128}
 use Rattle.std.proofs.lemmas.Int.{to_z-of_z}
 use Rattle.std.proofs.lemmas.List.{length-map}
 use Rattle.wide_checker.specs.WideNumbers.{IsInPrices, wide_value}
-use Rattle.wide_checker.proofs.Words.{all_values}
 use Rattle.wide_checker.proofs.numbers.price_at.Goals as goal
 
 pub returns-clause-range : goal.returns-clause-range

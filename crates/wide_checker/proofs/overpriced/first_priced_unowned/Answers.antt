@@ -1,4 +1,4 @@
-use Rattle.std.proofs.Common.{◌≡◌, ◌≢◌, ◌+◌, ◌<◌, ℕ, ℤ, List, pos, length, map, get_or, arith, rules, sym, subst, ◌∙◌, SFits}
+use Rattle.std.proofs.Common.{◌≡◌, ◌≢◌, ◌+◌, ℕ, ℤ, List, pos, map, get_or, arith, rules, sym, subst, ◌∙◌, SFits}
 use Rattle.std.specs.Int.{w128}
 use Rattle.std.proofs.lemmas.Int.{to_z-of_z}
 use Rattle.std.proofs.lemmas.List.{length-map}
@@ -7,7 +7,7 @@ use Rattle.cost_lists.specs.Exact.{AreFree}
 use Rattle.dual_checker.specs.Faults.{IsFirst}
 use Rattle.dual_checker.proofs.Firsts.{one_more}
 use Rattle.exact_checker.specs.Faults.{IsPricedUnowned}
-use Rattle.wide_checker.proofs.Unowned.{IsFine, fine_unless, free_from, priced_from}
+use Rattle.exact_checker.proofs.Unowned.{IsFine, fine_unless, free_from, priced_from}
 use Rattle.wide_checker.specs.WideNumbers.{wide_value}
 use Rattle.wide_checker.proofs.overpriced.first_priced_unowned.Goals as goal
 

@@ -1,6 +1,6 @@
 use Rattle.std.proofs.Common.{ℕ, map}
 use Rattle.assign_core.specs.Numbered.{IsNumber}
-use Rattle.wide_checker.proofs.Unowned.{IsFine}
+use Rattle.exact_checker.proofs.Unowned.{IsFine}
 use Rattle.wide_checker.specs.WideNumbers.{wide_value}
 use Rattle.wide_checker.proofs.overpriced.first_priced_unowned.Given as goal
 

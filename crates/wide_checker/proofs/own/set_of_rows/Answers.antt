@@ -1,9 +1,8 @@
-use Rattle.std.proofs.Common.{◌≢◌, map, pos, ◌<◌, length, get_or, arith, rules, ap, sym, subst, ◌∙◌, below_more, SFits}
+use Rattle.std.proofs.Common.{◌≢◌, map, pos, ◌<◌, length, get_or, arith, rules, ap, sym, ◌∙◌, below_more, SFits}
 use Rattle.std.specs.Int.{w128}
 use Rattle.std.proofs.lemmas.Int.{to_z-of_z}
 use Rattle.std.proofs.lemmas.List.{length-map, get_or-set_other, get_or-set_same}
-use Rattle.std.specs.List.{All}
-use Rattle.assign_core.specs.Rows.{IsCost, listed_in}
+use Rattle.assign_core.specs.Rows.{listed_in}
 use Rattle.wide_checker.specs.WideNumbers.{wide_value}
 use Rattle.wide_checker.specs.inside.Own.{turned_or_marked}
 use Rattle.cost_lists.proofs.CutRows.{cut_row, part_fits}

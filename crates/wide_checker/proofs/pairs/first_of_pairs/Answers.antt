@@ -7,10 +7,11 @@ use Rattle.cost_lists.specs.Own.{minimised}
 use Rattle.exact_checker.specs.Under.{IsUnder}
 use Rattle.wide_checker.specs.WideNumbers.{wide_value}
 use Rattle.wide_checker.specs.WideSources.{AreWidePairs, triples_in}
-use Rattle.wide_checker.proofs.Better.{under_shown}
-use Rattle.wide_checker.proofs.Earliest.{IsFirstSoFar, first_found, first_skip, first_take}
+use Rattle.exact_checker.proofs.Better.{under_shown}
+use Rattle.exact_checker.proofs.Earliest.{IsFirstSoFar, first_found, first_skip, first_take}
 use Rattle.wide_checker.proofs.Limits.{triples_wide}
-use Rattle.wide_checker.proofs.WidePairSums.{IsUnderAt, from_under, to_under, under_range}
+use Rattle.exact_checker.proofs.PairSums.{IsUnderAt}
+use Rattle.wide_checker.proofs.WidePairSums.{from_under, to_under, under_range}
 use Rattle.wide_checker.proofs.pairs.first_of_pairs.Goals as goal
 use Rattle.wide_checker.proofs.pairs.first_of_pairs.Goals.{then-sum-values, else-sum-values}
 

@@ -1,7 +1,7 @@
 use Rattle.std.proofs.Common.{map}
 use Rattle.wide_checker.specs.WideNumbers.{wide_value}
-use Rattle.wide_checker.proofs.Earliest.{IsFirstSoFar}
-use Rattle.wide_checker.proofs.WidePairSums.{IsUnderAt}
+use Rattle.exact_checker.proofs.Earliest.{IsFirstSoFar}
+use Rattle.exact_checker.proofs.PairSums.{IsUnderAt}
 use Rattle.wide_checker.proofs.pairs.first_of_pairs.Given as goal
 
 abbrev pub invariant-loop-k : goal.invariant-loop-k

@@ -1,4 +1,4 @@
-use Rattle.std.proofs.Common.{List, ℤ, ℕ, pos, length, map, arith, rules, refl, get_or, sym, subst, SFits}
+use Rattle.std.proofs.Common.{List, ℤ, ℕ, pos, map, arith, rules, refl, get_or, sym, subst, SFits}
 use Rattle.std.specs.Int.{w128}
 use Rattle.std.proofs.lemmas.Int.{to_z-of_z}
 use Rattle.std.proofs.lemmas.List.{length-map}

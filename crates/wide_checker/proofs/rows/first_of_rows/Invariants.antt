@@ -1,5 +1,5 @@
 use Rattle.std.proofs.Common.{map}
-use Rattle.wide_checker.proofs.WideRowSums.{NoneUnder}
+use Rattle.exact_checker.proofs.RowSums.{NoneUnder}
 use Rattle.wide_checker.specs.WideNumbers.{wide_value}
 use Rattle.wide_checker.proofs.rows.first_of_rows.Given as goal
 

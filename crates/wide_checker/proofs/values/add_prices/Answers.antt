@@ -1,4 +1,4 @@
-use Rattle.std.proofs.Common.{◌≡◌, List, ℤ, map, ◌≢◌, ℕ, pos, ◌-◌, ◌+ℤ◌, ◌<◌, length, get_or, arith, rules, below_more, SFits}
+use Rattle.std.proofs.Common.{◌≡◌, List, ℤ, map, ◌≢◌, ℕ, pos, ◌+ℤ◌, ◌<◌, length, get_or, arith, rules, below_more, SFits}
 use Rattle.std.specs.Int.{w128}
 use Rattle.std.proofs.lemmas.Int.{ints, to_z-of_z}
 use Rattle.std.proofs.lemmas.List.{length-map, get_or-set_other, get_or-set_same}
