@@ -91,8 +91,8 @@ fn few_of(count: usize) -> usize {
     few
 }
 
-// There are so many costs at most.
-const MOST_COSTS: usize = 1 << 26;
+// More costs are looked at by the cores alone, of which the first ones take little time then.
+const MOST_COSTS: usize = 1 << 10;
 
 /// A bound of reduced costs below which there may be so many plans besides the best one. It is the least
 /// one where looking for another takes long, and the greatest where there are few plans.
