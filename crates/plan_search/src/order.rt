@@ -278,7 +278,7 @@ impl Order {
 }
 
 // The least reduced weight of another pair that a row may take, if the rows before keep theirs, and
-// the first column of such a pair.
+// the first column at which it is.
 fn least_other(part: &Part, inner: &Inner, row: usize) -> (Cost, usize) {
     let (own, value) = (part.column(row), part.value(row));
     let (mut least, mut next) = (Cost::MAX, usize::MAX);

@@ -6,7 +6,7 @@ use assign_core::Cost;
 use cost_lists::{Object, Source};
 use std::alloc::{AllocError, Global};
 
-/// How much more such plans cost than the best one, of all costs.
+/// How much more these plans cost than the best one, where each pair has a cost.
 #[derive(Drop)]
 struct Swaps<'a> {
     costs: &'a [Cost],
@@ -78,8 +78,8 @@ fn own_costs(alloc: Global, best: Best<'_>) -> Result<Vec<Cost>, AllocError> {
     Ok(own)
 }
 
-// How many of such plans are to cost less than the bound: about the root of what is wanted, since
-// there are the more others below it, the more are wanted.
+// How many of these plans are to cost less than the bound: about the root of what is wanted, since
+// other plans are below it too, and the more of them, the more are wanted.
 fn few_of(count: usize) -> usize {
     let mut few = 1usize;
     for _ in 0..usize::BITS {
