@@ -33,7 +33,7 @@ def result_parts(problem: AssignmentProblem, answer: proved.Assignment) -> prove
 
 def ratios_of(shape: AssignmentProblem, costs: Sequence[Any]) -> List[Ratio]:
     """Costs of a problem, exactly."""
-    return [shape.costs.ratio(cost) for cost in costs]
+    return shape.costs.ratios(costs)
 
 
 def sum_of(shape: AssignmentProblem, ratios: Sequence[Ratio]) -> Number:
