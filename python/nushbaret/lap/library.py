@@ -174,7 +174,7 @@ def searched(sense: bool, n: int, m: int, lists: Sequence[Any], first: Optional[
 
 
 def _begun(first: Numbers, objects: Numbers) -> Numbers:
-    """First prices with which a search begins from the objects too, where most are given: it takes prices of 0 for none.
+    """First prices with which a search begins at the objects too, where most are given: it takes prices of 0 for none.
     Only how far prices are apart counts."""
     is_begun = first.count(0) < len(first) or len(objects) < _MOST_MISSING * objects.count(0)
     return first if is_begun else array("q", [1]) * len(first)
