@@ -95,7 +95,7 @@ impl Arcs {
     /// No arcs between the same nodes.
     pub fn without(&self, alloc: Global) -> Result<Arcs, AllocError> {
         Ok(Arcs {
-            starts: Vec::new(alloc),
+            starts: Vec::with_capacity(alloc, self.starts.len())?,
             objects: Vec::new(alloc),
             weights: Vec::new(alloc),
             owners: Vec::from_slice(alloc, self.owners.as_slice())?,
@@ -126,8 +126,8 @@ impl Arcs {
     }
 }
 
-// The sum of a cost and a price; under Max, of the cost with the other sign.
-fn sum_of(sense: Sense, cost: Cost, price: Price) -> Cost {
+/// The sum of a cost and a price; under Max, of the cost with the other sign.
+pub fn sum_of(sense: Sense, cost: Cost, price: Price) -> Cost {
     match sense {
         Sense::Min => price.wrapping_add(cost),
         Sense::Max => price.wrapping_sub(cost),
@@ -150,8 +150,8 @@ pub struct Best<'a> {
     pub prices: &'a [Price],
 }
 
-// The node of each object.
-fn owners_of(alloc: Global, objects: &[Object], m: usize) -> Result<Vec<usize>, AllocError> {
+/// The node of each object.
+pub fn owners_of(alloc: Global, objects: &[Object], m: usize) -> Result<Vec<usize>, AllocError> {
     let mut owners = vec![in alloc; objects.len(); m]?;
     for (node, object) in objects.iter().enumerate() {
         set_value(owners.as_mut_slice(), place_of(*object), node);
@@ -317,16 +317,24 @@ pub fn add_last(arcs: &mut Arcs, best: Best<'_>, bound: Cost) -> Result<(), Allo
     Ok(())
 }
 
-/// No arcs yet of a plan with so many objects.
-pub fn no_arcs(alloc: Global, objects: &[Object], m: usize) -> Result<Arcs, AllocError> {
+/// No arcs yet of a plan with so many objects, and room for some.
+pub fn no_arcs(
+    alloc: Global,
+    objects: &[Object],
+    m: usize,
+    room: usize,
+) -> Result<Arcs, AllocError> {
     Ok(Arcs {
-        starts: Vec::new(alloc),
-        objects: Vec::new(alloc),
-        weights: Vec::new(alloc),
+        starts: Vec::with_capacity(alloc, objects.len().saturating_add(2))?,
+        objects: Vec::with_capacity(alloc, room)?,
+        weights: Vec::with_capacity(alloc, room)?,
         owners: owners_of(alloc, objects, m)?,
         above: Vec::new(alloc),
     })
 }
+
+// How many arcs there is room for at first, for each person.
+const USUAL_WIDTH: usize = 4;
 
 /// The core of a best plan below a bound.
 pub fn core_below(
@@ -336,7 +344,8 @@ pub fn core_below(
     bound: Cost,
 ) -> Result<Arcs, AllocError> {
     let n = best.objects.len();
-    let mut arcs = no_arcs(alloc, best.objects, best.prices.len())?;
+    let room = n.saturating_mul(USUAL_WIDTH);
+    let mut arcs = no_arcs(alloc, best.objects, best.prices.len(), room)?;
     match source {
         Source::Dense(costs) => add_rows(&mut arcs, best, costs, bound)?,
         Source::Listed(pairs) => {

@@ -55,17 +55,17 @@ impl Cheapest {
         (row, length): (usize, Cost),
         most: Cost,
     ) -> Result<(), AllocError> {
-        let own = part.column(row);
-        for pair in inner.start(row)..inner.end(row) {
-            let column = inner.column(pair);
-            let longer = length.saturating_add(part.reduced(inner, row, pair));
+        let (own, before) = (part.column(row), length.saturating_sub(part.value(row)));
+        let (columns, weights) = inner.pairs(row);
+        for (column, weight) in columns.iter().zip(weights.iter()) {
+            let longer = before.saturating_add(part.sum(*column, *weight));
             if longer <= most
-                && longer < self.distance(column)
-                && column != own
-                && part.holder(column) >= first
-                && (row != first || part.allows(first, column))
+                && longer < self.distance(*column)
+                && *column != own
+                && part.holder(*column) >= first
+                && (row != first || part.allows(first, *column))
             {
-                self.reach(column, row, longer)?;
+                self.reach(*column, row, longer)?;
             }
         }
         Ok(())

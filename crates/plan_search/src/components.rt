@@ -29,8 +29,8 @@ impl Components {
             numbers: vec![in alloc; 0usize; nodes]?,
             lowest: vec![in alloc; 0usize; nodes]?,
             next: vec![in alloc; 0usize; nodes]?,
-            path: Vec::new(alloc),
-            open: Vec::new(alloc),
+            path: Vec::with_capacity(alloc, nodes)?,
+            open: Vec::with_capacity(alloc, nodes)?,
             sizes: vec![in alloc; 0usize; nodes]?,
             count: 0,
         })

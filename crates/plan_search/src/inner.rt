@@ -1,7 +1,7 @@
 // The persons and objects of a core that can change places.
 use super::arcs::Arcs;
 use super::components::{Components, components_of};
-use super::values::{place_of, set_value, value_at};
+use super::values::{elements, place_of, set_value, value_at};
 use assign_core::Cost;
 use cost_lists::Object;
 use std::alloc::{AllocError, Global};
@@ -52,6 +52,13 @@ impl Inner {
     /// The places of the pairs of a row.
     pub fn end(&self, row: usize) -> usize {
         self.start(row.wrapping_add(1))
+    }
+
+    /// The columns and the weights of the pairs of a row.
+    pub fn pairs(&self, row: usize) -> (&[usize], &[Cost]) {
+        let (start, end) = (self.start(row), self.end(row));
+        let columns = elements(self.columns.as_slice(), start, end);
+        (columns, elements(self.weights.as_slice(), start, end))
     }
 
     /// The column of the pair at a place.
@@ -277,8 +284,8 @@ pub fn inner_of(
         persons: Vec::new(alloc),
         objects: Vec::new(alloc),
         starts: Vec::new(alloc),
-        columns: Vec::new(alloc),
-        weights: Vec::new(alloc),
+        columns: Vec::with_capacity(alloc, arcs.size())?,
+        weights: Vec::with_capacity(alloc, arcs.size())?,
         own: Vec::new(alloc),
         owners: Vec::new(alloc),
         taker_starts: Vec::new(alloc),

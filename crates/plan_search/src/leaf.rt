@@ -29,10 +29,10 @@ impl Pairs {
         bound: Cost,
     ) -> Result<Pairs, AllocError> {
         let mut pairs = Pairs {
-            starts: Vec::new(alloc),
-            objects: Vec::new(alloc),
-            costs: Vec::new(alloc),
-            is_closed: Vec::new(alloc),
+            starts: Vec::with_capacity(alloc, best.objects.len().saturating_add(1))?,
+            objects: Vec::with_capacity(alloc, core.size())?,
+            costs: Vec::with_capacity(alloc, core.size())?,
+            is_closed: Vec::with_capacity(alloc, core.size())?,
             is_kept: vec![in alloc; false; best.objects.len()]?,
         };
         for (node, object) in best.objects.iter().enumerate() {
@@ -177,7 +177,7 @@ impl Pairs {
         prices: &[Price],
         bound: Cost,
     ) -> Result<Arcs, AllocError> {
-        let mut arcs = no_arcs(alloc, objects, prices.len())?;
+        let mut arcs = no_arcs(alloc, objects, prices.len(), self.objects.len())?;
         for (person, own) in objects.iter().enumerate() {
             arcs.begin_node()?;
             self.add_arcs(&mut arcs, person, *own, prices, bound)?;

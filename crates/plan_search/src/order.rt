@@ -4,12 +4,12 @@
 use super::cheapest::Cheapest;
 use super::earliest::Earliest;
 use super::inner::Inner;
+use super::least::Least;
 use super::part::Part;
 use super::queue::{Entry, Queue, Stage};
 use super::values::{set_value, value_at};
 use assign_core::Cost;
 use std::alloc::{AllocError, Global};
-use std::collections::BinaryHeap;
 
 /// A search for the first plans.
 #[derive(Drop)]
@@ -22,7 +22,7 @@ pub struct Order {
     count: usize,
     most: Cost,
     /// The least costs of plans that are known, up to that number.
-    costs: BinaryHeap<Cost>,
+    costs: Least,
     /// The least reduced weight of a pair of each column, of the rows after one.
     entering: Vec<Cost>,
     cheapest: Cheapest,
@@ -37,7 +37,7 @@ impl Order {
             found: Vec::new(alloc),
             count,
             most,
-            costs: BinaryHeap::new(alloc),
+            costs: Least::new(alloc, count),
             entering: vec![in alloc; Cost::MAX; inner.columns()]?,
             cheapest: Cheapest::new(alloc, inner)?,
             earliest: Earliest::new(alloc, inner)?,
@@ -69,15 +69,9 @@ impl Order {
 
     // Keeps the cost of a plan, so that no dearer one is looked for than so many are wanted.
     fn know(&mut self, cost: Cost) -> Result<(), AllocError> {
-        self.costs.push(cost)?;
-        if self.costs.len() > self.count {
-            let _greatest = self.costs.pop();
-        }
-        if self.costs.len() >= self.count {
-            if let Some(greatest) = self.costs.pop() {
-                self.most = greatest.min(self.most);
-                self.costs.push(greatest)?;
-            }
+        self.costs.add(cost)?;
+        if let Some(greatest) = self.costs.greatest() {
+            self.most = greatest.min(self.most);
         }
         Ok(())
     }
@@ -185,12 +179,13 @@ impl Order {
         let Some(part) = self.parts.get(part) else {
             return;
         };
-        for pair in inner.start(row)..inner.end(row) {
-            let column = inner.column(pair);
-            if part.holder(column) != row {
-                let weight = part.reduced(inner, row, pair);
-                let least = value_at(self.entering.as_slice(), column, 0).min(weight);
-                set_value(self.entering.as_mut_slice(), column, least);
+        let value = part.value(row);
+        let (columns, weights) = inner.pairs(row);
+        for (column, weight) in columns.iter().zip(weights.iter()) {
+            if part.holder(*column) != row {
+                let reduced = part.sum(*column, *weight).saturating_sub(value);
+                let least = value_at(self.entering.as_slice(), *column, 0).min(reduced);
+                set_value(self.entering.as_mut_slice(), *column, least);
             }
         }
     }
@@ -201,29 +196,23 @@ impl Order {
             return Ok(());
         };
         let entering = value_at(self.entering.as_slice(), part.column(row), Cost::MAX);
-        let least = least_other(part, inner, row);
+        let (least, next) = least_other(part, inner, row);
         let cost = least.saturating_add(entering).saturating_add(part.cost());
         if cost > self.most {
             return Ok(());
         }
-        let mut next = None;
-        if cost > part.cost() {
-            next = first_within(part, inner, row, (part.column(row), least));
-        }
-        part.add_split(cost, row, next.unwrap_or(usize::MAX))
+        part.add_split(cost, row, next)
     }
 
     // Adds the next part of the plans that differ from one.
-    fn add_split(&mut self, inner: &Inner, place: usize) -> Result<(), AllocError> {
+    fn add_split(&mut self, place: usize) -> Result<(), AllocError> {
         let Some(part) = self.parts.get_mut(place) else {
             return Ok(());
         };
-        let Some((cost, row)) = part.next_split() else {
+        let Some((cost, row, next)) = part.next_split() else {
             return Ok(());
         };
-        let least = least_other(part, inner, row);
-        let next = first_within(part, inner, row, (part.column(row), least));
-        self.push(cost, Stage::Bound, (place, row), (row, next))
+        self.push(cost, Stage::Bound, (place, row), (row, Some(next)))
     }
 
     // Bounds the costs of all splits of a part.
@@ -259,7 +248,7 @@ impl Order {
         self.bound_all(inner, entry.part, first)?;
         let looks = inner.size().saturating_sub(inner.start(first));
         *arc_scans = arc_scans.saturating_sub(looks as u64);
-        self.add_split(inner, entry.part)
+        self.add_split(entry.part)
     }
 
     // Goes on with the first entry; returns whether there is one.
@@ -278,7 +267,7 @@ impl Order {
         *arc_scans = arc_scans.saturating_sub(1);
         match entry.stage {
             Stage::Bound => {
-                self.add_split(inner, entry.part)?;
+                self.add_split(entry.part)?;
                 self.solve(inner, entry, arc_scans)?;
             }
             Stage::Known => self.improve(alloc, inner, entry, arc_scans)?,
@@ -288,17 +277,20 @@ impl Order {
     }
 }
 
-// The least reduced weight of another pair that a row may take, if the rows before keep theirs.
-fn least_other(part: &Part, inner: &Inner, row: usize) -> Cost {
-    let (own, mut least) = (part.column(row), Cost::MAX);
-    for pair in inner.start(row)..inner.end(row) {
-        let column = inner.column(pair);
-        let weight = part.reduced(inner, row, pair);
-        if weight < least && column != own && part.allows(row, column) {
-            least = weight;
+// The least reduced weight of another pair that a row may take, if the rows before keep theirs, and
+// the first column at which it is.
+fn least_other(part: &Part, inner: &Inner, row: usize) -> (Cost, usize) {
+    let (own, value) = (part.column(row), part.value(row));
+    let (mut least, mut next) = (Cost::MAX, usize::MAX);
+    let (columns, weights) = inner.pairs(row);
+    for (column, weight) in columns.iter().zip(weights.iter()) {
+        let reduced = part.sum(*column, *weight).saturating_sub(value);
+        if reduced < least && *column != own && part.allows(row, *column) {
+            least = reduced;
+            next = *column;
         }
     }
-    least
+    (least, next)
 }
 
 // The first column but one that a row may take by a pair of at most a reduced weight.
@@ -308,11 +300,12 @@ fn first_within(
     row: usize,
     (other, most): (usize, Cost),
 ) -> Option<usize> {
-    for pair in inner.start(row)..inner.end(row) {
-        let column = inner.column(pair);
-        let is_within = part.reduced(inner, row, pair) <= most;
-        if is_within && column != other && part.allows(row, column) {
-            return Some(column);
+    let most = most.saturating_add(part.value(row));
+    let (columns, weights) = inner.pairs(row);
+    for (column, weight) in columns.iter().zip(weights.iter()) {
+        let is_within = part.sum(*column, *weight) <= most;
+        if is_within && *column != other && part.allows(row, *column) {
+            return Some(*column);
         }
     }
     None

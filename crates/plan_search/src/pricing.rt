@@ -33,8 +33,8 @@ impl Pricing {
             rises: vec![in alloc; 0i64; nodes]?,
             is_cut: vec![in alloc; false; nodes]?,
             distances: vec![in alloc; margin; nodes]?,
-            reached: Vec::new(alloc),
-            heap: BinaryHeap::new(alloc),
+            reached: Vec::with_capacity(alloc, nodes)?,
+            heap: BinaryHeap::with_capacity(alloc, nodes)?,
             cuts: 0,
             failures: 0,
         })

@@ -37,13 +37,15 @@ pub struct Proofs {
 }
 
 impl Proofs {
-    fn new(alloc: Global) -> Proofs {
-        Proofs {
-            prices: Vec::new(alloc),
-            ranks: Vec::new(alloc),
-            lists: Vec::new(alloc),
+    // No proofs yet, and room for those of so many plans.
+    fn new(alloc: Global, count: usize, m: usize) -> Result<Proofs, AllocError> {
+        let room = count.saturating_mul(m);
+        Ok(Proofs {
+            prices: Vec::with_capacity(alloc, room)?,
+            ranks: Vec::with_capacity(alloc, room)?,
+            lists: Vec::with_capacity(alloc, count)?,
             others: Vec::new(alloc),
-        }
+        })
     }
 
     // The prices of the plan at a place.
@@ -173,7 +175,7 @@ fn rank_all(
 
 /// For plans that all cost the same as the best one nothing needs to be shown.
 pub fn no_proofs(alloc: Global, count: usize, m: usize) -> Result<Proofs, AllocError> {
-    let mut proofs = Proofs::new(alloc);
+    let mut proofs = Proofs::new(alloc, 0, m)?;
     proofs.prices = vec![in alloc; 0i64; count.saturating_mul(m)]?;
     for _ in 0..count {
         proofs.add_no_ranks(m)?;
@@ -191,7 +193,7 @@ pub fn proofs_of(
     arc_scans: &mut u64,
 ) -> Result<Option<Proofs>, AllocError> {
     let m = best.prices.len();
-    let mut proofs = Proofs::new(alloc);
+    let mut proofs = Proofs::new(alloc, tree.count(), m)?;
     let bound = costs.margin(0).saturating_add(1);
     let mut pairs = Pairs::below(alloc, core, best, bound)?;
     proofs.add_prices(best.prices)?;

@@ -5,6 +5,7 @@ use super::arcs::{Arcs, Best, core_below, own_sums};
 use super::inner::{Inner, inner_of};
 use super::order::{Order, order_of};
 use super::proofs::{Costs, Proofs, no_proofs, proofs_of};
+use super::swaps::first_bound;
 use super::tree::Tree;
 use super::values::set_value;
 use assign_core::Cost;
@@ -91,7 +92,7 @@ fn search(
     count: usize,
     arc_scans: &mut u64,
 ) -> Result<Option<Searched>, AllocError> {
-    let mut bound: Cost = 1;
+    let mut bound = first_bound(alloc, source, best, count.wrapping_sub(1))?;
     for _ in 0..MOST_CORES {
         let searched = search_below(alloc, source, best, count, bound, arc_scans)?;
         if *arc_scans == 0 {

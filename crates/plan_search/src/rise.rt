@@ -80,7 +80,7 @@ pub fn add_risen(
         first,
         length: Cost::MAX,
         distances: vec![in alloc; Cost::MAX; arcs.nodes()]?,
-        heap: BinaryHeap::new(alloc),
+        heap: BinaryHeap::with_capacity(alloc, arcs.nodes())?,
     };
     rise.search(arcs, arc_scans)?;
     let last = rise.of(arcs.nodes().wrapping_sub(1));

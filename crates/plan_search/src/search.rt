@@ -29,7 +29,7 @@ pub struct Shown {
 
 // The rank of each object: how long its owner was left before the node of unowned objects.
 fn ranks_of(alloc: Global, arcs: &Arcs, walk: &Walk, m: usize) -> Result<Vec<i32>, AllocError> {
-    let mut ranks = Vec::new(alloc);
+    let mut ranks = Vec::with_capacity(alloc, m)?;
     let last = walk.left(arcs.nodes().wrapping_sub(1));
     let mut object: Object = 0;
     for _ in 0..m {

@@ -8,6 +8,14 @@ pub fn value_at<T: Copy>(list: &[T], place: usize, none: T) -> T {
     }
 }
 
+/// The elements from a place up to another one, if the list has these.
+pub fn elements<T>(list: &[T], start: usize, end: usize) -> &[T] {
+    match list.get(start..end) {
+        Some(some) => some,
+        None => &[],
+    }
+}
+
 /// Sets the element at a place, if there is one.
 pub fn set_value<T: Copy>(list: &mut [T], place: usize, value: T) {
     if place < list.len() {

@@ -24,7 +24,7 @@ impl Walk {
             next: vec![in alloc; 0usize; nodes]?,
             left: vec![in alloc; 0i32; nodes]?,
             is_on: vec![in alloc; false; nodes]?,
-            path: Vec::new(alloc),
+            path: Vec::with_capacity(alloc, nodes)?,
             count: 0,
         })
     }

@@ -70,12 +70,12 @@ def numbers(values: Iterable[int], as_array: bool) -> Any:
     return fixed(numpy.array(list(values), numpy.intp))
 
 
-def places(items: Any, as_array: bool) -> Any:
-    """Row or column numbers that a call of the library counts from 1, as a result shows them."""
-    if not as_array:
-        return FixedList(item - 1 for item in items)
+def places(items: Any, width: int, as_arrays: bool) -> List[Any]:
+    """Row or column numbers that a call of the library counts from 1, so many at a time, as results show them."""
+    if not as_arrays:
+        return [FixedList(item - 1 for item in items[at:at + width]) for at in range(0, len(items), width)]
     numpy = importlib.import_module("numpy")
-    return fixed(numpy.frombuffer(items, numpy.uint32).astype(numpy.intp) - 1)
+    return list(fixed(numpy.frombuffer(items, numpy.uint32).astype(numpy.intp) - 1).reshape(-1, width))
 
 
 def frame_of(pairs: Sequence[Tuple[Any, Any]], costs: Optional[List[Number]]) -> Any:

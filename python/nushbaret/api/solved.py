@@ -33,7 +33,7 @@ def result_parts(problem: AssignmentProblem, answer: proved.Assignment) -> prove
 
 def ratios_of(shape: AssignmentProblem, costs: Sequence[Any]) -> List[Ratio]:
     """Costs of a problem, exactly."""
-    return [shape.costs.ratio(cost) for cost in costs]
+    return shape.costs.ratios(costs)
 
 
 def sum_of(shape: AssignmentProblem, ratios: Sequence[Ratio]) -> Number:
@@ -169,9 +169,11 @@ class SolvedProblem:
         the library shows."""
         asked = self._priced(problem)
         if asked is not None:
-            rows = numbers(range(asked[1].n), self.as_arrays)
-            done = yield from plans_shown(*asked, count, done, lambda objects, total: (
-                rows, places(objects, self.as_arrays), problem.costs.total([(total, 1)])))
+            width, costs = asked[1].n, problem.costs
+            rows = numbers(range(width), self.as_arrays)
+            done = yield from plans_shown(*asked, count, done, lambda objects, totals: (
+                (rows, columns, costs.total([(total, 1)]))
+                for columns, total in zip(places(objects, width, self.as_arrays), totals)))
         if done < count:
             ranking = self.ranking(problem)
             for part in ranking.in_order(count, done):

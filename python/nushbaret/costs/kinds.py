@@ -106,6 +106,11 @@ class Costs:
         """One of the numbers, exactly."""
         return int(cost), self.unit.denominator
 
+    def ratios(self, costs: Sequence[Any]) -> List[Ratio]:
+        """Some of the numbers, exactly."""
+        denominator = self.unit.denominator
+        return [(int(cost), denominator) for cost in costs]
+
     def ratios_in_unit(self, costs: Sequence[Any]) -> List[Ratio]:
         """Some of the numbers, exactly, as multiples of the unit."""
         return [(int(cost), 1) for cost in costs]
@@ -191,6 +196,9 @@ class ExactNumbers(Costs):
 
     def ratio(self, cost: Any) -> Ratio:
         return ratio_of(cost, self.doubles)
+
+    def ratios(self, costs: Sequence[Any]) -> List[Ratio]:
+        return [ratio_of(cost, self.doubles) for cost in costs]
 
     def ratios_in_unit(self, costs: Sequence[Any]) -> List[Ratio]:
         known: Dict[Tuple[type, Any], Ratio] = {}

@@ -163,14 +163,21 @@ def searched(sense: bool, n: int, m: int, lists: Sequence[Any], first: Optional[
     if first is None and _end() is None and progress is None and n * pairs < LONG:
         return call(name, sense, n, m, *lists, *written)
     record, code, info, pace = Record(), "STOPPED", Info(), Pace(PIECES[name], pairs)
+    start = _SPARE[:0] if first is None else _begun(first, written[0])
     while code == "STOPPED":
         look_at_time()
-        start = _SPARE[:0] if first is None else first
         code, info = call(name + "_from", sense, n, m, *lists, start, *written,
                           piece=(pace.budget(), ctypes.addressof(record)))
         if progress is not None and code in ("BEST", "STOPPED"):
             progress(n - written[0].count(0), n)
     return code, info
+
+
+def _begun(first: Numbers, objects: Numbers) -> Numbers:
+    """First prices with which a search begins at the objects too, where most are given: it takes prices of 0 for none.
+    Only how far prices are apart counts."""
+    is_begun = first.count(0) < len(first) or len(objects) < _MOST_MISSING * objects.count(0)
+    return first if is_begun else array("q", [1]) * len(first)
 
 
 def worst_pair(sense: bool, n: int, m: int, lists: Sequence[Any], written: Sequence[Numbers]) -> Tuple[str, Info]:
@@ -242,6 +249,8 @@ LONG = 2**27
 # The same of doubles, which mostly take a tenth of a second, for linear_sum_assignment and an Assigner.
 LONGEST = 2**33
 PIECES = {"dense": PieceSize(2 * 10**7, 10), "sparse": PieceSize(5 * 10**6, 4), "counts": PieceSize(5 * 10**6, 4)}
+# A plan without prices is of use if it lacks at most this part of all persons.
+_MOST_MISSING = 16
 # About a second, in which Ctrl-C and the time have to wait.
 _ARC_SCANS_FOR_NEXT = 10**8
 _LONGEST_WAIT = 10.0**5

@@ -159,7 +159,7 @@ def _judged_exactly(problem: AssignmentProblem, pairs: List[Tuple[int, int]], co
     """The verdict by exact numbers. No plan of as many pairs is better by more than all slack together: what each
     matched row pays above its best, and each unmatched one below the dearest, and what unused columns cost above the
     cheapest. Differences of plans are multiples of the unit of all costs, so less slack than that is none."""
-    ratios = [problem.costs.ratio(cost) for cost in costs]
+    ratios = problem.costs.ratios(costs)
     unit, rows = _bests(problem, ratios, given)
     sign = -1 if problem.maximize else 1
     prices = [int(price * unit.denominator) for price in given]

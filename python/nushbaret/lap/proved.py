@@ -201,8 +201,11 @@ def rows_and_columns(problem: AssignmentProblem, answer: Assignment) -> Tuple[An
 def _arrays_of(numpy: Any, problem: AssignmentProblem, answer: Assignment) -> Tuple[Any, Any]:
     own = numpy.array(answer.objects, numpy.intp)
     own -= 1
-    persons = numpy.flatnonzero(own < max(problem.n_rows, problem.n_columns))
-    return by_rows(problem, persons, own[persons])
+    persons, most = numpy.arange(answer.n, dtype=numpy.intp), max(problem.n_rows, problem.n_columns)
+    if answer.m > most:
+        persons = persons[own < most]
+        own = own[persons]
+    return by_rows(problem, persons, own)
 
 
 class ResultParts(NamedTuple):

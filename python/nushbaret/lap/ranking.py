@@ -228,10 +228,10 @@ class _Taken(NamedTuple):
 
 
 def plans_shown(problem: AssignmentProblem, answer: Assignment, count: int, done: int,
-                made: Callable[[Any, int], Any]) -> Generator[Any, None, int]:
-    """What is made of the objects of all rows and the costs of the first plans from an answer on, so many at most,
-    without those that are done, as far as the library shows them. Returns how many are done then, `count` where there
-    are no others."""
+                made: Callable[[Any, Any], Iterable[Any]]) -> Generator[Any, None, int]:
+    """What is made of the first plans from an answer on, so many at most, without those that are done, as far as the
+    library shows them: of the objects of all rows, one plan after the other, and the costs. Returns how many are done
+    then, `count` where there are no others."""
     wanted = _FIRST_PLANS
     while done < count:
         wanted = min(count, max(wanted, done + 1))
@@ -240,10 +240,8 @@ def plans_shown(problem: AssignmentProblem, answer: Assignment, count: int, done
         code, plans, totals = first_objects(problem, answer, wanted)
         if code not in ("BEST", "ALONE"):
             return done
-        for total in totals[done:]:
-            place = answer.n * done
-            done += 1
-            yield made(plans[place:place + answer.n], total)
+        yield from made(plans[answer.n * done:], totals[done:])
+        done = len(totals)
         if code == "ALONE":
             return count
         wanted *= _TIMES
@@ -253,8 +251,9 @@ def plans_shown(problem: AssignmentProblem, answer: Assignment, count: int, done
 def plans_in_order(best: BestPlan, count: int) -> Iterator[Tuple[List[int], List[int]]]:
     """Rows and columns of the first plans from a best one on, so many at most."""
     rows, columns = best.rows, best.columns
-    done = yield from plans_shown(best.problem, best.answer, count, 0,
-                                  lambda objects, _: ([*range(len(objects))], [item - 1 for item in objects]))
+    n = best.answer.n
+    done = yield from plans_shown(best.problem, best.answer, count, 0, lambda objects, _: (
+        ([*range(n)], [item - 1 for item in objects[at:at + n]]) for at in range(0, len(objects), n)))
     if done < count:
         ratios = [(cost, 1) for cost in costs_of_pairs(best.problem, rows, columns)]
         ranking = Ranking(best.problem, (rows, columns), ratios, duals_of_whole(best), ONE)

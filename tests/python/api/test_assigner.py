@@ -295,7 +295,7 @@ class Rows(unittest.TestCase):
     @unittest.skipUnless(np, "NumPy isn't there")
     def test_larger(self):
         rng, draw = np.random.default_rng(403), drawing(403)
-        for costs in (rng.random((150, 150)), rng.integers(0, 10**6, (150, 150)),
+        for costs in (rng.random((150, 150)), rng.integers(0, 10**6, (150, 150)), rng.integers(1, 4, (150, 150)),
                       np.round(rng.random((150, 150)) * 100, 2)):
             assigner = nushbaret.Assigner(costs, True)
             for _ in range(12):
@@ -303,6 +303,12 @@ class Rows(unittest.TestCase):
                 row = draw.randrange(150)
                 costs[row] = costs[draw.randrange(150)][::-1]
                 assigner.update(row, costs[row])
+
+    def test_plans_at_equal_prices(self):
+        begun, none, same = _assigner.library._begun, array("q", bytes(160)), array("q", [1] * 20)
+        self.assertEqual(begun(none, array("I", range(20))), same)
+        self.assertIs(begun(none, array("I", [0, 0, *range(1, 19)])), none)
+        self.assertIs(begun(same, array("I", range(20))), same)
 
     @unittest.skipUnless(np, "NumPy isn't there")
     def test_long_searches_begin_in_pieces(self):
