@@ -58,13 +58,14 @@ class Record(ctypes.Structure):
 
 # How many lists each call takes.
 _LISTS = {"dense": 4, "dense_from": 5, "sparse": 6, "sparse_from": 7, "check": 5, "check_hall": 5, "bottleneck": 6,
-          "next": 5, "ranked": 5, "unique": 7}
+          "next": 5, "ranked": 5, "unique": 7, "wide": 6}
 # What some take after these: a budget and a record; how many arc scans, one or two further lists, and where a number is
 # written.
 _IN_PIECES = [ctypes.c_uint64, ctypes.c_void_p]
-_MORE = {"dense_from": _IN_PIECES, "sparse_from": _IN_PIECES, "bottleneck": _IN_PIECES,
+_MORE: Dict[str, List[Any]] = {"dense_from": _IN_PIECES, "sparse_from": _IN_PIECES, "bottleneck": _IN_PIECES,
          "next": [ctypes.c_uint64, ctypes.c_void_p, ctypes.c_size_t, ctypes.c_void_p],
-         "ranked": [ctypes.c_uint64, *[ctypes.c_void_p, ctypes.c_size_t] * 2, ctypes.c_void_p]}
+         "ranked": [ctypes.c_uint64, *[ctypes.c_void_p, ctypes.c_size_t] * 2, ctypes.c_void_p],
+         "wide": [ctypes.c_void_p]}
 _loading = threading.Lock()
 _calls: Dict[str, Any] = {}
 

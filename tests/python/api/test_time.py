@@ -240,7 +240,7 @@ class Timeouts(unittest.TestCase):
                                             "changed$") as raised:
                     call([Endless(), Endless()], timeout=0.05)
                 self.assertIs(type(raised.exception), TimeoutError)
-            with mock.patch.object(levels, "finer", never), self.assertRaises(TimeoutError):
+            with mock.patch.object(levels, "_near", never), self.assertRaises(TimeoutError):
                 nushbaret.solve([[0.1 + 0.2, 0.1], [1 / 3, 1 / 3 - 0.2]] * 40, partial=True, timeout=0.05)
             ended.append(nushbaret.solve([[4, 1], [2, 3]]).cost)
 
