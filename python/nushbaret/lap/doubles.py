@@ -91,5 +91,7 @@ def best_objects(problem: AssignmentProblem) -> Any:
         return None
     n, m = sorted((problem.n_rows, problem.n_columns))
     held = costs_by_persons(problem)
-    plan = search(problem.maximize, n, m, held, *start(problem.maximize, n, m, held))
+    first = start(problem.maximize, n, m, held)
+    with library.one_piece(n):
+        plan = search(problem.maximize, n, m, held, *first)
     return plan.objects if plan and (costs.doubles or plan.by_margin) else None

@@ -20,7 +20,6 @@ from typing import Any, List, NamedTuple, Optional, Sequence, Tuple, Union
 
 from ..costs import parts
 from ..costs.kinds import WholeNumbers
-from ..costs.limits import WIDE_BITS
 from ..costs.numbers import Ratio, in_unit, unit_of
 from ..costs.problem import AssignmentProblem
 from . import proved, wide, words
@@ -168,12 +167,9 @@ def _next(level: Level, bound: int, taken: Sequence[int]) -> Level:
     left += [(n, item, bound - less) for item, less in enumerate(taken, 1)] + [(n, m, -bound)]
     left += [(person, m, 0) for person in range(1, n)]
     persons, objects, costs = ([each[side] for each in left] for side in range(3))
-    times = math.gcd(*costs) or 1
-    shift = max(0, max(map(int.bit_length, costs)) - times.bit_length() + 1 - WIDE_BITS)
-    found = wide.solved(False, proved.Instance(n, m, array("I", persons), array("I", objects), words.words_of(
-        [cost // times >> shift for cost in costs])))
+    numbers, unit, is_exact = words.scaled(costs)
+    found = wide.solved(False, proved.Instance(n, m, array("I", persons), array("I", objects), words.words_of(numbers)))
     if isinstance(found, proved.HallSet):
         raise RuntimeError("some pairs were found to hold a plan, and the library says otherwise")
-    unit = times << shift
-    return Level(n, m, persons, objects, costs, wide.WidePlan(found.objects, [price * unit for price in found.prices]),
-                 unit if shift else 0)
+    plan = wide.WidePlan(found.objects, [price * unit for price in found.prices])
+    return Level(n, m, persons, objects, costs, plan, 0 if is_exact else unit)

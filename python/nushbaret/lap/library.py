@@ -7,7 +7,7 @@ import sys
 import threading
 import time
 from array import array
-from typing import Any, Callable, Dict, List, NamedTuple, Optional, Sequence, Tuple, Union
+from typing import Any, Callable, Dict, Iterator, List, NamedTuple, Optional, Sequence, Tuple, Union
 
 from ..costs.limits import FEW, BorrowedNumbers, Numbers
 
@@ -370,3 +370,16 @@ def look_at_time() -> None:
     end = _end()
     if end is not None and time.monotonic() >= end:
         raise TimeoutError(_TIME_IS_OVER)
+
+
+@contextlib.contextmanager
+def one_piece(n: int) -> Iterator[None]:
+    """Within, a call works that isn't done in pieces: `progress` is called before it and after it. Ctrl-C and the time
+    wait for its end."""
+    look_at_time()
+    progress = progress_asked()
+    if progress is not None:
+        progress(0, n)
+    yield
+    if progress is not None:
+        progress(n, n)

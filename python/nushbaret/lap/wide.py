@@ -18,15 +18,10 @@ def solved(maximize: bool, asked: proved.Instance) -> Union[WidePlan, proved.Hal
     n, m = asked.n, asked.m
     objects, persons, total = array("I", bytes(4 * n)), array("I", bytes(4 * n)), array("q", bytes(16))
     prices = WideNumbers(array("q", bytes(16 * m)))
-    progress = library.progress_asked()
-    library.look_at_time()
-    if progress is not None:
-        progress(0, n)
-    code, info = library.call("wide", maximize, *asked, objects, persons, prices, piece=(total.buffer_info()[0],))
+    with library.one_piece(n):
+        code, info = library.call("wide", maximize, *asked, objects, persons, prices, piece=(total.buffer_info()[0],))
     if code == "HALL":
         return proved.HallSet(persons[:info.persons], objects[:info.objects])
     if code != "BEST":
         proved.refuse(code, info)
-    if progress is not None:
-        progress(n, n)
     return WidePlan(objects, prices.listed())

@@ -4,10 +4,10 @@ import math
 import sys
 from array import array
 from fractions import Fraction
-from typing import Any, NamedTuple, Optional, Sequence, Tuple
+from typing import Any, List, NamedTuple, Optional, Sequence, Tuple
 
 from ..costs import parts
-from ..costs.kinds import Costs, Doubles
+from ..costs.kinds import AnyWholeNumbers, Costs, Doubles
 from ..costs.limits import WIDE_BITS, WideNumbers
 from ..costs.numbers import Ratio, bits_above, ratio_of, rounded
 from ..costs.parts import in_fixed_point
@@ -42,6 +42,23 @@ def _packed(numbers: Sequence[int]) -> Any:
     return array("q", b"".join([number.to_bytes(16, "little", signed=True) for number in numbers]))
 
 
+class Scaled(NamedTuple):
+    """Whole numbers of any size as multiples of a unit, in `WIDE_BITS` bits, and whether nothing was rounded down."""
+
+    numbers: List[int]
+    unit: int
+    is_exact: bool
+
+
+def scaled(whole: List[int]) -> Scaled:
+    """Whole numbers in the greatest unit that all are multiples of, or in a greater one."""
+    unit = math.gcd(*whole) or 1
+    if unit > 1:
+        whole = [number // unit for number in whole]
+    shift = max(0, max(map(int.bit_length, whole), default=0) - WIDE_BITS)
+    return Scaled([number >> shift for number in whole], unit << shift, False) if shift else Scaled(whole, unit, True)
+
+
 def whole_costs(costs: Costs) -> WholeCosts:
     """Costs as whole numbers."""
     doubles, whole = costs.as_doubles(), costs.of_64_bits()
@@ -49,23 +66,25 @@ def whole_costs(costs: Costs) -> WholeCosts:
         return _of_decimals(doubles) if not doubles.doubles else _of_doubles(doubles)
     if whole is not None and costs.numpy:
         return WholeCosts(_words_of(costs.numpy, whole), Fraction(1), True)
-    found = _of_ratios([costs.ratio(cost) for cost in costs.listed()], costs.unit.denominator)
+    values = costs.listed()
+    found = _of_whole(values, 1) if isinstance(costs, AnyWholeNumbers) else _of_ratios(list(map(costs.ratio, values)))
     return found._replace(numbers=found.numbers + [0])
 
 
-def _of_ratios(ratios: Sequence[Ratio], denominator: int) -> WholeCosts:
-    """Numbers as multiples of 1 / denominator, if they are whole then, or of a part of it."""
+def _of_whole(whole: List[int], common: int) -> WholeCosts:
+    """Whole multiples of 1 / common."""
+    numbers, unit, is_exact = scaled(whole)
+    return WholeCosts(numbers, Fraction(unit, common), is_exact)
+
+
+def _of_ratios(ratios: Sequence[Ratio]) -> WholeCosts:
+    """Numbers of any kind."""
     greatest = max((bits_above(ratio) for ratio in ratios if ratio[0]), default=0)
     common = _common(ratios, WIDE_BITS - greatest)
     if common is not None:
-        whole = [number * (common // own) for number, own in ratios]
-        times = math.gcd(*whole) or 1
-        if times > 1:
-            whole = [number // times for number in whole]
-        if max(map(int.bit_length, whole), default=0) <= WIDE_BITS:
-            return WholeCosts(whole, Fraction(times * denominator, common), True)
+        return _of_whole([number * (common // own) for number, own in ratios], common)
     shift = WIDE_BITS - 1 - greatest
-    return WholeCosts([rounded(ratio, shift) for ratio in ratios], denominator / Fraction(2)**shift, False)
+    return WholeCosts([rounded(ratio, shift) for ratio in ratios], 1 / Fraction(2)**shift, False)
 
 
 def _common(ratios: Sequence[Ratio], bits: int) -> Optional[int]:
@@ -96,7 +115,7 @@ def _of_decimals(costs: Doubles) -> WholeCosts:
     if len(flat) <= _FEW or _are_few(numpy, flat):
         values, places = numpy.unique(flat, return_inverse=True)
         if len(values) <= max(_FEW, _SHARE * len(flat)):
-            found = _of_ratios([ratio_of(value, False) for value in values.tolist()], 1)
+            found = _of_ratios([ratio_of(value, False) for value in values.tolist()])
             if found.is_exact:
                 table = numpy.frombuffer(_packed(found.numbers + [0]), numpy.int64).reshape(-1, 2)
                 return found._replace(numbers=table[numpy.append(places.reshape(-1), len(values))])
