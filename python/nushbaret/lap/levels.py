@@ -40,9 +40,9 @@ class Level(NamedTuple):
 def answer(problem: AssignmentProblem, assigned: Optional[int]) -> Union[proved.Assignment, proved.HallSet]:
     """The best plan of so many pairs, and its prices."""
     with problem.numpy.errstate(all="ignore") if problem.numpy else contextlib.nullcontext():
-        costs = words.whole_costs(problem.costs)
-        asked = _by_places(problem, assigned)
-        numbers = costs.at(asked.costs)
+        costs, places = words.whole_costs(problem.costs), _places(problem)
+        asked = proved.instance_of(problem._replace(costs=places), assigned, -1)
+        numbers = costs.numbers[:-1] if asked.costs is places.numbers else costs.at(asked.costs)
         found = wide.solved(problem.maximize, asked._replace(costs=words.words_of(numbers)))
         if isinstance(found, proved.HallSet):
             return found
@@ -51,11 +51,10 @@ def answer(problem: AssignmentProblem, assigned: Optional[int]) -> Union[proved.
         return _finer(problem, asked, costs.part, found, _near(problem, asked, numbers, found))
 
 
-def _by_places(problem: AssignmentProblem, assigned: Optional[int]) -> proved.Instance:
-    """The problem as the library takes it, with the places of costs in the stead of costs, and -1 for a dummy's."""
+def _places(problem: AssignmentProblem) -> WholeNumbers:
+    """The places of the costs, in their stead; that of a dummy's is -1."""
     numpy, count = problem.numpy, len(problem.costs)
-    places = numpy.arange(count) if numpy else array("q", range(count))
-    return proved.instance_of(problem._replace(costs=WholeNumbers(places, numpy=numpy)), assigned, -1)
+    return WholeNumbers(numpy.arange(count) if numpy else array("q", range(count)), numpy=numpy)
 
 
 def _in_unit(problem: AssignmentProblem, asked: proved.Instance, plan: wide.WidePlan,
