@@ -29,8 +29,8 @@ class Instance(NamedTuple):
 
 
 class Assignment(NamedTuple):
-    """A best assignment: an object for each person, from 1 on, and prices: an array, in the unit of the costs, or a list
-    of whole numbers of any size, in a unit. There may be no total, and of doubles no prices."""
+    """A best assignment: an object for each person, from 1 on, and prices: an array, in the unit of the costs, or a
+    list of whole numbers of any size, in a unit. There may be no total, and of doubles no prices."""
 
     n: int
     m: int

@@ -55,7 +55,8 @@ def scaled(whole: List[int]) -> Scaled:
     unit = math.gcd(*whole) or 1
     if unit > 1:
         whole = [number // unit for number in whole]
-    shift = max(0, (max(map(abs, whole), default=0) - 1).bit_length() - WIDE_BITS)
+    greatest = max(max(whole, default=0), -min(whole, default=0))
+    shift = max(0, (greatest - 1).bit_length() - WIDE_BITS)
     return Scaled([number >> shift for number in whole], unit << shift, False) if shift else Scaled(whole, unit, True)
 
 

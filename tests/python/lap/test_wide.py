@@ -1,5 +1,5 @@
-"""Whole numbers of 128 bits: costs of any kind as such, and levels where these don't hold them, compared with all plans
-and with Kuhn's method in fractions."""
+"""Costs of any kind as whole numbers of 128 bits, and levels where these don't hold them, compared with all plans and
+with Kuhn's method in fractions."""
 import itertools
 import unittest
 from decimal import Decimal
