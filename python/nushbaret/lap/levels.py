@@ -100,11 +100,16 @@ def _near_in_arrays(problem: AssignmentProblem, asked: proved.Instance, numbers:
     return numpy.flatnonzero(paid <= bounds[persons])
 
 
+def _at(values: Any, places: Any) -> List[Any]:
+    """The values at some places, in a list."""
+    return list(values[places].tolist()) if hasattr(places, "dtype") else [values[place] for place in places]
+
+
 def _pairs(asked: proved.Instance, places: Any) -> Tuple[Sequence[int], Sequence[int]]:
     """Persons and objects of the pairs at some places, from 1 on."""
     if len(asked.persons):
-        persons, objects = asked.persons.tolist(), asked.objects.tolist()
-        return [persons[place] for place in places], [objects[place] for place in places]
+        return _at(asked.persons, places), _at(asked.objects, places)
+    places = places.tolist() if hasattr(places, "dtype") else places
     return [place // asked.m + 1 for place in places], [place % asked.m + 1 for place in places]
 
 
@@ -120,8 +125,7 @@ def _own(own: Sequence[int], persons: Sequence[int], objects: Sequence[int], pai
 def _finer(problem: AssignmentProblem, asked: proved.Instance, part: Fraction, plan: wide.WidePlan,
            places: Any) -> proved.Assignment:
     """The answer by the exact costs of the pairs at some places, from the plan and the prices of rounded ones."""
-    places = places if isinstance(places, list) else places.tolist()
-    ratios = _ratios_at(problem, [asked.costs[place] for place in places])
+    ratios = _ratios_at(problem, _at(asked.costs, places))
     unit = unit_of(set((1, denominator) for _, denominator in ratios), True)
     if unit.denominator * part < 1:
         unit = unit._replace(denominator=unit.denominator * 10**len(str(int(1 / (part * unit.denominator)))))
@@ -136,9 +140,8 @@ def _finer(problem: AssignmentProblem, asked: proved.Instance, part: Fraction, p
 
 def _ratios_at(problem: AssignmentProblem, places: Sequence[int]) -> List[Ratio]:
     """The costs at some places, in the unit of the costs; 0 for those of dummies, at -1."""
-    numbers = problem.costs.numbers
-    held = [0 if place < 0 else numbers[place] for place in places]
-    return problem.costs.ratios_in_unit([cost.item() if hasattr(cost, "dtype") else cost for cost in held])
+    held = _at(problem.costs.numbers, problem.numpy.array(places, problem.numpy.intp) if problem.numpy else places)
+    return problem.costs.ratios_in_unit([0 if place < 0 else cost for cost, place in zip(held, places)])
 
 
 # From level to level, in whole numbers.

@@ -161,7 +161,7 @@ def searched(sense: bool, n: int, m: int, lists: Sequence[Any], first: Optional[
     `limited` is over. After each piece its `progress` is called with how many persons are assigned."""
     name, pairs = "dense" if len(lists) == 1 else "sparse", len(lists[-1])
     progress = progress_asked()
-    if first is None and _end() is None and progress is None and n * pairs < LONG:
+    if first is None and not is_limited() and n * pairs < LONG:
         return call(name, sense, n, m, *lists, *written)
     record, code, info, pace = Record(), "STOPPED", Info(), Pace(PIECES[name], pairs)
     while code == "STOPPED":
@@ -363,6 +363,11 @@ def _end() -> Optional[float]:
     """When this thread's call has to end."""
     alarm = getattr(_limits, "alarm", None)
     return None if alarm is None or alarm.rang else alarm.end
+
+
+def is_limited() -> bool:
+    """Whether this thread's call has an end, or shows its progress."""
+    return _end() is not None or progress_asked() is not None
 
 
 def look_at_time() -> None:

@@ -16,8 +16,8 @@ from ..costs.parts import in_fixed_point
 PRINTED_BITS = 50
 # The least power of two of which all doubles are multiples, negated, less what the decimal of one may be off.
 _MOST_PRINTED_SHIFT = 1072
-# Of so many doubles, or of so great a share of all, the decimals are read.
-_FEW, _SHARE, _SAMPLE = 256, 1 / 8, 1024
+# Of so many different doubles, or of so great a share of all, the decimals are read.
+_FEW, _SHARE = 256, 1 / 8
 
 
 class WholeCosts(NamedTuple):
@@ -113,21 +113,32 @@ def _words_of(numpy: Any, whole: Any) -> Any:
 def _of_decimals(costs: Doubles) -> WholeCosts:
     """Doubles that are the decimals that they print as: read, where they are few or have few values."""
     numpy, flat = costs.numpy, costs.numbers
-    if len(flat) <= _FEW or _are_few(numpy, flat):
-        values, places = numpy.unique(flat, return_inverse=True)
-        if len(values) <= max(_FEW, _SHARE * len(flat)):
-            found = _of_ratios([ratio_of(value, False) for value in values.tolist()])
-            if found.is_exact:
-                table = numpy.frombuffer(_packed(found.numbers + [0]), numpy.int64).reshape(-1, 2)
-                return found._replace(numbers=table[numpy.append(places.reshape(-1), len(values))])
+    few = _values_of(numpy, costs) if len(flat) <= _FEW or costs.seem_few() else None
+    if few is not None:
+        values, places = few
+        found = _of_ratios([ratio_of(value, False) for value in values.tolist()])
+        if found.is_exact:
+            table = numpy.frombuffer(_packed(found.numbers + [0]), numpy.int64).reshape(-1, 2)
+            return found._replace(numbers=table[numpy.append(places, len(values))])
     shift = min(PRINTED_BITS - math.frexp(costs.size())[1], _MOST_PRINTED_SHIFT)
     return WholeCosts(_words_of(numpy, in_fixed_point(numpy, flat, shift)), 1 / Fraction(2)**shift, False)
 
 
-def _are_few(numpy: Any, flat: Any) -> bool:
-    """Whether some doubles seem to have few values."""
-    sample = flat[::max(1, len(flat) // _SAMPLE)]
-    return len(numpy.unique(sample)) <= len(sample) // 2
+def _values_of(numpy: Any, costs: Doubles) -> Optional[Tuple[Any, Any]]:
+    """The different ones of some doubles, rising, and where each double stands among them; None where they are
+    many."""
+    values, flat = numpy.unique(costs.sample()), costs.numbers
+    places = _places_of(numpy, values, flat)
+    others = flat[values.take(places, mode="clip") != flat]
+    if len(others):
+        values = numpy.union1d(values, others)
+        places = _places_of(numpy, values, flat)
+    return (values, places) if len(values) <= max(_FEW, _SHARE * len(flat)) else None
+
+
+def _places_of(numpy: Any, values: Any, flat: Any) -> Any:
+    """Where doubles stand among rising values."""
+    return parts.filled(numpy, numpy.intp, len(flat), lambda part: numpy.searchsorted(values, flat[part]))
 
 
 def _of_doubles(costs: Doubles) -> WholeCosts:
