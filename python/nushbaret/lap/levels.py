@@ -43,7 +43,7 @@ def answer(problem: AssignmentProblem, assigned: Optional[int]) -> Union[proved.
         costs, places = words.whole_costs(problem.costs), _places(problem)
         asked = proved.instance_of(problem._replace(costs=places), assigned, -1)
         numbers = costs.numbers[:-1] if asked.costs is places.numbers else costs.at(asked.costs)
-        found = wide.solved(problem.maximize, asked._replace(costs=words.words_of(numbers)))
+        found = wide.solved(problem.maximize, asked._replace(costs=wide.words_of(numbers)))
         if isinstance(found, proved.HallSet):
             return found
         if costs.is_exact:
@@ -169,8 +169,8 @@ def _next(level: Level, bound: int, taken: Sequence[int]) -> Level:
     left += [(n, item, bound - less) for item, less in enumerate(taken, 1)] + [(n, m, -bound)]
     left += [(person, m, 0) for person in range(1, n)]
     persons, objects, costs = ([each[side] for each in left] for side in range(3))
-    numbers, unit, is_exact = words.scaled(costs)
-    found = wide.solved(False, proved.Instance(n, m, array("I", persons), array("I", objects), words.words_of(numbers)))
+    numbers, unit, is_exact = wide.scaled(costs)
+    found = wide.solved(False, proved.Instance(n, m, array("I", persons), array("I", objects), wide.words_of(numbers)))
     if isinstance(found, proved.HallSet):
         raise RuntimeError("some pairs were found to hold a plan, and the library says otherwise")
     plan = wide.WidePlan(found.objects, [price * unit for price in found.prices])

@@ -1,9 +1,38 @@
-"""The library's call for whole costs of 128 bits."""
+"""The library's call for whole costs of 128 bits, and the numbers as it takes them."""
+import math
 from array import array
-from typing import Any, NamedTuple, Union
+from typing import Any, List, NamedTuple, Sequence, Union
 
-from ..costs.limits import WideNumbers
+from ..costs.limits import WIDE_BITS, WideNumbers
 from . import library, proved
+
+
+def words_of(numbers: Any) -> WideNumbers:
+    """Numbers as the library takes them."""
+    return WideNumbers(packed(numbers) if isinstance(numbers, list) else numbers)
+
+
+def packed(numbers: Sequence[int]) -> Any:
+    """Two words of 64 bits for each number."""
+    return array("q", b"".join([number.to_bytes(16, "little", signed=True) for number in numbers]))
+
+
+class Scaled(NamedTuple):
+    """Whole numbers of any size as multiples of a unit, in `WIDE_BITS` bits, and whether nothing was rounded down."""
+
+    numbers: List[int]
+    unit: int
+    is_exact: bool
+
+
+def scaled(whole: List[int]) -> Scaled:
+    """Whole numbers in the greatest unit that all are multiples of, or in a greater one."""
+    unit = math.gcd(*whole) or 1
+    if unit > 1:
+        whole = [number // unit for number in whole]
+    greatest = max(max(whole, default=0), -min(whole, default=0))
+    shift = max(0, (greatest - 1).bit_length() - WIDE_BITS)
+    return Scaled([number >> shift for number in whole], unit << shift, False) if shift else Scaled(whole, unit, True)
 
 
 class WidePlan(NamedTuple):

@@ -2,15 +2,15 @@
 otherwise rounded, less than one off. After the costs stands a 0, which is what a dummy costs."""
 import math
 import sys
-from array import array
 from fractions import Fraction
 from typing import Any, List, NamedTuple, Optional, Sequence, Tuple
 
 from ..costs import parts
 from ..costs.kinds import AnyWholeNumbers, Costs, Doubles
-from ..costs.limits import WIDE_BITS, WideNumbers
+from ..costs.limits import WIDE_BITS
 from ..costs.numbers import Ratio, bits_above, ratio_of, rounded
 from ..costs.parts import in_fixed_point
+from . import wide
 
 # Doubles that are decimals are rounded to so many bits: each is less than a unit off then.
 PRINTED_BITS = 50
@@ -33,33 +33,6 @@ class WholeCosts(NamedTuple):
         return [self.numbers[place] for place in places] if isinstance(self.numbers, list) else self.numbers[places]
 
 
-def words_of(numbers: Any) -> WideNumbers:
-    """Numbers as the library takes them."""
-    return WideNumbers(_packed(numbers) if isinstance(numbers, list) else numbers)
-
-
-def _packed(numbers: Sequence[int]) -> Any:
-    return array("q", b"".join([number.to_bytes(16, "little", signed=True) for number in numbers]))
-
-
-class Scaled(NamedTuple):
-    """Whole numbers of any size as multiples of a unit, in `WIDE_BITS` bits, and whether nothing was rounded down."""
-
-    numbers: List[int]
-    unit: int
-    is_exact: bool
-
-
-def scaled(whole: List[int]) -> Scaled:
-    """Whole numbers in the greatest unit that all are multiples of, or in a greater one."""
-    unit = math.gcd(*whole) or 1
-    if unit > 1:
-        whole = [number // unit for number in whole]
-    greatest = max(max(whole, default=0), -min(whole, default=0))
-    shift = max(0, (greatest - 1).bit_length() - WIDE_BITS)
-    return Scaled([number >> shift for number in whole], unit << shift, False) if shift else Scaled(whole, unit, True)
-
-
 def whole_costs(costs: Costs) -> WholeCosts:
     """Costs as whole numbers."""
     doubles, whole = costs.as_doubles(), costs.of_64_bits()
@@ -74,7 +47,7 @@ def whole_costs(costs: Costs) -> WholeCosts:
 
 def _of_whole(whole: List[int], common: int) -> WholeCosts:
     """Whole multiples of 1 / common."""
-    numbers, unit, is_exact = scaled(whole)
+    numbers, unit, is_exact = wide.scaled(whole)
     return WholeCosts(numbers, Fraction(unit, common), is_exact)
 
 
@@ -118,7 +91,7 @@ def _of_decimals(costs: Doubles) -> WholeCosts:
         values, places = few
         found = _of_ratios([ratio_of(value, False) for value in values.tolist()])
         if found.is_exact:
-            table = numpy.frombuffer(_packed(found.numbers + [0]), numpy.int64).reshape(-1, 2)
+            table = numpy.frombuffer(wide.packed(found.numbers + [0]), numpy.int64).reshape(-1, 2)
             return found._replace(numbers=table[numpy.append(places, len(values))])
     shift = min(PRINTED_BITS - math.frexp(costs.size())[1], _MOST_PRINTED_SHIFT)
     return WholeCosts(_words_of(numpy, in_fixed_point(numpy, flat, shift)), 1 / Fraction(2)**shift, False)

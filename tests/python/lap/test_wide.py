@@ -142,7 +142,7 @@ class Words(unittest.TestCase):
     def numbers(self, costs):
         """Each cost as a multiple of the part, and how far one is off at most, in parts."""
         found = words.whole_costs(costs)
-        held = words.words_of(found.numbers).listed()
+        held = wide.words_of(found.numbers).listed()
         self.assertEqual(held[-1], 0)
         self.assertLessEqual(max(map(abs, held)), 2**WIDE_BITS)
         off = [abs(Fraction(*costs.ratio(cost)) * costs.unit.denominator / found.part - number)
@@ -151,7 +151,7 @@ class Words(unittest.TestCase):
 
     def test_there_and_back(self):
         numbers = [0, 1, -1, 2**63, -2**63, 2**64, -2**64 - 1, 2**100, -2**100, 2**127 - 1, -2**127]
-        self.assertEqual(words.words_of(numbers).listed(), numbers)
+        self.assertEqual(wide.words_of(numbers).listed(), numbers)
 
     def test_lists(self):
         draw, exact = drawing(195), 0
