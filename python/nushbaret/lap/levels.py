@@ -22,7 +22,7 @@ from ..costs import parts
 from ..costs.kinds import WholeNumbers
 from ..costs.numbers import Ratio, in_unit, unit_of
 from ..costs.problem import AssignmentProblem
-from . import proved, wide, words
+from . import proved, units, wide
 
 class Level(NamedTuple):
     """Exact costs of pairs, to be minimised; a plan and prices that are best for rounded ones, and how much each cost
@@ -40,7 +40,7 @@ class Level(NamedTuple):
 def answer(problem: AssignmentProblem, assigned: Optional[int]) -> Union[proved.Assignment, proved.HallSet]:
     """The best plan of so many pairs, and its prices."""
     with problem.numpy.errstate(all="ignore") if problem.numpy else contextlib.nullcontext():
-        costs, places = words.whole_costs(problem.costs), _places(problem)
+        costs, places = units.whole_costs(problem.costs), _places(problem)
         asked = proved.instance_of(problem._replace(costs=places), assigned, -1)
         numbers = costs.numbers[:-1] if asked.costs is places.numbers else costs.at(asked.costs)
         found = wide.solved(problem.maximize, asked._replace(costs=wide.words_of(numbers)))

@@ -9,7 +9,7 @@ from unittest import mock
 import nushbaret
 from nushbaret.costs.kinds import Doubles, ExactNumbers, whole_numbers
 from nushbaret.costs.limits import WIDE_BITS
-from nushbaret.lap import levels, wide, words
+from nushbaret.lap import levels, units, wide
 from drawn import KINDS, best, doubles, drawing, exactly, hungarian, proves
 from optional import np
 
@@ -141,7 +141,7 @@ class Words(unittest.TestCase):
 
     def numbers(self, costs):
         """Each cost as a multiple of the part, and how far one is off at most, in parts."""
-        found = words.whole_costs(costs)
+        found = units.whole_costs(costs)
         held = wide.words_of(found.numbers).listed()
         self.assertEqual(held[-1], 0)
         self.assertLessEqual(max(map(abs, held)), 2**WIDE_BITS)
