@@ -10,7 +10,7 @@ from ..costs.limits import GREATEST_PRICE
 from ..costs.numbers import Number, Ratio, Unit
 from ..costs.problem import AssignmentProblem, costs_of_pairs
 from ..costs.source import Source
-from ..lap import doubles, duals as exact_duals, proved
+from ..lap import doubles, levels, proved
 from ..lap.paths import Subproblem
 from ..lap.plan_check import check_wholly
 from ..lap.ranking import Ranking, plans_shown
@@ -84,13 +84,12 @@ class SolvedProblem:
 
     @cached_property
     def duals(self) -> WholeDuals:
-        """Whole duals in a unit. Where levels found the plan these take the costs again."""
-        unit = self.shape.unit
-        prices: List[int] = []
-        if self.pairs[0] and self.answer.prices is None:
-            prices, unit = self._exact_prices()
-        elif self.pairs[0]:
-            prices = proved.whole_prices(self.answer)
+        """Whole duals in a unit. Where the plan was found for doubles these take the costs again."""
+        answer, prices = self.answer, []
+        if self.pairs[0]:
+            answer = self._with_prices() if answer.prices is None else answer
+            prices = proved.whole_prices(answer)
+        unit = answer.unit or self.shape.unit
         # A changed problem may have a greater unit than the costs had at the call.
         costs = [number * unit.denominator // denominator for number, denominator in self.ratios]
         return proved.duals_of(self.shape, self.answer, prices, list(zip(*self.pairs)), costs), unit
@@ -104,16 +103,13 @@ class SolvedProblem:
         except ValueError:
             return None
 
-    def _exact_prices(self) -> exact_duals.ExactPrices:
+    def _with_prices(self) -> proved.Assignment:
+        """An answer for the costs as they are now, whose prices are those of any plan that costs as much."""
         problem, count = self.read_again(), len(self.pairs[0])
-        assigned = None if count == min(problem.n_rows, problem.n_columns) else count
-        again = solved(problem, None, assigned)
+        again = levels.answer(problem, None if count == min(problem.n_rows, problem.n_columns) else count)
         if isinstance(again, proved.HallSet) or _cost_of(problem, again) != sum_of(self.shape, self.ratios):
             raise ValueError(CHANGED)
-        found = exact_duals.exact_prices(problem, assigned, self.answer.objects)
-        if found is None:
-            raise ValueError(CHANGED)
-        return found
+        return again
 
     @cached_property
     def rents(self) -> List[Fraction]:
@@ -134,7 +130,7 @@ class SolvedProblem:
         """The problem, that of the call where none is given, and the answer with its prices, or with those of the
         duals; None where it is in another unit than they are."""
         answer, unit = self.answer, self.shape.unit
-        if answer.prices is None and self.pairs[0]:
+        if not isinstance(answer.prices, array) and self.pairs[0]:
             (rows, columns, _), unit = self.duals
             own = rows if self.shape.n_rows > self.shape.n_columns else columns
             highest = max(own)

@@ -12,6 +12,10 @@ from .numbers import (ONE, Number, Ratio, Unit, all_shown, bits_above, in_unit, 
 from .parts import in_fixed_point, size_of
 
 
+# So many doubles are a sample of all.
+_SAMPLE = 1024
+
+
 def plain(values: Any) -> Any:
     """A list of numbers in a form whose items can be indexed one by one."""
     if hasattr(values, "held"):
@@ -252,9 +256,14 @@ class Doubles(ExactNumbers):
         """The shift that gives the greatest of all so many bits."""
         return bits - math.frexp(self.size())[1]
 
-    def in_list(self) -> Costs:
-        """The same numbers in a list of Python's."""
-        return ExactNumbers(self.numbers.tolist(), doubles=self.doubles)
+    def sample(self) -> Any:
+        """Some of the numbers."""
+        return self.numbers[::max(1, len(self.numbers) // _SAMPLE)]
+
+    def seem_few(self) -> bool:
+        """Whether a sample has many numbers several times."""
+        sample = self.sample()
+        return len(self.numpy.unique(sample)) <= len(sample) // 2
 
 
 def whole_numbers(costs: Sequence[int], unit: Unit = ONE, fractions: bool = False) -> Costs:

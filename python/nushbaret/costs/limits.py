@@ -1,7 +1,7 @@
 """The limits of the library, and lists of numbers as it takes them."""
 import ctypes
 from array import array
-from typing import TYPE_CHECKING
+from typing import TYPE_CHECKING, Any, List
 
 # An array of whole numbers; before Python 3.12 `array` takes no type while a program runs.
 if TYPE_CHECKING:
@@ -12,6 +12,8 @@ else:
 MOST_PERSONS = 4194304
 GREATEST_COST = 10**12
 GREATEST_PRICE = 9 * 10**18
+# Costs of 128 bits are from -2**100 to 2**100.
+WIDE_BITS = 100
 # NumPy returns an array's address slowly: up to so many numbers a copy is faster.
 FEW = 1024
 
@@ -38,3 +40,17 @@ class BorrowedNumbers:
 
     def __len__(self) -> int:
         return self.count
+
+
+class WideNumbers(BorrowedNumbers):
+    """Whole numbers of 128 bits, two words of 64 bits each, the lower one first: an `array`, or an array of NumPy's."""
+
+    def __init__(self, words: Any):
+        self.words = words
+        self.address, held = words.buffer_info() if isinstance(words, array) else (words.ctypes.data, words.size)
+        self.count = held // 2
+
+    def listed(self) -> List[int]:
+        """The numbers as a list of Python's."""
+        data = self.words.tobytes()
+        return [int.from_bytes(data[begin:begin + 16], "little", signed=True) for begin in range(0, len(data), 16)]

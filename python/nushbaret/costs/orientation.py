@@ -29,12 +29,6 @@ def by_rows(problem: AssignmentProblem, persons: Any, objects: Any) -> Tuple[Any
     return objects[places], persons[places]
 
 
-def matrix_of(problem: AssignmentProblem) -> Any:
-    """The costs of a dense problem in an array, with a row for each person."""
-    costs = problem.costs.numbers.reshape(problem.n_rows, problem.n_columns)
-    return costs.T if _is_turned(problem) else costs
-
-
 def costs_by_persons(problem: AssignmentProblem) -> Any:
     """The costs of a dense problem, person by person."""
     if not _is_turned(problem):
@@ -55,14 +49,6 @@ def _array_by_columns(numpy: Any, costs: Any) -> Any:
     for begin in range(0, len(by_columns), 64):
         by_columns[begin:begin + 64] = costs[:, begin:begin + 64].T
     return found
-
-
-def own_place(problem: AssignmentProblem, place: Any) -> Any:
-    """Where the cost of a dense problem stands that has a place in `costs_by_persons`; or an array of places."""
-    if not _is_turned(problem):
-        return place
-    column, row = divmod(place, problem.n_rows)
-    return row * problem.n_columns + column
 
 
 def object_prices(problem: AssignmentProblem, prices: List[int]) -> List[int]:

@@ -4,12 +4,14 @@ import math
 from array import array
 from typing import Any, Dict, NamedTuple, Optional, Tuple
 
+from ..costs.orientation import costs_by_persons
 from ..costs.parts import MOST_SHIFT, in_fixed_point, size_of
 from ..costs.problem import AssignmentProblem
 from ..costs.reading import loaded_numpy
 from . import library
-from .arrays import BITS, Level
 
+# Rounded costs have so many bits.
+BITS = 39
 _calls: Dict[str, Any] = {}
 
 
@@ -54,12 +56,12 @@ def _address_and_count(values: Any) -> Tuple[int, int]:
     return values.buffer_info() if isinstance(values, array) else (values.ctypes.data, values.size)
 
 
-def start(sense: bool, n: int, m: int, costs: Any) -> Tuple[Any, Any]:
+def start(sense: bool, n: int, m: int, costs: Any, longest: int = library.LONGEST) -> Tuple[Any, Any]:
     """Objects and prices to begin from: those of the rounded costs where the search may take long, since it is done in
     pieces, and else nobody's."""
     objects, prices = array("I", bytes(4 * n)), array("d", bytes(8 * m))
     numpy = loaded_numpy()
-    if numpy is None or n * n * m < library.LONGEST:
+    if numpy is None or n * n * m < longest:
         return objects, prices
     held = numpy.frombuffer(costs)
     shift = BITS - math.frexp(size_of(held))[1]
@@ -81,14 +83,16 @@ def is_only(problem: AssignmentProblem, objects: Any) -> bool:
     return plan is not None and plan.by_margin and list(plan.objects) == list(objects)
 
 
-def best_from(problem: AssignmentProblem, level: Level) -> Any:
-    """The objects of a plan that the library proves best for all doubles of a matrix, from the plan of a first level;
-    None where it doesn't, or where the problem is another one."""
-    n, m, costs = problem.n_rows, problem.n_columns, problem.matrix_of_doubles()
-    if costs is None or n > m or (n, m) != (level.asked.n, level.asked.m):
+def best_objects(problem: AssignmentProblem) -> Any:
+    """The objects of a plan that the library proves best for all doubles of a matrix; None where it doesn't, or where
+    the problem is another one."""
+    costs = problem.matrix_of_doubles()
+    # Of decimals with many ties it isn't sure which plan is best.
+    if costs is None or not len(costs) or not costs.doubles and costs.seem_few():
         return None
-    numpy = problem.numpy
-    objects = numpy.array(level.objects, numpy.uint32)
-    prices = numpy.ldexp(-numpy.array(level.of_objects[1:], numpy.float64), -level.shift)
-    plan = search(problem.maximize, n, m, costs.numbers, objects, prices)
+    n, m = sorted((problem.n_rows, problem.n_columns))
+    held = costs_by_persons(problem)
+    first = start(problem.maximize, n, m, held, 0 if library.is_limited() else library.LONG)
+    with library.one_piece(n):
+        plan = search(problem.maximize, n, m, held, *first)
     return plan.objects if plan and (costs.doubles or plan.by_margin) else None

@@ -1,110 +1,177 @@
-"""The best plan for any numbers, by levels.
+"""The best plan for any numbers, with its prices. Costs that are whole numbers of one unit in 128 bits take one call of
+the library; others take levels.
 
-The library takes whole costs up to 10**12. So a level rounds costs to whole multiples of a unit, and lets the library
-solve them. Its duals leave each pair a reduced cost, which is whole and at least 0, and 0 in the plan. Rounding changed
-each cost by at most half a unit, so any plan with a pair whose reduced cost is above n units costs more than this plan:
-the pair goes out. The next level takes the others at their exact reduced costs, which are at most some n units, and has
-a smaller unit. It ends where nothing was rounded, or where only the pairs of one plan are left.
+A level's costs are rounded to whole multiples of a unit. The plan that the library finds for these, and its prices, are
+near the best ones: what a pair costs at these prices, above its person's own pair, says by how much a plan with it may
+be cheaper. That is more than -2 units, as each cost is less than a unit off. So in a best plan no pair is dearer than 2
+n units, and no object that nobody has has a greater price. The next level has only the pairs below 4 n + 4 units, at
+what they cost above the own ones, and has a smaller unit. It ends where nothing was rounded.
 
-Where columns may stay unused, what a plan pays for its columns' duals v isn't the same for all plans. A best plan uses
-each column whose dual is below -n units. So the next level's costs keep max(v, -(2 n + 2)) of it.
+Its prices are added to those of the level before. For pairs that went out they must not be far apart: so one person
+more lists all objects at 2 n + 2 units, and one object more is listed by all persons at as much. They take each other,
+for nothing, and keep all prices within 4 n + 4 units.
 
-The lists here are as the library takes them: persons and objects from 1 on, dummies among them. Costs count in their
-own unit."""
+The lists here are as the library takes them: persons and objects from 1 on, dummies among them."""
 import contextlib
+import math
+from array import array
 from fractions import Fraction
-from typing import Any, Optional, Tuple, Union
+from typing import Any, List, NamedTuple, Optional, Sequence, Tuple, Union
 
-from ..costs import problem as reading
+from ..costs import parts
 from ..costs.kinds import WholeNumbers
-from ..costs.numbers import Unit
+from ..costs.numbers import Ratio, in_unit, unit_of
 from ..costs.problem import AssignmentProblem
-from . import arrays, doubles, pricing, proved, residues, ties
-from .arrays import BITS, Level, Pairs, more
-from .reduced import is_only_plan, kept, level_of
+from . import proved, units, wide
+
+class Level(NamedTuple):
+    """Exact costs of pairs, to be minimised; a plan and prices that are best for rounded ones, and how much each cost
+    was less than off. The sizes are those of the persons and the objects."""
+
+    n: int
+    m: int
+    persons: Sequence[int]
+    objects: Sequence[int]
+    costs: List[int]
+    plan: wide.WidePlan
+    unit: int
 
 
-def solved_by_levels(problem: AssignmentProblem, assigned: Optional[int],
-                     start: Optional[proved.WarmStart]) -> Union[proved.Assignment, proved.HallSet]:
-    """The best plan of so many pairs, for costs of any size; its answer has no prices."""
-    with quiet(problem):
-        return _solved(prepared(problem), assigned, start)
+def answer(problem: AssignmentProblem, assigned: Optional[int]) -> Union[proved.Assignment, proved.HallSet]:
+    """The best plan of so many pairs, and its prices."""
+    with problem.numpy.errstate(all="ignore") if problem.numpy else contextlib.nullcontext():
+        costs, places = units.whole_costs(problem.costs), _places(problem)
+        asked = proved.instance_of(problem._replace(costs=places), assigned, -1)
+        numbers = costs.numbers[:-1] if asked.costs is places.numbers else costs.at(asked.costs)
+        found = wide.solved(problem.maximize, asked._replace(costs=wide.words_of(numbers)))
+        if isinstance(found, proved.HallSet):
+            return found
+        if costs.is_exact:
+            return _in_unit(problem, asked, found, costs.part)
+        return _finer(problem, asked, costs.part, found, _near(problem, asked, numbers, found))
 
 
-def quiet(problem: AssignmentProblem) -> Any:
-    """A context in which NumPy says nothing of floating point."""
-    return problem.numpy.errstate(all="ignore") if problem.numpy else contextlib.nullcontext()
+def _places(problem: AssignmentProblem) -> WholeNumbers:
+    """The places of the costs, in their stead; that of a dummy's is -1."""
+    numpy, count = problem.numpy, len(problem.costs)
+    return WholeNumbers(numpy.arange(count) if numpy else array("q", range(count)), numpy=numpy)
 
 
-def _solved(problem: AssignmentProblem, assigned: Optional[int],
-            start: Optional[proved.WarmStart]) -> Union[proved.Assignment, proved.HallSet]:
-    tied = ties.of_problem(problem) if assigned is None else None
-    objects = None if tied is None else ties.best(tied)
-    if objects is not None:
-        n, m = sorted((problem.n_rows, problem.n_columns))
-        return proved.Assignment(n, m, None, objects, None)
-    priced = None if assigned is not None or tied or start is not None else pricing.first_level(problem, BITS,
-                                                                                              _most_left(problem))
-    found = priced.level if priced else first_level(problem, assigned, start)
+def _in_unit(problem: AssignmentProblem, asked: proved.Instance, plan: wide.WidePlan,
+             part: Fraction) -> proved.Assignment:
+    """The answer with prices in a unit, where they count parts of that of the costs."""
+    unit = unit_of({(1, part.denominator * problem.unit.denominator)}, problem.costs.fractions)
+    times = int(part * (unit.denominator // problem.unit.denominator))
+    prices = plan.prices if times == 1 else [price * times for price in plan.prices]
+    return proved.Assignment(asked.n, asked.m, None, plan.objects, prices, unit)
+
+
+# The first level's pairs.
+
+
+def _near(problem: AssignmentProblem, asked: proved.Instance, numbers: Any, plan: wide.WidePlan) -> Any:
+    """The places of the pairs that the next level may need, by their rounded costs: exact prices and costs are off."""
+    most = 8 * asked.n + 12
+    if not isinstance(numbers, list):
+        return _near_in_arrays(problem, asked, numbers, plan, most)
+    sign, prices, objects = -1 if problem.maximize else 1, plan.prices, plan.objects
+    persons, items = _pairs(asked, range(len(numbers)))
+    paid = [sign * number + prices[item - 1] for number, item in zip(numbers, items)]
+    bounds = [own + most for own in _own(objects, persons, items, paid)]
+    return [place for place, (pays, person) in enumerate(zip(paid, persons)) if pays <= bounds[person - 1]]
+
+
+def _near_in_arrays(problem: AssignmentProblem, asked: proved.Instance, numbers: Any, plan: wide.WidePlan,
+                    most: float) -> Any:
+    """The same by doubles, whatever these lose."""
+    numpy, n, m = problem.numpy, asked.n, asked.m
+    low, high, own = numbers[:, 0], numbers[:, 1], numpy.array(plan.objects, numpy.intp) - 1
+    paid = numpy.where(low >> 63 == high, low, high * 2.0**64 + low.view(numpy.uint64))
+    prices = numpy.array(plan.prices, numpy.float64)
+    most += 2.0**-50 * (parts.size_of(paid) + parts.size_of(prices))
+    paid = -paid if problem.maximize else paid
+    if not len(asked.persons):
+        paid = paid.reshape(n, m) + prices
+        return numpy.flatnonzero(paid <= (paid[numpy.arange(n), own] + most)[:, None])
+    persons, objects, bounds = asked.persons.astype(numpy.intp) - 1, asked.objects - 1, numpy.full(n, math.inf)
+    paid += prices[objects]
+    places = numpy.flatnonzero(own[persons] == objects)
+    numpy.minimum.at(bounds, persons[places], paid[places] + most)
+    return numpy.flatnonzero(paid <= bounds[persons])
+
+
+def _at(values: Any, places: Any) -> List[Any]:
+    """The values at some places, in a list."""
+    return list(values[places].tolist()) if hasattr(places, "dtype") else [values[place] for place in places]
+
+
+def _pairs(asked: proved.Instance, places: Any) -> Tuple[Sequence[int], Sequence[int]]:
+    """Persons and objects of the pairs at some places, from 1 on."""
+    if len(asked.persons):
+        return _at(asked.persons, places), _at(asked.objects, places)
+    places = places.tolist() if hasattr(places, "dtype") else places
+    return [place // asked.m + 1 for place in places], [place % asked.m + 1 for place in places]
+
+
+def _own(own: Sequence[int], persons: Sequence[int], objects: Sequence[int], paid: Sequence[int]) -> List[int]:
+    """What each person pays for its own object."""
+    found: List[Any] = [None] * len(own)
+    for person, item, pays in zip(persons, objects, paid):
+        if own[person - 1] == item and (found[person - 1] is None or pays < found[person - 1]):
+            found[person - 1] = pays
+    return found
+
+
+def _finer(problem: AssignmentProblem, asked: proved.Instance, part: Fraction, plan: wide.WidePlan,
+           places: Any) -> proved.Assignment:
+    """The answer by the exact costs of the pairs at some places, from the plan and the prices of rounded ones."""
+    ratios = _ratios_at(problem, _at(asked.costs, places))
+    unit = unit_of(set((1, denominator) for _, denominator in ratios), True)
+    if unit.denominator * part < 1:
+        unit = unit._replace(denominator=unit.denominator * 10**len(str(int(1 / (part * unit.denominator)))))
+    sign, scaled = -1 if problem.maximize else 1, part * unit.denominator
+    costs = [sign * in_unit(ratio, unit) for ratio in ratios]
+    # Prices of this unit are off too, by less than one.
+    prices = [price * scaled.numerator // scaled.denominator for price in plan.prices]
+    level = Level(asked.n, asked.m, *_pairs(asked, places), costs, wide.WidePlan(plan.objects, prices),
+                  int(scaled) + 1)
+    return _in_unit(problem, asked, _settled(level), Fraction(1, unit.denominator))
+
+
+def _ratios_at(problem: AssignmentProblem, places: Sequence[int]) -> List[Ratio]:
+    """The costs at some places, in the unit of the costs; 0 for those of dummies, at -1."""
+    held = _at(problem.costs.numbers, problem.numpy.array(places, problem.numpy.intp) if problem.numpy else places)
+    return problem.costs.ratios_in_unit([0 if place < 0 else cost for cost, place in zip(held, places)])
+
+
+# From level to level, in whole numbers.
+
+
+def _settled(level: Level) -> wide.WidePlan:
+    """A best plan of the exact costs, and its prices."""
+    n, prices = level.n, [0] * level.m
+    while level.unit:
+        bound = (2 * level.n + 2) * level.unit
+        taken = [min(price, bound) for price in level.plan.prices]
+        prices = [before + price - less for before, price, less in zip(prices, level.plan.prices, taken)]
+        level = _next(level, bound, taken)
+    return wide.WidePlan(level.plan.objects[:n], [before + price for before, price in zip(prices, level.plan.prices)])
+
+
+def _next(level: Level, bound: int, taken: Sequence[int]) -> Level:
+    """The next level: what the pairs that may be in a best plan cost above the own ones, less a part of the price of
+    what they use, and those of the person and of the object that keep prices near to each other."""
+    n, m, prices = level.n + 1, level.m + 1, level.plan.prices
+    paid = [cost + prices[item - 1] for cost, item in zip(level.costs, level.objects)]
+    own = _own(level.plan.objects, level.persons, level.objects, paid)
+    left = [(person, item, pays - own[person - 1] - taken[item - 1])
+            for person, item, pays in zip(level.persons, level.objects, paid) if pays - own[person - 1] < 2 * bound]
+    left += [(n, item, bound - less) for item, less in enumerate(taken, 1)] + [(n, m, -bound)]
+    left += [(person, m, 0) for person in range(1, n)]
+    persons, objects, costs = ([each[side] for each in left] for side in range(3))
+    numbers, unit, is_exact = wide.scaled(costs)
+    found = wide.solved(False, proved.Instance(n, m, array("I", persons), array("I", objects), wide.words_of(numbers)))
     if isinstance(found, proved.HallSet):
-        return found
-    objects = doubles.best_from(problem, found) if assigned is None else None
-    if objects is None:
-        objects = _from_level(problem, tied, found, priced.pairs if priced else None)
-    return proved.Assignment(found.asked.n, found.asked.m, None, objects, None)
-
-
-def _from_level(problem: AssignmentProblem, tied: Optional[ties.Matrix], level: Level, pairs: Optional[Pairs]) -> Any:
-    """The objects of a best plan, from the first level, and from the pairs that it leaves where these are known."""
-    objects = None if tied is None else ties.after_level(tied, level)
-    if objects is not None:
-        return objects
-    pairs = pairs or kept(level, level.asked.n + more(level.asked.n))
-    return level.objects if is_only_plan(level, pairs) else finer(problem, level, pairs)
-
-
-def _most_left(problem: AssignmentProblem) -> int:
-    """Up to how many units of reduced cost pairs are left."""
-    n = min(problem.n_rows, problem.n_columns)
-    return n + more(n)
-
-
-def prepared(problem: AssignmentProblem) -> AssignmentProblem:
-    """The problem in which no pair is given twice, as a list where its doubles are too small or too great for sums of
-    them."""
-    if problem.persons is not None and problem.costs.of_64_bits() is not None:
-        return reading.once(problem)
-    costs = problem.costs.as_doubles()
-    if costs is None or not len(costs) or not arrays.is_extreme(costs):
-        return problem
-    return reading.in_lists(problem, costs.in_list())
-
-
-def first_level(problem: AssignmentProblem, assigned: Optional[int],
-                start: Optional[proved.WarmStart] = None) -> Union[Level, proved.HallSet]:
-    """The level of the first unit."""
-    coarse, shift = _rounded(problem)
-    asked = proved.instance_of(coarse, assigned)
-    first = None if start is None else proved.first_of(coarse, start, assigned)
-    answer = proved.answer(coarse, asked, first)
-    if answer is None:
-        raise RuntimeError("costs were rounded to the library's range, and it says otherwise")
-    if isinstance(answer, proved.HallSet):
-        return answer
-    return level_of(asked, answer, shift, -1 if problem.maximize else 1)
-
-
-# The first level's costs.
-
-
-def _rounded(problem: AssignmentProblem) -> Tuple[AssignmentProblem, int]:
-    """The problem with costs of at most 39 bits, and the shift that made them so."""
-    numbers, shift = problem.costs.rounded(BITS)
-    part: Any = 1 << shift if shift >= 0 else Fraction(1, 1 << -shift)
-    unit = Unit(problem.unit.denominator * part, None)
-    return problem._replace(costs=WholeNumbers(numbers, unit, False, problem.numpy)), shift
-
-
-def finer(problem: AssignmentProblem, level: Level, pairs: Pairs) -> Any:
-    """The objects of a best plan along pairs that a level left."""
-    return residues.finish(level, residues.residue_of(problem, level, pairs))
+        raise RuntimeError("some pairs were found to hold a plan, and the library says otherwise")
+    plan = wide.WidePlan(found.objects, [price * unit for price in found.prices])
+    return Level(n, m, persons, objects, costs, plan, 0 if is_exact else unit)

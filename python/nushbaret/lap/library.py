@@ -7,7 +7,7 @@ import sys
 import threading
 import time
 from array import array
-from typing import Any, Callable, Dict, List, NamedTuple, Optional, Sequence, Tuple, Union
+from typing import Any, Callable, Dict, Iterator, List, NamedTuple, Optional, Sequence, Tuple, Union
 
 from ..costs.limits import FEW, BorrowedNumbers, Numbers
 
@@ -58,13 +58,14 @@ class Record(ctypes.Structure):
 
 # How many lists each call takes.
 _LISTS = {"dense": 4, "dense_from": 5, "sparse": 6, "sparse_from": 7, "check": 5, "check_hall": 5, "bottleneck": 6,
-          "next": 5, "ranked": 5, "unique": 7}
+          "next": 5, "ranked": 5, "unique": 7, "wide": 6}
 # What some take after these: a budget and a record; how many arc scans, one or two further lists, and where a number is
 # written.
 _IN_PIECES = [ctypes.c_uint64, ctypes.c_void_p]
-_MORE = {"dense_from": _IN_PIECES, "sparse_from": _IN_PIECES, "bottleneck": _IN_PIECES,
+_MORE: Dict[str, List[Any]] = {"dense_from": _IN_PIECES, "sparse_from": _IN_PIECES, "bottleneck": _IN_PIECES,
          "next": [ctypes.c_uint64, ctypes.c_void_p, ctypes.c_size_t, ctypes.c_void_p],
-         "ranked": [ctypes.c_uint64, *[ctypes.c_void_p, ctypes.c_size_t] * 2, ctypes.c_void_p]}
+         "ranked": [ctypes.c_uint64, *[ctypes.c_void_p, ctypes.c_size_t] * 2, ctypes.c_void_p],
+         "wide": [ctypes.c_void_p]}
 _loading = threading.Lock()
 _calls: Dict[str, Any] = {}
 
@@ -160,7 +161,7 @@ def searched(sense: bool, n: int, m: int, lists: Sequence[Any], first: Optional[
     `limited` is over. After each piece its `progress` is called with how many persons are assigned."""
     name, pairs = "dense" if len(lists) == 1 else "sparse", len(lists[-1])
     progress = progress_asked()
-    if first is None and _end() is None and progress is None and n * pairs < LONG:
+    if first is None and not is_limited() and n * pairs < LONG:
         return call(name, sense, n, m, *lists, *written)
     record, code, info, pace = Record(), "STOPPED", Info(), Pace(PIECES[name], pairs)
     start = _SPARE[:0] if first is None else _begun(first, written[0])
@@ -373,8 +374,26 @@ def _end() -> Optional[float]:
     return None if alarm is None or alarm.rang else alarm.end
 
 
+def is_limited() -> bool:
+    """Whether this thread's call has an end, or shows its progress."""
+    return _end() is not None or progress_asked() is not None
+
+
 def look_at_time() -> None:
     """Raises TimeoutError where the time of `limited` is over."""
     end = _end()
     if end is not None and time.monotonic() >= end:
         raise TimeoutError(_TIME_IS_OVER)
+
+
+@contextlib.contextmanager
+def one_piece(n: int) -> Iterator[None]:
+    """Within, a call works that isn't done in pieces: `progress` is called before it and after it. Ctrl-C and the time
+    wait for its end."""
+    look_at_time()
+    progress = progress_asked()
+    if progress is not None:
+        progress(0, n)
+    yield
+    if progress is not None:
+        progress(n, n)

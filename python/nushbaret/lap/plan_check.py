@@ -9,7 +9,7 @@ from ..costs.limits import GREATEST_COST, GREATEST_PRICE
 from ..costs.numbers import Unit, in_unit, unit_of
 from ..costs.orientation import oriented
 from ..costs.problem import AssignmentProblem, costs_of_pairs, in_whole_numbers, lists_of
-from . import arrays, library, proved
+from . import library, proved
 from .matching import most_assigned
 from .staying_out import are_many
 
@@ -204,7 +204,7 @@ def _bests(problem: AssignmentProblem, ratios: List[Any], prices: List[Fraction]
 def _bests_of_doubles(problem: AssignmentProblem, ratios: List[Any], prices: List[Fraction], of_prices: Any) -> Bests:
     """As `_bests`, for a whole matrix of doubles: only those near the least are looked at exactly."""
     held, sign = problem.costs, -1 if problem.maximize else 1
-    near = arrays.near_least(held.numpy, held.numbers.reshape(problem.n_rows, problem.n_columns), sign,
+    near = _near_least(held.numpy, held.numbers.reshape(problem.n_rows, problem.n_columns), sign,
                              list(map(_as_float, prices)))
     costs = {place: held.ratio(held.numbers[place].item()) for places in near for place in places}
     unit = unit_of(of_prices | set((1, denominator) for _, denominator in [*ratios, *costs.values()]), True)
@@ -215,6 +215,19 @@ def _bests_of_doubles(problem: AssignmentProblem, ratios: List[Any], prices: Lis
         bests.append(_Best(*min((sign * in_unit(costs[place], unit) + scaled[column], column)
                                 for place, column in zip(places, columns))))
     return unit, bests
+
+
+def _near_least(numpy: Any, costs: Any, sign: int, prices: List[float]) -> List[List[int]]:
+    """The places in each row of a matrix of doubles where cost and price may be the least, whatever doubles lose."""
+    with numpy.errstate(all="ignore"):
+        added = numpy.array(prices)
+        lost = 2.0**-50 * (float(numpy.abs(costs).max()) + float(numpy.abs(added).max())) + 5e-324
+        found = []
+        for row in range(len(costs)):
+            paid = sign * costs[row] + added
+            near = paid <= paid.min() + lost
+            found.append((numpy.flatnonzero(near | ~numpy.isfinite(paid)) + row * costs.shape[1]).tolist())
+        return found
 
 
 def _as_float(price: Fraction) -> float:

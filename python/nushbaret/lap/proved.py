@@ -10,6 +10,7 @@ from typing import Any, List, NamedTuple, NoReturn, Optional, Sequence, Tuple, U
 
 from ..costs import naming
 from ..costs.limits import GREATEST_PRICE, MOST_PERSONS, Numbers, TooLarge
+from ..costs.numbers import Unit
 from ..costs.orientation import by_rows, costs_by_persons, object_prices, oriented, row_and_column_duals
 from ..costs.problem import AssignmentProblem, listed
 from ..costs.reading import exact_ratio
@@ -28,14 +29,15 @@ class Instance(NamedTuple):
 
 
 class Assignment(NamedTuple):
-    """A best assignment: an object for each person, from 1 on, and prices in the unit of the costs. Where levels found
-    it, there are no prices and no total."""
+    """A best assignment: an object for each person, from 1 on, and prices: an array, in the unit of the costs, or a
+    list of whole numbers of any size, in a unit. There may be no total, and of doubles no prices."""
 
     n: int
     m: int
     total: Optional[int]
     objects: Any
     prices: Any
+    unit: Optional[Unit] = None
 
 
 class HallSet(NamedTuple):
@@ -113,12 +115,6 @@ def answer(problem: AssignmentProblem, asked: Instance,
     return None if code == "COST" else best or refuse(code, info)
 
 
-def found(asked: Instance, maximize: bool, first: Optional[FirstPrices] = None) -> Union[Assignment, HallSet]:
-    """The library's answer to listed pairs, whose costs are in its range."""
-    code, info, best = _searched(asked, maximize, (asked.persons, asked.objects, asked.costs), first)
-    return best or refuse(code, info)
-
-
 def _searched(asked: Instance, maximize: bool, lists: Sequence[Any],
               first: Optional[FirstPrices]) -> Tuple[str, library.Info, Union[Assignment, HallSet, None]]:
     """What the library says to lists, and its answer if it has one."""
@@ -134,7 +130,7 @@ def _searched(asked: Instance, maximize: bool, lists: Sequence[Any],
 def _asked_about(problem: AssignmentProblem, best: Assignment) -> Optional[Tuple[Any, ...]]:
     """What the library is asked about an answer without dummies: the sense, how many persons and objects there are, the
     lists, the answer's objects and its prices; None where it can't be asked, as of costs beyond its range."""
-    if best.prices is None or not best.n or best.m != max(problem.n_rows, problem.n_columns):
+    if not isinstance(best.prices, array) or not best.n or best.m != max(problem.n_rows, problem.n_columns):
         return None
     if problem.costs.of_64_bits() is None:
         return None
@@ -166,14 +162,6 @@ def first_objects(problem: AssignmentProblem, best: Assignment, count: int) -> T
     of these. Then each row has a pair."""
     about = None if problem.n_rows > problem.n_columns else _asked_about(problem, best)
     return ("", (), ()) if about is None else library.first_objects(count, *about)
-
-
-def best_of(asked: Instance) -> Assignment:
-    """The library's answer to listed pairs that hold an assignment; the sum is to be least."""
-    best = found(asked, False)
-    if isinstance(best, HallSet):
-        raise RuntimeError("some pairs were found to hold a plan, and the library says otherwise")
-    return best
 
 
 def no_pairs(problem: AssignmentProblem) -> Assignment:
@@ -270,7 +258,7 @@ def as_checked(duals: Duals, rows: Sequence[int]) -> Duals:
 
 def whole_prices(found: Assignment) -> List[int]:
     """The prices of an answer, the least 0."""
-    prices: List[int] = found.prices.tolist()
+    prices: List[int] = list(found.prices)
     lowest = min(prices)
     return [price - lowest for price in prices] if lowest else prices
 

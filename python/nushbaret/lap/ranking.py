@@ -26,13 +26,12 @@ from ..costs.limits import GREATEST_PRICE
 from ..costs.numbers import ONE, Ratio, Unit, in_unit, unit_of
 from ..costs.problem import AssignmentProblem, costs_of_pairs, in_whole_numbers, lists_of
 from . import library
-from .duals import duals_of_whole
 from .matching import Group, prove_short
 from .paths import (INFINITE, NOBODY, Branch, Choice, PathSearch, Paths, Subproblem, near_pairs_of,
                     usual_reduced_cost)
 from .plan_check import check_problem
 from .proved import Assignment, Duals, first_objects
-from .solving import BestPlan, least_sum
+from .solving import BestPlan, duals_of_whole, least_sum
 
 
 # So many pairs of a row are looked at first, on average; then so many times as many. Few pairs are looked at at once.

@@ -1,10 +1,10 @@
-"""The best plan of a problem: the library's, or by levels where costs are beyond its range."""
+"""The best plan of a problem: the library's, by levels where 128 bits don't hold its costs."""
 from array import array
 from typing import Any, List, NamedTuple, Optional, Tuple, Union
 
 from ..costs.kinds import WholeNumbers
 from ..costs.problem import AssignmentProblem, costs_of_pairs
-from . import levels, library, proved
+from . import doubles, levels, library, proved
 from .matching import most_assigned
 from .staying_out import are_many, solved_by_counts
 
@@ -13,7 +13,7 @@ Began = Optional[proved.WarmStart]
 
 
 def solved(problem: AssignmentProblem, start: Began = None, assigned: Optional[int] = None) -> Outcome:
-    """The answer to the problem of so many pairs: the library's, or by levels where costs are beyond its range."""
+    """The answer to the problem of so many pairs. A plan that the library proves best for doubles has no prices."""
     if assigned == 0 or not min(problem.n_rows, problem.n_columns):
         return proved.no_pairs(problem)
     if problem.costs.of_64_bits() is not None:
@@ -25,7 +25,10 @@ def solved(problem: AssignmentProblem, start: Began = None, assigned: Optional[i
         answer = proved.answer(problem, asked, None if start is None else proved.first_of(problem, start, assigned))
         if answer is not None:
             return answer
-    return levels.solved_by_levels(problem, assigned, start)
+    objects = doubles.best_objects(problem) if assigned is None else None
+    if objects is not None:
+        return proved.Assignment(len(objects), max(problem.n_rows, problem.n_columns), None, objects, None)
+    return levels.answer(problem, assigned)
 
 
 def most(problem: AssignmentProblem, start: Began) -> proved.Assignment:
@@ -102,3 +105,10 @@ def best_plan(problem: AssignmentProblem, fullest: bool = False) -> Optional[Bes
         answer = most(problem, None)
     rows, columns = proved.pairs_of(problem, answer)
     return BestPlan(problem, answer, rows, columns, sum(costs_of_pairs(problem, rows, columns)))
+
+
+def duals_of_whole(best: BestPlan) -> proved.Duals:
+    """Whole duals of a best plan."""
+    problem, answer, rows, columns, _ = best
+    prices = proved.whole_prices(answer) if rows else []
+    return proved.duals_of(problem, answer, prices, list(zip(rows, columns)), costs_of_pairs(problem, rows, columns))

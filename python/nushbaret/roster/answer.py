@@ -8,11 +8,10 @@ from typing import Callable, Dict, Iterable, List, Mapping, NamedTuple, Optional
 from ..costs.limits import Numbers
 from ..counts.counted import Bounds
 from ..counts.lack import Lack
-from ..lap.duals import duals_of_whole
 from ..lap.matching import short_groups
 from ..lap.proved import rents
 from ..lap.ranking import plans_in_order
-from ..lap.solving import BestPlan, best_plan
+from ..lap.solving import BestPlan, best_plan, duals_of_whole
 from .groups import Paired, missing_of, order_of
 from .names import SHARED, NamesShown, joined, numbered, said
 from .roster import OldPlan, PlanLine, Roster

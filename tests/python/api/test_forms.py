@@ -152,9 +152,9 @@ class Forms(unittest.TestCase):
                 call(none)
 
     def test_refined(self):
-        """Where rounding doesn't show the best plan among allowed pairs, levels go on."""
+        """Where rounding doesn't show the best plan among allowed pairs, exact costs do."""
         draw = drawing(175)
-        with mock.patch.object(levels, "finer", side_effect=levels.finer) as finer:
+        with mock.patch.object(levels, "answer", side_effect=levels.answer) as finer:
             for _ in range(40):
                 costs = _drawn(draw, "f8", "ties", "infinite", (4, 5))
                 self.both(costs, False)

@@ -48,7 +48,7 @@ def fill(form, value):
 
 class Changed(unittest.TestCase):
     EXACT = [[1.0, 2.0], [3.0, 5.0]]
-    LEVELS = [[0.1, 1e15 / 3], [0.7, 1e-9]]
+    OTHERS = [[1e-9, 7.7], [1.1, 1e15 / 3]]
 
     def test_what_needs_the_costs_no_more(self):
         for form in forms_of(self.EXACT):
@@ -60,7 +60,7 @@ class Changed(unittest.TestCase):
                 self.assertEqual(result.to_frame()["cost"].tolist(), [2, 3])
 
     def test_what_needs_them(self):
-        for costs in self.EXACT, self.LEVELS:
+        for costs in self.EXACT, self.OTHERS:
             for value in 0.0, 7.0, 1e300:
                 for form in forms_of(costs):
                     result = nushbaret.solve(form)
@@ -70,14 +70,18 @@ class Changed(unittest.TestCase):
                             call()
                     self.assertFalse(result.verify())
 
-    def test_duals_that_take_a_second_level(self):
-        for form in forms_of(self.LEVELS):
+    def test_duals_of_other_numbers(self):
+        """Of doubles they may need the costs; otherwise the call found them."""
+        for form in forms_of(self.OTHERS):
             result = nushbaret.solve(form)
             fill(form, 3.0)
-            with self.assertRaisesRegex(ValueError, CHANGED):
-                result.row_duals
-            self.assertIn(CHANGED, result.verify().why)
-            self.assertEqual(result.cost, Decimal("0.100000001"))
+            if result._solved.answer.prices is None:
+                with self.assertRaisesRegex(ValueError, CHANGED):
+                    result.row_duals
+                self.assertIn(CHANGED, result.verify().why)
+            else:
+                self.assertEqual(sum(result.row_duals) + sum(result.column_duals), result.cost)
+            self.assertEqual(result.cost, Decimal("8.8"))
 
     def test_other_costs_for_which_the_plan_is_best(self):
         """Costs outside of the plan may change as long as the plan stays best."""
@@ -87,7 +91,7 @@ class Changed(unittest.TestCase):
         self.assertEqual((result.next_best().cost, result.without(0, 1).cost, bool(result.verify())), (10, 10, True))
 
     def test_start_at_a_result_of_costs_that_were_changed(self):
-        for costs in self.EXACT, self.LEVELS:
+        for costs in self.EXACT, self.OTHERS:
             for form in forms_of(costs):
                 result = nushbaret.solve(form)
                 fill(form, 3.0)
@@ -202,7 +206,7 @@ class Kept(unittest.TestCase):
             self.assertLess(len(pickle.dumps(nushbaret.solve(form))), 100_000)
 
     def test_a_pickle_of_changed_costs_says_so(self):
-        for form in forms_of(Changed.LEVELS) + forms_of(Changed.EXACT):
+        for form in forms_of(Changed.OTHERS) + forms_of(Changed.EXACT):
             result = nushbaret.solve(form)
             fill(form, 7.0)
             again = pickle.loads(pickle.dumps(result))

@@ -180,7 +180,7 @@ class Timeouts(unittest.TestCase):
             for call, words in ((nushbaret.solve, {"progress": silent}), (nushbaret.bottleneck, {}),
                                 (nushbaret.linear_sum_assignment, {"progress": silent})):
                 with self.assertRaises(TimeoutError):
-                    call(self.COSTS, timeout=0.05, **words)
+                    call([[4, 1, 3], [2, 0, 5], [3, 2, 2]], timeout=0.05, **words)
         # An alarm's thread ends soon after it rang.
         end = time.monotonic() + 60
         while threading.active_count() > threads and time.monotonic() < end:
@@ -240,7 +240,7 @@ class Timeouts(unittest.TestCase):
                                             "changed$") as raised:
                     call([Endless(), Endless()], timeout=0.05)
                 self.assertIs(type(raised.exception), TimeoutError)
-            with mock.patch.object(levels, "finer", never), self.assertRaises(TimeoutError):
+            with mock.patch.object(levels, "answer", never), self.assertRaises(TimeoutError):
                 nushbaret.solve([[0.1 + 0.2, 0.1], [1 / 3, 1 / 3 - 0.2]] * 40, partial=True, timeout=0.05)
             ended.append(nushbaret.solve([[4, 1], [2, 3]]).cost)
 

@@ -1,22 +1,17 @@
 """Costs of any size: plans, duals and verdicts are exact, compared with a slow search and a Hungarian method in
 fractions."""
 import itertools
-import os
-import subprocess
 import sys
 import unittest
 from decimal import Decimal, localcontext
 from fractions import Fraction
-from unittest import mock
 
 import nushbaret
 from nushbaret.costs.kinds import ExactNumbers
-from nushbaret.costs.problem import AssignmentProblem, of_matrix
-from nushbaret.costs.reading import manner
-from nushbaret.lap import arrays as _level, doubles as _doubles, duals, levels, pricing, reduced, ties as _ties
+from nushbaret.costs.problem import AssignmentProblem
+from nushbaret.lap import levels
 from drawn import KINDS, best, doubles, drawing, exactly, hungarian, proves
 from optional import np
-from ways import by_the_longer_way, longer_call
 
 
 def as_array(costs, maximize):
@@ -288,7 +283,7 @@ class Larger(unittest.TestCase):
             exact = [list(map(Fraction, row)) for row in costs.tolist()]
             rows, columns = nushbaret.linear_sum_assignment(costs, maximize)
             shown = [list(map(float, row)) for row in costs.tolist()]
-            asked = levels.solved_by_levels(self.listed(shown, maximize), None, None)
+            asked = levels.answer(self.listed(shown, maximize), None)
             person_columns = list(asked.objects)
             pairs = (list(enumerate(person_columns)) if shape[0] <= shape[1]
                      else [(row, column) for column, row in enumerate(person_columns)])
@@ -298,79 +293,6 @@ class Larger(unittest.TestCase):
     def listed(self, costs, maximize):
         numbers = [cost for row in costs for cost in row]
         return AssignmentProblem(len(costs), len(costs[0]), maximize, ExactNumbers(numbers, doubles=True))
-
-
-@unittest.skipUnless(np, "NumPy isn't there")
-class Priced(unittest.TestCase):
-    """Large matrices, whose cheapest pairs are solved first: here small ones count as large."""
-
-    def test_beside_hungarian(self):
-        draw, rounds, whole = drawing(69), 0, 0
-        with mock.patch.object(pricing, "LARGE", 1), mock.patch.object(pricing, "CHEAPEST", 1), \
-                mock.patch.object(pricing, "MOST_SHARE", 1), by_the_longer_way(), \
-                mock.patch.object(_doubles, "best_from", return_value=None), \
-                mock.patch.object(_ties, "of_problem", return_value=None):
-            for turn in range(240):
-                kind = list(KINDS)[turn % len(KINDS)]
-                n_rows, maximize = draw.randint(2, 20), draw.random() < 0.5
-                costs = doubles(draw, n_rows, draw.choice([n_rows, n_rows + 4, max(n_rows // 2, 1)]), kind)
-                with mock.patch.object(pricing._Matrix, "answer", autospec=True,
-                                       side_effect=pricing._Matrix.answer) as asked:
-                    rows, columns = longer_call(np.array(costs), maximize)
-                    result = nushbaret.solve(np.array(costs), maximize)
-                rounds += asked.call_count > 2
-                whole += not asked.call_count
-                exact = exactly(costs, False)
-                self.assertEqual(sum_of(exact, rows, columns), hungarian(exact, maximize))
-                exact = exactly(costs, True)
-                self.assertEqual(Fraction(result.cost), hungarian(exact, maximize))
-                self.assertTrue(proves(exact, result, maximize))
-        self.assertGreater(rounds, 30)
-        self.assertLess(whole, 120)
-
-    def test_memory(self):
-        """A large matrix isn't copied: one of the least size that counts as large is solved within a share of its
-        memory."""
-        code = ("import resource, numpy as np, nushbaret\n"
-                "costs = np.random.default_rng(1).random((2048, 2048))\n"
-                "nushbaret.linear_sum_assignment(costs[:300, :300].copy())\n"
-                "before = resource.getrusage(resource.RUSAGE_SELF).ru_maxrss\n"
-                "rows, columns = nushbaret.linear_sum_assignment(costs)\n"
-                "print((resource.getrusage(resource.RUSAGE_SELF).ru_maxrss - before) * 1024 / costs.nbytes)\n")
-        ran = subprocess.run([sys.executable, "-c", code], capture_output=True, text=True, check=True, env=os.environ)
-        self.assertLess(float(ran.stdout), 0.75)
-
-
-class Steps(unittest.TestCase):
-    """What levels stand on."""
-
-    def test_which_pairs_go_out(self):
-        """No pair of any best plan goes out at the first level."""
-        draw, out = drawing(68), 0
-        for turn in range(300):
-            n_rows, n_columns = draw.randint(2, 4), draw.randint(2, 4)
-            costs = doubles(draw, n_rows, n_columns, list(KINDS)[turn % len(KINDS)])
-            problem = levels.prepared(of_matrix(costs, manner(False, doubles=True)))
-            if problem.costs.of_64_bits() is not None:
-                continue
-            level = levels.first_level(problem, None)
-            pairs = reduced.kept(level, level.asked.n + _level.more(level.asked.n))
-            left = set(zip(map(int, pairs.persons), map(int, pairs.objects)))
-            exact = exactly(costs, False)
-            exact = exact if n_rows <= n_columns else [list(column) for column in zip(*exact)]
-            sums = {columns: sum(exact[row][column] for row, column in enumerate(columns))
-                    for columns in itertools.permutations(range(len(exact[0])), len(exact))}
-            for columns, cost in sums.items():
-                if cost == min(sums.values()):
-                    self.assertLessEqual({(row + 1, column + 1) for row, column in enumerate(columns)}, left)
-            out += len(left) < n_rows * n_columns
-        self.assertGreater(out, 100)
-
-    def test_prices_that_settle(self):
-        """Bounds between prices hold afterwards, and prices only fall."""
-        prices = [0, 5, 9, 9]
-        duals._settle(prices, [{}, {2: 1}, {3: -2}, {}])
-        self.assertEqual(prices, [0, 5, 6, 4])
 
 
 if __name__ == "__main__":

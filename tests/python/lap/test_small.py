@@ -47,7 +47,7 @@ class Small(unittest.TestCase):
         """By the thousand, compared with all plans: lists and arrays, for decimals and for doubles."""
         draw, kinds = drawing(81), [*OWN_KINDS, "tied", "near ties", "small differences", "thirds and M", "even"]
         small, refined = 0, 0
-        with mock.patch.object(levels, "solved_by_levels", side_effect=levels.solved_by_levels) as finer:
+        with mock.patch.object(levels, "answer", side_effect=levels.answer) as finer:
             for turn in range(2400):
                 kind, most = kinds[turn % len(kinds)], 5 if turn % 40 == 0 else 4
                 n_rows, n_columns, maximize = draw.randint(1, most), draw.randint(1, most), draw.random() < 0.5

@@ -1,10 +1,8 @@
-"""Matrices with many ties, compared with Kuhn's method in whole numbers; which way found the plan is counted."""
+"""Matrices with many ties, compared with Kuhn's method in whole numbers."""
 import unittest
 from fractions import Fraction
-from unittest import mock
 
 import nushbaret
-from nushbaret.lap import levels, ties
 from drawn import drawing, exactly, hungarian, proves
 from optional import np
 
@@ -43,42 +41,29 @@ class Ties(unittest.TestCase):
         return result
 
     def test_small(self):
-        """From a call's own first level, and from the one of the longer way."""
-        draw, seen = drawing(181), {"best": 0, "after_level": 0}
-        wrapped = {name: self.counted(seen, name) for name in seen}
-        with mock.patch.multiple(ties, **wrapped):
-            for turn in range(600):
-                kind = list(KINDS)[turn % len(KINDS)]
-                n_rows, n_columns = draw.randint(1, 18), draw.randint(1, 18)
-                costs = [[KINDS[kind](draw, row, column) for column in range(n_columns)] for row in range(n_rows)]
-                with self.subTest(kind=kind, shape=(n_rows, n_columns), turn=turn):
-                    result = self.judge(costs, turn // len(KINDS) % 2 == 0)
-                    if turn % 9 == 0:
-                        self.assertTrue(proves(exactly(costs, True), result, result.maximize))
-        self.assertGreater(min(seen.values()), 100, seen)
-
-    def counted(self, seen, name):
-        plain = getattr(ties, name)
-
-        def counting(*words):
-            found = plain(*words)
-            seen[name] += found is not None
-            return found
-        return counting
+        draw = drawing(181)
+        for turn in range(600):
+            kind = list(KINDS)[turn % len(KINDS)]
+            n_rows, n_columns = draw.randint(1, 18), draw.randint(1, 18)
+            costs = [[KINDS[kind](draw, row, column) for column in range(n_columns)] for row in range(n_rows)]
+            with self.subTest(kind=kind, shape=(n_rows, n_columns), turn=turn):
+                result = self.judge(costs, turn // len(KINDS) % 2 == 0)
+                if turn % 9 == 0:
+                    self.assertTrue(proves(exactly(costs, True), result, result.maximize))
 
     def test_larger(self):
-        """Beyond the first sample of rows, and in several parts; a plan is compared with what levels find along lists
-        of pairs."""
+        """Beyond the first sample, and in several parts; a plan is compared with that of the costs' own fractions."""
         draw = drawing(182)
-        for turn, (n_rows, n_columns) in enumerate([(40, 700), (700, 40), (170, 170), (130, 150)] * 2):
+        for turn, (n_rows, n_columns) in enumerate([(40, 200), (200, 40), (70, 70), (60, 80)]):
             for kind in KINDS:
                 costs = np.array([[KINDS[kind](draw, row, column) for column in range(n_columns)]
                                   for row in range(n_rows)])
                 for call in nushbaret.solve, nushbaret.linear_sum_assignment:
                     with self.subTest(kind=kind, shape=costs.shape, turn=turn, call=call.__name__):
-                        found = self.sum_of(costs, call(costs, turn < 4), call is nushbaret.solve)
-                        with mock.patch.object(ties, "of_problem", return_value=None):
-                            self.assertEqual(found, self.sum_of(costs, call(costs, turn < 4), call is nushbaret.solve))
+                        printed = call is nushbaret.solve
+                        found, exact = self.sum_of(costs, call(costs, turn < 2), printed), exactly(costs, printed)
+                        wanted = nushbaret.solve(exact, turn < 2)
+                        self.assertEqual(found, (len(wanted.columns), Fraction(wanted.cost)))
 
     def sum_of(self, costs, found, printed):
         rows, columns = (found.rows, found.columns) if printed else found
@@ -93,14 +78,12 @@ class Ties(unittest.TestCase):
         for maximize in False, True:
             self.assertEqual(self.judge(costs.tolist(), maximize).columns.tolist().index(42) == 38, not maximize)
 
-    def test_too_many_values(self):
-        """Where too many costs differ, levels go on along lists of pairs."""
+    def test_many_values(self):
+        """Of which most pairs are near each other."""
         draw = drawing(183)
-        costs = [[draw.choice([0.25, 0.25, 0.25, draw.random() * 1e-7 + 0.25]) for _ in range(60)] for _ in range(60)]
-        with mock.patch.object(ties, "_MOST_VALUES", 3), mock.patch.object(levels, "finer",
-                                                                           side_effect=levels.finer) as finer:
-            self.judge(costs, False)
-        self.assertGreater(finer.call_count, 0)
+        for great in 1e-7, 1e-14:
+            self.judge([[draw.choice([0.25, 0.25, 0.25, draw.random() * great + 0.25]) for _ in range(60)]
+                        for _ in range(60)], False)
 
 
 if __name__ == "__main__":
