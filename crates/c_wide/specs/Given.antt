@@ -1,5 +1,5 @@
 -- The lists that a caller gives, and their faults.
-use Rattle.std.specs.Prelude.{◌≡◌, ⊥, ℕ, List, [], Some, map, All}
+use Rattle.std.specs.Prelude.{◌≡◌, ℕ, List, [], Some, map, All}
 use Rattle.assign_core.specs.declared.sense.Sense.{Sense as Wanted}
 use Rattle.cost_lists.specs.ListedCosts.{ListedCosts}
 use Rattle.c_calls.specs.declared.fault.Fault.{Fault}
