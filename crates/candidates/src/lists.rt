@@ -8,6 +8,7 @@ ghost use Rattle.bidder.specs.BestTwo.{IsBestTwo, best_two};
 ghost use Rattle.bidder.specs.Offers.{IsAsk, IsOffer, IsSoundOffer, benefits_at, offer_of};
 ghost use Rattle.candidates.specs.Candidates.{AreCandidates, FitAnyRow, HaveCandidates};
 
+use super::boxed::BoxedCandidates;
 use super::list::Candidates;
 use assign_core::{Person, Prices};
 use bidder::{Ask, BestTwo, Offer, best_of, make_bid, make_bid_of};
@@ -21,7 +22,7 @@ pub const SHORT_ROW: usize = 48;
 /// The candidates of persons 1, 2, .., while nobody has taken them.
 #[derive(Drop)]
 pub struct CandidateLists {
-    lists: Vec<Option<Candidates>>,
+    lists: Vec<Option<BoxedCandidates>>,
 }
 
 impl Model for CandidateLists {
@@ -86,7 +87,7 @@ fn best_with(
 /// The offer of a person under a table of prices, as `make_bid` gives it. The person's candidates
 /// spare a scan of its row where they show its best two, and are made again where they don't.
 pub fn make_bid_with(
-    list: &mut Candidates,
+    list: &mut BoxedCandidates,
     scaled: &Scaled,
     prices: &Prices,
     version: u128,
@@ -102,26 +103,43 @@ pub fn make_bid_with(
     ensures sound { IsSoundOffer scaled.now ask prices.now result }
     ensures candidates { AreCandidates (benefits_at scaled.now person) prices.now list.new }
 {
-    let found = best_with(list, scaled, prices, person);
+    let found = best_with(&mut list.inner, scaled, prices, person);
     make_bid_of(scaled, prices, version, ask, person, found)
 }
 
+// Whether the person's row is long enough for a list.
+fn is_long(scaled: &Scaled, person: Person) -> bool
+    requires { IsNumber (length scaled.now.problem) person }
+{
+    scaled.problem().row(person).len() > SHORT_ROW
+}
+
+// Whether any row is long enough for a list.
+fn has_long_row(scaled: &Scaled) -> bool {
+    for before in 0..scaled.n() {
+        if is_long(scaled, Person(before + 1)) {
+            return true;
+        }
+    }
+    false
+}
+
 // New candidates for a person, or none if its row is short or memory is refused.
-fn new_list(alloc: Global, scaled: &Scaled, person: Person) -> Option<Candidates>
+fn new_list(alloc: Global, scaled: &Scaled, person: Person) -> Option<BoxedCandidates>
     requires { IsNumber (length scaled.now.problem) person }
     ensures { IfSome result FitAnyRow }
 {
-    if scaled.problem().row(person).len() <= SHORT_ROW {
+    if !is_long(scaled, person) {
         return None;
     }
-    match Candidates::new(alloc) {
+    match BoxedCandidates::new(alloc) {
         Ok(list) => Some(list),
         Err(_) => None,
     }
 }
 
 // A list for each person with a long row: as many as memory allows.
-fn fill(alloc: Global, scaled: &Scaled, lists: &mut Vec<Option<Candidates>>)
+fn fill(alloc: Global, scaled: &Scaled, lists: &mut Vec<Option<BoxedCandidates>>)
     requires empty { lists.old.items ≡ [] }
     ensures count { vec_len lists.new ≤ length scaled.now.problem }
     ensures each { All (λ list. IfSome list FitAnyRow) lists.new.items }
@@ -154,12 +172,14 @@ impl CandidateLists {
         // For the proof only: the rows are those of a problem.
         let _n = scaled.n();
         let mut lists = Vec::new(alloc);
-        fill(alloc, scaled, &mut lists);
+        if has_long_row(scaled) {
+            fill(alloc, scaled, &mut lists);
+        }
         CandidateLists { lists }
     }
 
     /// Takes a person's candidates, if they are there.
-    pub fn take(&mut self, person: Person) -> Option<Candidates>
+    pub fn take(&mut self, person: Person) -> Option<BoxedCandidates>
         requires { 0 < person }
         ensures taken { (s : ScaledProblem) (prices : List ℤ) → HaveCandidates s prices self.old
             → IfSome result (AreCandidates (benefits_at s person) prices) }
@@ -174,7 +194,7 @@ impl CandidateLists {
     }
 
     /// Puts a person's candidates back.
-    pub fn put(&mut self, person: Person, list: Candidates)
+    pub fn put(&mut self, person: Person, list: BoxedCandidates)
         requires { 0 < person }
         ensures { (s : ScaledProblem) (prices : List ℤ) → HaveCandidates s prices self.old
             → AreCandidates (benefits_at s person) prices list → HaveCandidates s prices self.new }
