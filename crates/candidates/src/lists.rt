@@ -138,12 +138,16 @@ fn new_list(alloc: Global, scaled: &Scaled, person: Person) -> Option<BoxedCandi
     }
 }
 
-// A list for each person with a long row: as many as memory allows.
+// A list for each person with a long row: as many as memory allows. Where all rows are short, no
+// session shall touch lists.
 fn fill(alloc: Global, scaled: &Scaled, lists: &mut Vec<Option<BoxedCandidates>>)
     requires empty { lists.old.items ≡ [] }
     ensures count { vec_len lists.new ≤ length scaled.now.problem }
     ensures each { All (λ list. IfSome list FitAnyRow) lists.new.items }
 {
+    if !has_long_row(scaled) {
+        return;
+    }
     for made in 0..scaled.n() {
         if lists
             .push(new_list(alloc, scaled, Person(made + 1)))
@@ -172,9 +176,7 @@ impl CandidateLists {
         // For the proof only: the rows are those of a problem.
         let _n = scaled.n();
         let mut lists = Vec::new(alloc);
-        if has_long_row(scaled) {
-            fill(alloc, scaled, &mut lists);
-        }
+        fill(alloc, scaled, &mut lists);
         CandidateLists { lists }
     }
 
