@@ -26,13 +26,13 @@ use std::marker::Model;
 const TOP_VALUE: i64 = i64::MAX;
 
 /// A list that gave at most so many answers isn't made again at once.
-const FEW_ANSWERS: u8 = 1;
+const FEW_ANSWERS: u8 = 2;
 
 /// The longest pause of a list that answers nothing.
-const LONGEST_PAUSE: u8 = 7;
+const LONGEST_PAUSE: u8 = 15;
 
-/// A list of fewer candidates doesn't tell where its next reading shall start.
-const LEAST_TELLING: usize = 12;
+/// A reading starts from the old list if it has at least so many candidates.
+const ENOUGH_TO_START: usize = 12;
 
 /// A first reading starts from a part of the row: one in so many.
 const PART: usize = 8;
@@ -351,13 +351,13 @@ impl Candidates {
         self.take_in(object, benefit, narrow, reading);
     }
 
-    // A value that a new list may start above, if the old one is long enough to tell: prices rise,
-    // and most of its objects are still among the best. No proof needs it.
+    // A value that a new list may start above, if the old one is long enough: most of its objects are
+    // still among the best. No proof needs it.
     fn start(&self, narrow: &[i64]) -> Option<i64>
         requires row { IsBenefitRow (length narrow.now) self.now.objects }
         requires narrow { All IsNarrow narrow.now }
     {
-        if self.objects.len() < LEAST_TELLING {
+        if self.objects.len() < ENOUGH_TO_START {
             return None;
         }
         Some(third_least(self.objects.as_slice(), narrow))
