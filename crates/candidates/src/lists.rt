@@ -8,7 +8,6 @@ ghost use Rattle.bidder.specs.BestTwo.{IsBestTwo, best_two};
 ghost use Rattle.bidder.specs.Offers.{IsAsk, IsOffer, IsSoundOffer, benefits_at, offer_of};
 ghost use Rattle.candidates.specs.Candidates.{AreCandidates, FitAnyRow, HaveCandidates};
 
-use super::boxed::BoxedCandidates;
 use super::list::Candidates;
 use assign_core::{Person, Prices};
 use bidder::{Ask, BestTwo, Offer, best_of, make_bid, make_bid_of};
@@ -22,7 +21,7 @@ pub const SHORT_ROW: usize = 48;
 /// The candidates of persons 1, 2, .., while nobody has taken them.
 #[derive(Drop)]
 pub struct CandidateLists {
-    lists: Vec<Option<BoxedCandidates>>,
+    lists: Vec<Option<Candidates>>,
 }
 
 impl Model for CandidateLists {
@@ -87,7 +86,7 @@ fn best_with(
 /// The offer of a person under a table of prices, as `make_bid` gives it. The person's candidates
 /// spare a scan of its row where they show its best two, and are made again where they don't.
 pub fn make_bid_with(
-    list: &mut BoxedCandidates,
+    list: &mut Candidates,
     scaled: &Scaled,
     prices: &Prices,
     version: u128,
@@ -103,7 +102,7 @@ pub fn make_bid_with(
     ensures sound { IsSoundOffer scaled.now ask prices.now result }
     ensures candidates { AreCandidates (benefits_at scaled.now person) prices.now list.new }
 {
-    let found = best_with(&mut list.inner, scaled, prices, person);
+    let found = best_with(list, scaled, prices, person);
     make_bid_of(scaled, prices, version, ask, person, found)
 }
 
@@ -125,14 +124,14 @@ fn has_long_row(scaled: &Scaled) -> bool {
 }
 
 // New candidates for a person, or none if its row is short or memory is refused.
-fn new_list(alloc: Global, scaled: &Scaled, person: Person) -> Option<BoxedCandidates>
+fn new_list(alloc: Global, scaled: &Scaled, person: Person) -> Option<Candidates>
     requires { IsNumber (length scaled.now.problem) person }
     ensures { IfSome result FitAnyRow }
 {
     if !is_long(scaled, person) {
         return None;
     }
-    match BoxedCandidates::new(alloc) {
+    match Candidates::new(alloc) {
         Ok(list) => Some(list),
         Err(_) => None,
     }
@@ -140,7 +139,7 @@ fn new_list(alloc: Global, scaled: &Scaled, person: Person) -> Option<BoxedCandi
 
 // A list for each person with a long row: as many as memory allows. Where all rows are short, no
 // session shall touch lists.
-fn fill(alloc: Global, scaled: &Scaled, lists: &mut Vec<Option<BoxedCandidates>>)
+fn fill(alloc: Global, scaled: &Scaled, lists: &mut Vec<Option<Candidates>>)
     requires empty { lists.old.items ≡ [] }
     ensures count { vec_len lists.new ≤ length scaled.now.problem }
     ensures each { All (λ list. IfSome list FitAnyRow) lists.new.items }
@@ -181,7 +180,7 @@ impl CandidateLists {
     }
 
     /// Takes a person's candidates, if they are there.
-    pub fn take(&mut self, person: Person) -> Option<BoxedCandidates>
+    pub fn take(&mut self, person: Person) -> Option<Candidates>
         requires { 0 < person }
         ensures taken { (s : ScaledProblem) (prices : List ℤ) → HaveCandidates s prices self.old
             → IfSome result (AreCandidates (benefits_at s person) prices) }
@@ -196,7 +195,7 @@ impl CandidateLists {
     }
 
     /// Puts a person's candidates back.
-    pub fn put(&mut self, person: Person, list: BoxedCandidates)
+    pub fn put(&mut self, person: Person, list: Candidates)
         requires { 0 < person }
         ensures { (s : ScaledProblem) (prices : List ℤ) → HaveCandidates s prices self.old
             → AreCandidates (benefits_at s person) prices list → HaveCandidates s prices self.new }

@@ -10,7 +10,7 @@ ghost use Rattle.rounds.specs.inside.Places.{ArePlaced, AreFilled};
 
 use assign_core::{Person, Prices};
 use bidder::{Ask, BelowFloor, Offer, make_bid};
-use candidates::{BoxedCandidates, CandidateLists, make_bid_with};
+use candidates::{CandidateLists, Candidates, make_bid_with};
 use rayon::prelude::*;
 use scaled_values::Scaled;
 use std::alloc::{AllocError, Global};
@@ -33,7 +33,7 @@ const NOTHING: Offer = Offer::Below(BelowFloor {
 #[derive(Drop)]
 struct Place {
     offer: Offer,
-    list: Option<BoxedCandidates>,
+    list: Option<Candidates>,
 }
 
 // Makes a person's offer, with its candidates if they are there.

@@ -12,14 +12,14 @@ use super::{Desk, Held};
 use assign_core::{Person, Prices};
 use auction_book::Book;
 use bidder::{Ask, Offer, make_bid};
-use candidates::{BoxedCandidates, make_bid_with};
+use candidates::{Candidates, make_bid_with};
 use scaled_values::Scaled;
 
 /// A person with its candidates.
 #[derive(Drop)]
 pub struct Listed {
     pub person: Person,
-    pub list: BoxedCandidates,
+    pub list: Candidates,
 }
 
 // Puts candidates back into the book. They may be those at lower prices than the book's.

@@ -8,7 +8,7 @@ ghost use Rattle.auction_book.specs.Free.{IsFree};
 
 use super::Book;
 use assign_core::Person;
-use candidates::{BoxedCandidates, CandidateLists};
+use candidates::{CandidateLists, Candidates};
 use std::alloc::Global;
 
 impl Book {
@@ -22,7 +22,7 @@ impl Book {
     }
 
     /// Takes a person's candidates at the book's prices, if they are here.
-    pub fn take_list(&mut self, person: Person) -> Option<BoxedCandidates>
+    pub fn take_list(&mut self, person: Person) -> Option<Candidates>
         requires { 0 < person }
         ensures book { self.new ≡ self.old }
         ensures list { IfSome result (AreCandidates (benefits_at self.old.base person) (prices_of self.old)) }
@@ -32,7 +32,7 @@ impl Book {
     }
 
     /// Puts a person's candidates back, which may be those at lower prices: no price falls.
-    pub fn put_list(&mut self, person: Person, list: BoxedCandidates)
+    pub fn put_list(&mut self, person: Person, list: Candidates)
         requires person { 0 < person }
         requires list { (q : List ℤ) × IsBelow q (prices_of self.old)
             × AreCandidates (benefits_at self.old.base person) q list }
