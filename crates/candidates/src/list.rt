@@ -29,7 +29,13 @@ const TOP_VALUE: i64 = i64::MAX;
 const FEW_ANSWERS: u8 = 2;
 
 /// The longest pause of a list that answers nothing.
-const LONGEST_PAUSE: u8 = 255;
+const LONGEST_PAUSE: u8 = 15;
+
+/// A reading starts from the old list if it has at least so many candidates.
+const ENOUGH_TO_START: usize = 12;
+
+/// A first reading starts from a part of the row: one in so many.
+const PART: usize = 8;
 
 /// Some objects of a row with their benefits, and a bound on the row's other objects.
 #[derive(Drop)]
@@ -150,33 +156,63 @@ fn drop_at(
     mark.or_first(bound)
 }
 
-// The least value of some candidates.
-fn least_of(objects: &[(Object, Benefit)], narrow: &[i64]) -> i64
-    requires within { IsWithin (length narrow.now) objects.now }
-    requires benefits { All (λ e. IsBenefit e.1) objects.now }
-    requires narrow { All IsNarrow narrow.now }
+// An object's value at its narrow price.
+fn value_of(benefit: Benefit, narrow: i64) -> i64
+    requires benefit { IsBenefit benefit }
+    requires narrow { IsNarrow narrow }
 {
-    let mut least = i64::MAX;
-    for i in 0..objects.len() {
-        least = least.min(value_at(objects, i, narrow));
-    }
-    least
+    benefit - narrow
 }
 
-// Where to start a new bound: below the least value of a full list, since prices rise and the
-// list's objects are in the row.
-fn start_of(objects: &[(Object, Benefit)], narrow: &[i64]) -> Option<Mark>
+// Takes in a value if it is among the greatest three so far, which fall.
+fn keep_greatest(greatest: &mut [i64; 3], value: i64) {
+    let mut value = value;
+    for i in 0..3 {
+        if value > greatest[i] {
+            let lower = greatest[i];
+            greatest[i] = value;
+            value = lower;
+        }
+    }
+}
+
+// The third least value of some candidates. `!` turns the order of values round.
+fn third_least(objects: &[(Object, Benefit)], narrow: &[i64]) -> i64
     requires within { IsWithin (length narrow.now) objects.now }
     requires benefits { All (λ e. IsBenefit e.1) objects.now }
     requires narrow { All IsNarrow narrow.now }
 {
-    if objects.len() < MOST_CANDIDATES {
-        return None;
+    let mut greatest = [i64::MIN; 3];
+    for i in 0..objects.len() {
+        keep_greatest(&mut greatest, !value_at(objects, i, narrow));
     }
-    Some(Mark {
-        value: least_of(objects, narrow).saturating_sub(1),
-        object: Object(0),
-    })
+    !greatest[2]
+}
+
+// The third greatest value of the first objects of a row.
+fn third_in_part(row: &[(Object, Benefit)], narrow: &[i64]) -> i64
+    requires within { IsWithin (length narrow.now) row.now }
+    requires benefits { All (λ e. IsBenefit e.1) row.now }
+    requires narrow { All IsNarrow narrow.now }
+{
+    let mut greatest = [i64::MIN; 3];
+    for i in 0..row.len() / PART {
+        keep_greatest(&mut greatest, value_at(row, i, narrow));
+    }
+    greatest[2]
+}
+
+// The third greatest value of the first objects of a full row.
+fn third_in_full_part(benefits: &[Benefit], narrow: &[i64]) -> i64
+    requires long { length benefits.now ≡ length narrow.now }
+    requires benefits { All IsBenefit benefits.now }
+    requires narrow { All IsNarrow narrow.now }
+{
+    let mut greatest = [i64::MIN; 3];
+    for i in 0..benefits.len() / PART {
+        keep_greatest(&mut greatest, value_of(benefits[i], narrow[i]));
+    }
+    greatest[2]
 }
 
 // Whether an object's value isn't above the limit.
@@ -315,13 +351,26 @@ impl Candidates {
         self.take_in(object, benefit, narrow, reading);
     }
 
-    // Starts over, with no object read.
-    fn restart(&mut self, narrow: &[i64]) -> Reading
-        requires row { IsBenefitRow (length narrow.now) self.old.objects }
+    // A value that a new list may start above, if the old one is long enough: most of its objects are
+    // still among the best. No proof needs it.
+    fn start(&self, narrow: &[i64]) -> Option<i64>
+        requires row { IsBenefitRow (length narrow.now) self.now.objects }
         requires narrow { All IsNarrow narrow.now }
-        ensures { IsReading [] narrow.now self.new result.limit }
     {
-        self.bound = start_of(self.objects.as_slice(), narrow);
+        if self.objects.len() < ENOUGH_TO_START {
+            return None;
+        }
+        Some(third_least(self.objects.as_slice(), narrow))
+    }
+
+    // Starts over, with no object read. Values below this one are passed over.
+    fn restart(&mut self, start: i64) -> Reading
+        ensures { (narrow : List ℤ) → IsReading [] narrow self.new result.limit }
+    {
+        self.bound = Some(Mark {
+            value: start.saturating_sub(1),
+            object: Object(0),
+        });
         self.objects.clear();
         self.answers = 0;
         Reading {
@@ -337,7 +386,11 @@ impl Candidates {
         requires narrow { All IsNarrow narrow.now }
         ensures { AreCandidates row.now narrow.now self.new }
     {
-        let mut reading = self.restart(narrow);
+        let start = match self.start(narrow) {
+            Some(value) => value,
+            None => third_in_part(row, narrow),
+        };
+        let mut reading = self.restart(start);
         for i in 0..row.len() {
             let (object, benefit) = row[i];
             self.read(object, benefit, narrow, &mut reading);
@@ -415,7 +468,11 @@ impl Candidates {
         requires list { IsBenefitRow (length narrow.now) self.old.objects }
         ensures { AreCandidates (row_from 1 benefits.now) narrow.now self.new }
     {
-        let mut reading = self.restart(narrow);
+        let start = match self.start(narrow) {
+            Some(value) => value,
+            None => third_in_full_part(benefits, narrow),
+        };
+        let mut reading = self.restart(start);
         let mut at = 0;
         while benefits.len() - at >= LANES {
             self.read_block(benefits, narrow, at, &mut reading);

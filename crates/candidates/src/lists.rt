@@ -106,12 +106,29 @@ pub fn make_bid_with(
     make_bid_of(scaled, prices, version, ask, person, found)
 }
 
+// Whether the person's row is long enough for a list.
+fn is_long(scaled: &Scaled, person: Person) -> bool
+    requires { IsNumber (length scaled.now.problem) person }
+{
+    scaled.problem().row(person).len() > SHORT_ROW
+}
+
+// Whether any row is long enough for a list.
+fn has_long_row(scaled: &Scaled) -> bool {
+    for before in 0..scaled.n() {
+        if is_long(scaled, Person(before + 1)) {
+            return true;
+        }
+    }
+    false
+}
+
 // New candidates for a person, or none if its row is short or memory is refused.
 fn new_list(alloc: Global, scaled: &Scaled, person: Person) -> Option<Candidates>
     requires { IsNumber (length scaled.now.problem) person }
     ensures { IfSome result FitAnyRow }
 {
-    if scaled.problem().row(person).len() <= SHORT_ROW {
+    if !is_long(scaled, person) {
         return None;
     }
     match Candidates::new(alloc) {
@@ -120,12 +137,16 @@ fn new_list(alloc: Global, scaled: &Scaled, person: Person) -> Option<Candidates
     }
 }
 
-// A list for each person with a long row: as many as memory allows.
+// A list for each person with a long row: as many as memory allows. Where all rows are short, no
+// session shall touch lists.
 fn fill(alloc: Global, scaled: &Scaled, lists: &mut Vec<Option<Candidates>>)
     requires empty { lists.old.items ≡ [] }
     ensures count { vec_len lists.new ≤ length scaled.now.problem }
     ensures each { All (λ list. IfSome list FitAnyRow) lists.new.items }
 {
+    if !has_long_row(scaled) {
+        return;
+    }
     for made in 0..scaled.n() {
         if lists
             .push(new_list(alloc, scaled, Person(made + 1)))

@@ -9,3 +9,9 @@ returns c =
     let benefits = c.args.benefits.now in
     subst (λ l. AreCandidates (row_from 1 l) c.args.narrow.now c.read_each.new.self) (take_all (length benefits) benefits (omega arith))
     c.read_each.ensures.candidates
+
+pub loop-at-init : goal.loop-at-init
+loop-at-init c = record {
+  within = omega arith;
+  reading = c.restart-reading.ensures c.args.narrow.now;
+}

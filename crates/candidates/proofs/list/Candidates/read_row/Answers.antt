@@ -36,3 +36,6 @@ pub returns : goal.returns
 returns c =
     let row = c.args.row.now in
     subst (λ l. AreCandidates l c.args.narrow.now c.loop-i.self) (take_all c.loop-i.i row c.loop-i-test.false) c.loop-i.invariant.candidates
+
+pub loop-i-init : goal.loop-i-init
+loop-i-init c = c.restart-reading.ensures c.args.narrow.now
