@@ -56,12 +56,12 @@ def _address_and_count(values: Any) -> Tuple[int, int]:
     return values.buffer_info() if isinstance(values, array) else (values.ctypes.data, values.size)
 
 
-def start(sense: bool, n: int, m: int, costs: Any, longest: int = library.LONGEST) -> Tuple[Any, Any]:
+def start(sense: bool, n: int, m: int, costs: Any, longest: Optional[int] = None) -> Tuple[Any, Any]:
     """Objects and prices to begin from: those of the rounded costs where the search may take long, since it is done in
     pieces, and else nobody's."""
     objects, prices = array("I", bytes(4 * n)), array("d", bytes(8 * m))
     numpy = loaded_numpy()
-    if numpy is None or n * n * m < longest:
+    if numpy is None or n * n * m < (library.LONGEST if longest is None else longest):
         return objects, prices
     held = numpy.frombuffer(costs)
     shift = BITS - math.frexp(size_of(held))[1]
