@@ -29,43 +29,56 @@ fn stays(state: &State, bound: i128, pair: Pair) -> bool {
     left_of(state, bound, pair) < bound.wrapping_mul(2)
 }
 
-// Adds those pairs of a person that stay.
+// The prices less what counts up to the bound.
+fn prices_left(alloc: Global, state: &State) -> Result<Vec<i128>, AllocError> {
+    let bound = state.bound();
+    let mut left = Vec::new(alloc);
+    for price in state.prices.as_slice() {
+        left.push((*price).wrapping_sub((*price).min(bound)))?;
+    }
+    Ok(left)
+}
+
+// Adds those pairs of a person that stay: the sums of cost and price are below this limit.
 fn push_row(
     kept: &mut Vec<Pair>,
     unit: Unit,
-    state: &State,
     person: u32,
     costs: &[Wide],
+    prices: &[i128],
+    limit: i128,
 ) -> Result<(), AllocError> {
-    let bound = state.bound();
     let mut object = 0u32;
-    for cost in costs {
+    for (cost, price) in costs.iter().zip(prices) {
         object = object.wrapping_add(1);
         let cost = unit.cost(*cost);
-        let pair = Pair {
-            person,
-            object,
-            cost,
-        };
-        if stays(state, bound, pair) {
-            kept.push(pair)?;
+        if cost.wrapping_add(*price) < limit {
+            kept.push(Pair {
+                person,
+                object,
+                cost,
+            })?;
         }
     }
     Ok(())
 }
 
 fn push_dense(
+    alloc: Global,
     kept: &mut Vec<Pair>,
     unit: Unit,
     state: &State,
     costs: &[Wide],
 ) -> Result<(), AllocError> {
+    let prices = prices_left(alloc, state)?;
+    let most = state.bound().wrapping_mul(2);
     let mut rest = costs;
     let mut person = 0u32;
-    for _row in state.rows.as_slice() {
+    for number in state.rows.as_slice() {
         person = person.wrapping_add(1);
-        let (row, others) = rest.split_at(state.prices.len().min(rest.len()));
-        push_row(kept, unit, state, person, row)?;
+        let (row, others) = rest.split_at(prices.len().min(rest.len()));
+        let limit = (*number).wrapping_add(most);
+        push_row(kept, unit, person, row, prices.as_slice(), limit)?;
         rest = others;
     }
     Ok(())
@@ -100,7 +113,7 @@ pub fn pairs_left(
 ) -> Result<Vec<Pair>, AllocError> {
     let mut kept = Vec::new(alloc);
     match source {
-        WideSource::Dense(costs) => push_dense(&mut kept, unit, state, costs)?,
+        WideSource::Dense(costs) => push_dense(alloc, &mut kept, unit, state, costs)?,
         WideSource::Listed(pairs) => push_listed(&mut kept, unit, state, pairs)?,
     }
     Ok(kept)
