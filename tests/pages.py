@@ -34,7 +34,7 @@ RELEASED = re.compile(r"\./try\b|\brelease/|\bplanner\b|\blocal/")
 # The most words of each page; the list of changes may have any number.
 MOST_OF_PAGE = {"README.md": 1400, "SECURITY.md": 240, "bench/README.md": 880, "docs/ARCHITECTURE.md": 1180,
                 "docs/BEYOND.md": 570, "docs/CALLING.md": 600, "docs/CONTRIBUTING.md": 885,
-                "docs/DECISIONS.md": 1185, "docs/FORMATS.md": 1270, "docs/MODELLING.md": 880,
+                "docs/DECISIONS.md": 1200, "docs/FORMATS.md": 1270, "docs/MODELLING.md": 880,
                 "docs/PROGRAM.md": 1080, "docs/PROOFS.md": 1245, "docs/PROVED.md": 3525, "docs/PYTHON.md": 1435,
                 "docs/ROSTERS.md": 1740, "docs/RULES.md": 1390, "docs/TESTING.md": 590, "examples/README.md": 160}
 # The most words of all these pages together.
