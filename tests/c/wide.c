@@ -189,6 +189,7 @@ static void verdicts(void) {
     a = solved, a.prices[0] = number_of(1);
     WANT(check_wide(&a) == NUSHBARET_OVERPRICED && a.info.object == 1);
     a = solved, a.objects[0] = 1, a.objects[1] = 2;
+    memset(a.prices, 0, sizeof a.prices);
     WANT(check_wide(&a) == NUSHBARET_SLACK && a.info.person == 1 && a.info.object == 2);
 }
 
