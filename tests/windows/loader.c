@@ -158,6 +158,9 @@ CALL(int32_t, next, (uint32_t s, size_t n, size_t m, PAIRS, COSTS, PLAN, uint64_
 CALL(int32_t, ranked, (uint32_t s, size_t n, size_t m, PAIRS, COSTS, PLAN, uint64_t arc_scans, uint32_t *plans, size_t count,
     int64_t *totals, size_t tc, size_t *found, INFO),
     (s, n, m, a, ac, b, bc, c, cc, o, oc, q, qc, arc_scans, plans, count, totals, tc, found, info))
+CALL(int32_t, wide, (uint32_t s, size_t n, size_t m, PAIRS, const struct nushbaret_wide_number *c, size_t cc, uint32_t *o, size_t oc,
+    uint32_t *p, size_t pc, struct nushbaret_wide_number *q, size_t qc, struct nushbaret_wide_number *total, INFO),
+    (s, n, m, a, ac, b, bc, c, cc, o, oc, p, pc, q, qc, total, info))
 CALL(int32_t, rows, (size_t n, const size_t *s, size_t sc, const uint32_t *v, size_t vc, COSTS, const int64_t *l, size_t lc,
     const int64_t *u, size_t uc, const uint8_t *p, size_t pc, const int64_t *t, size_t tc, struct nushbaret_rows_info *info),
     (n, s, sc, v, vc, c, cc, l, lc, u, uc, p, pc, t, tc, info))
@@ -177,6 +180,6 @@ __attribute__((constructor)) static void start(void) {
     relocate();
     protect();
     FOUND(dense), FOUND(dense_from), FOUND(sparse), FOUND(sparse_from);
-    FOUND(check), FOUND(check_hall), FOUND(bottleneck), FOUND(unique), FOUND(next), FOUND(ranked), FOUND(rows), FOUND(counts_from);
+    FOUND(check), FOUND(check_hall), FOUND(bottleneck), FOUND(unique), FOUND(next), FOUND(ranked), FOUND(wide), FOUND(rows), FOUND(counts_from);
     FOUND(version);
 }

@@ -177,8 +177,13 @@ def searched(sense: bool, n: int, m: int, lists: Sequence[Any], first: Optional[
 def _begun(first: Numbers, objects: Numbers) -> Numbers:
     """First prices with which a search begins at the objects too, where most are given: it takes prices of 0 for none.
     Only how far prices are apart counts."""
-    is_begun = first.count(0) < len(first) or len(objects) < _MOST_MISSING * objects.count(0)
+    is_begun = _zeros(first) < len(first) or len(objects) < _MOST_MISSING * _zeros(objects)
     return first if is_begun else array("q", [1]) * len(first)
+
+
+def _zeros(numbers: Any) -> int:
+    """How many numbers of an array, of Python's or NumPy's, are 0."""
+    return numbers.count(0) if isinstance(numbers, array) else int((numbers == 0).sum())
 
 
 def worst_pair(sense: bool, n: int, m: int, lists: Sequence[Any], written: Sequence[Numbers]) -> Tuple[str, Info]:
