@@ -4,7 +4,7 @@ the library; others take levels.
 A level's costs are rounded to whole multiples of a unit. The plan that the library finds for these, and its prices, are
 near the best ones: what a pair costs at these prices, above its person's own pair, says by how much a plan with it may
 be cheaper. That is more than -2 units, as each cost is less than a unit off. So in a best plan no pair is dearer than 2
-n units, and no object that nobody has has a greater price. The next level has only the pairs below 4 n + 4 units, at
+n units, and no object that nobody has has a greater price. The next level has only the pairs below 6 n + 6 units, at
 what they cost above the own ones, and has a smaller unit. It ends where nothing was rounded.
 
 Its prices are added to those of the level before. For pairs that went out they must not be far apart: so one person
@@ -160,18 +160,21 @@ def _settled(level: Level) -> wide.WidePlan:
 
 def _next(level: Level, bound: int, taken: Sequence[int]) -> Level:
     """The next level: what the pairs that may be in a best plan cost above the own ones, less a part of the price of
-    what they use, and those of the person and of the object that keep prices near to each other."""
-    n, m, prices = level.n + 1, level.m + 1, level.plan.prices
+    what they use. One person and one object more keep prices near to each other, and are left out afterwards. So a pair
+    that costs three bounds more stays dearer at all later prices."""
+    n, m, prices = level.n, level.m, level.plan.prices
     paid = [cost + prices[item - 1] for cost, item in zip(level.costs, level.objects)]
     own = _own(level.plan.objects, level.persons, level.objects, paid)
     left = [(person, item, pays - own[person - 1] - taken[item - 1])
-            for person, item, pays in zip(level.persons, level.objects, paid) if pays - own[person - 1] < 2 * bound]
-    left += [(n, item, bound - less) for item, less in enumerate(taken, 1)] + [(n, m, -bound)]
-    left += [(person, m, 0) for person in range(1, n)]
+            for person, item, pays in zip(level.persons, level.objects, paid) if pays - own[person - 1] < 3 * bound]
+    few = len(left)
+    left += [(n + 1, item, bound - less) for item, less in enumerate(taken, 1)] + [(n + 1, m + 1, -bound)]
+    left += [(person, m + 1, 0) for person in range(1, n + 1)]
     persons, objects, costs = ([each[side] for each in left] for side in range(3))
     numbers, unit, is_exact = wide.scaled(costs)
-    found = wide.solved(False, proved.Instance(n, m, array("I", persons), array("I", objects), wide.words_of(numbers)))
+    found = wide.solved(False, proved.Instance(n + 1, m + 1, array("I", persons), array("I", objects),
+                                               wide.words_of(numbers)))
     if isinstance(found, proved.HallSet):
         raise RuntimeError("some pairs were found to hold a plan, and the library says otherwise")
-    plan = wide.WidePlan(found.objects, [price * unit for price in found.prices])
-    return Level(n, m, persons, objects, costs, plan, 0 if is_exact else unit)
+    plan = wide.WidePlan(found.objects[:n], [price * unit for price in found.prices[:m]])
+    return Level(n, m, persons[:few], objects[:few], costs[:few], plan, 0 if is_exact else unit)
