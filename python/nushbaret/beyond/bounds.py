@@ -6,12 +6,11 @@ from typing import Any, Optional, Tuple, Union
 import numpy
 
 from ..costs.limits import GREATEST_COST
+from ..lap.doubles import BITS
 from .blocks import two_sum
 from .core import Duals, Form
 
 Number = Union[int, float]
-# Rounded costs have so many bits.
-BITS = 39
 
 
 class Units:

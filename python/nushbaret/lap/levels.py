@@ -4,7 +4,7 @@ the library; others take levels.
 A level's costs are rounded to whole multiples of a unit. The plan that the library finds for these, and its prices, are
 near the best ones: what a pair costs at these prices, above its person's own pair, says by how much a plan with it may
 be cheaper. That is more than -2 units, as each cost is less than a unit off. So in a best plan no pair is dearer than 2
-n units, and no object that nobody has has a greater price. The next level has only the pairs below 6 n + 6 units, at
+n units, and no object that nobody has costs more. The next level has only the pairs below 6 n + 6 units, at
 what they cost above the own ones, and has a smaller unit. It ends where nothing was rounded.
 
 Its prices are added to those of the level before. For pairs that went out they must not be far apart: so one person
@@ -23,6 +23,7 @@ from ..costs.kinds import WholeNumbers
 from ..costs.numbers import Ratio, in_unit, unit_of
 from ..costs.problem import AssignmentProblem
 from . import proved, units, wide
+
 
 class Level(NamedTuple):
     """Exact costs of pairs, to be minimised; a plan and prices that are best for rounded ones, and how much each cost
@@ -149,13 +150,13 @@ def _ratios_at(problem: AssignmentProblem, places: Sequence[int]) -> List[Ratio]
 
 def _settled(level: Level) -> wide.WidePlan:
     """A best plan of the exact costs, and its prices."""
-    n, prices = level.n, [0] * level.m
+    prices = [0] * level.m
     while level.unit:
         bound = (2 * level.n + 2) * level.unit
         taken = [min(price, bound) for price in level.plan.prices]
         prices = [before + price - less for before, price, less in zip(prices, level.plan.prices, taken)]
         level = _next(level, bound, taken)
-    return wide.WidePlan(level.plan.objects[:n], [before + price for before, price in zip(prices, level.plan.prices)])
+    return wide.WidePlan(level.plan.objects, [before + price for before, price in zip(prices, level.plan.prices)])
 
 
 def _next(level: Level, bound: int, taken: Sequence[int]) -> Level:

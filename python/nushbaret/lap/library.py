@@ -170,7 +170,7 @@ def searched(sense: bool, n: int, m: int, lists: Sequence[Any], first: Optional[
         code, info = call(name + "_from", sense, n, m, *lists, start, *written,
                           piece=(pace.budget(), ctypes.addressof(record)))
         if progress is not None and code in ("BEST", "STOPPED"):
-            progress(n - written[0].count(0), n)
+            progress(n - _zeros(written[0]), n)
     return code, info
 
 

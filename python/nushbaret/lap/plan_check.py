@@ -205,7 +205,7 @@ def _bests_of_doubles(problem: AssignmentProblem, ratios: List[Any], prices: Lis
     """As `_bests`, for a whole matrix of doubles: only those near the least are looked at exactly."""
     held, sign = problem.costs, -1 if problem.maximize else 1
     near = _near_least(held.numpy, held.numbers.reshape(problem.n_rows, problem.n_columns), sign,
-                             list(map(_as_float, prices)))
+                       list(map(_as_float, prices)))
     costs = {place: held.ratio(held.numbers[place].item()) for places in near for place in places}
     unit = unit_of(of_prices | set((1, denominator) for _, denominator in [*ratios, *costs.values()]), True)
     scaled = [int(price * unit.denominator) for price in prices]
