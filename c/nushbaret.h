@@ -84,7 +84,7 @@
    Each answer of a search is checked before a call returns it. Over whole numbers a slow search that is proved answers
    where nothing passes, which was seen only from records that no call wrote. So without a budget these calls return
    NUSHBARET_BEST, NUSHBARET_HALL or a fault, whatever their lists contain. Over doubles they may also return
-   NUSHBARET_UNDECIDED.
+   NUSHBARET_UNDECIDED, and nushbaret_exact_doubles decides.
 
    A WORKED EXAMPLE
 
@@ -108,7 +108,7 @@
 extern "C" {
 #endif
 
-#define NUSHBARET_VERSION "5.8.0"
+#define NUSHBARET_VERSION "5.9.0"
 
 /* The sense: the least sum of costs, or the greatest. */
 #define NUSHBARET_MIN 0u
@@ -149,7 +149,8 @@ enum nushbaret_code {
 
     NUSHBARET_STOPPED = 21,      /* the budget is spent: the same call goes on */
 
-    NUSHBARET_UNDECIDED = 23,    /* the question stays open; over doubles where plans differ by less than rounding */
+    NUSHBARET_UNDECIDED = 23,    /* the question stays open; over doubles where plans differ by less than rounding, which
+                                    nushbaret_exact_doubles decides */
     NUSHBARET_TIED = 24,         /* from nushbaret_unique: another plan is as good */
     NUSHBARET_ALONE = 25         /* from nushbaret_next and nushbaret_ranked: there is no other plan */
 };
@@ -449,7 +450,7 @@ int32_t nushbaret_check_wide(uint32_t sense, size_t n, size_t m,
    NUSHBARET_BEST: no plan has a lesser sum (under NUSHBARET_MAX a greater one) in exact arithmetic, without any rounding.
    At the prices, which are finite, each person's own object is a best one, and no price is below that of an object that
    nobody has. NUSHBARET_HALL: there is no plan. NUSHBARET_UNDECIDED says neither: plans that differ by less than the
-   rounding of their costs are mostly why, or costs of very different sizes.
+   rounding of their costs are mostly why, or costs of very different sizes. nushbaret_exact_doubles decides it.
 
    What a call over doubles reports in addition to its lists. */
 struct nushbaret_doubles_info {
@@ -491,6 +492,39 @@ int32_t nushbaret_check_doubles(uint32_t sense, size_t n, size_t m,
     const uint32_t *objects, size_t objects_count,
     const double *prices, size_t prices_count,
     struct nushbaret_doubles_info *info);
+
+/* Solves a dense problem over doubles as one of 128 bits, so rounding leaves nothing open. All finite costs are whole multiples
+   of a unit 2^u: u is the greatest number of this kind, or 0 if each of them is 0. A number of units is high * 2^64 + low. What
+   isn't said here is as in nushbaret_doubles, and `info` is that of whole numbers.
+
+   code                  written
+   NUSHBARET_BEST        objects; prices, from 0 to 2^124 units, that prove them optimal; *total, in units; *unit, which is u
+   NUSHBARET_HALL        info->persons and info->objects say how many numbers stand at the beginning of persons and of
+                         objects, rising; *unit
+   NUSHBARET_UNDECIDED   *unit: the search found nothing that the checker takes (never seen)
+   NUSHBARET_COST        info->place: the first double that is no cost; if there is none, the first above 2^100 units
+   NUSHBARET_SENSE, NUSHBARET_SIZE, NUSHBARET_LENGTH, NUSHBARET_MEMORY                  nothing
+
+   NUSHBARET_BEST and NUSHBARET_HALL mean what they mean there: in exact arithmetic no plan has a lesser sum (under
+   NUSHBARET_MAX a greater one), or there is no plan. A cost above 2^100 units is above 2^100 of any other unit. There is none
+   where each cost but 0 is at least 2^-47 of the greatest. */
+int32_t nushbaret_exact_doubles(uint32_t sense, size_t n, size_t m,
+    const double *costs, size_t costs_count,
+    uint32_t *objects, size_t objects_count,
+    uint32_t *persons, size_t persons_count,
+    struct nushbaret_wide_number *prices, size_t prices_count,
+    struct nushbaret_wide_number *total,
+    int32_t *unit,
+    struct nushbaret_info *info);
+
+/* Checks a plan of any origin, with prices in this unit, against a dense problem over doubles: as nushbaret_check_wide.
+   Unless there is a fault, it writes *unit. NUSHBARET_BEST: the plan is optimal in exact arithmetic. */
+int32_t nushbaret_check_exact_doubles(uint32_t sense, size_t n, size_t m,
+    const double *costs, size_t costs_count,
+    const uint32_t *objects, size_t objects_count,
+    const struct nushbaret_wide_number *prices, size_t prices_count,
+    int32_t *unit,
+    struct nushbaret_info *info);
 
 /* Looks at a block of a greater problem over doubles, in exact arithmetic: n of its persons, with the costs of all m objects
    row by row. It is as nushbaret_block, except for what follows. The number of a person is the exact sum of a cost (under

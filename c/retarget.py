@@ -24,12 +24,13 @@ class Platform(NamedTuple):
     bits: int
 
 
-# The layouts are those that the kit's clang gives. With unwind tables, `uwtable`, debuggers on Windows see who called.
+# The layouts are those that the kit's clang gives. With unwind tables, `uwtable`, debuggers on Windows see who called. The heap is
+# malloc, realloc and free alone, so none becomes calloc.
 PLATFORMS = {
     "wasm32": Platform("wasm32-unknown-unknown", "e-m:e-p:32:32-p10:8:8-p20:8:8-i64:64-i128:128-n32:64-S128-ni:1:10:20",
                        f'"target-cpu"="lime1" "target-features"="{FEATURES}"', 32),
     "windows": Platform("x86_64-w64-windows-gnu", "e-m:w-p270:32:32-p271:32:32-p272:64:64-i64:64-i128:128-f80:128-n8:16:32:64-S128",
-                        'uwtable "target-cpu"="x86-64-v2"', 64),
+                        'uwtable "no-builtin-calloc" "target-cpu"="x86-64-v2"', 64),
 }
 OF_X86 = '"probe-stack"="inline-asm" "stack-probe-size"="3072" "target-cpu"="x86-64-v2"'
 HEAP = {"rattle_alloc", "rattle_realloc", "rattle_dealloc"}

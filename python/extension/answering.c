@@ -32,7 +32,7 @@ void pair_up(const Matrix *matrix, const Room *room) {
 }
 
 /* Numbers as a list. */
-static PyObject *as_list(const int64_t *numbers, Py_ssize_t count) {
+PyObject *as_list(const int64_t *numbers, Py_ssize_t count) {
     PyObject *list = PyList_New(count);
     for (Py_ssize_t k = 0; list && k < count; k++) {
         PyObject *number = PyLong_FromLongLong(numbers[k]);
@@ -51,7 +51,8 @@ static PyObject *as_array(const State *state, const int64_t *numbers, Py_ssize_t
     return array;
 }
 
-static PyObject *as_given(const State *state, const Matrix *matrix, const int64_t *numbers) {
+/* The numbers of a plan's rows or columns in the form that the costs have. */
+PyObject *as_given(const State *state, const Matrix *matrix, const int64_t *numbers) {
     return matrix->gives_arrays ? as_array(state, numbers, matrix->n) : as_list(numbers, matrix->n);
 }
 
@@ -138,11 +139,12 @@ static PyObject *found_of(const State *state, const Matrix *matrix, const Room *
     return pair_of(pairs, rest);
 }
 
-/* The plan of whole costs. */
+/* The plan of whole costs, or the first ones. */
 static PyObject *found_whole(const State *state, const Matrix *matrix, int maximize, const int64_t *whole, const Room *room, int places) {
     struct info info;
-    const int32_t code = solve_whole(state, matrix, maximize, whole, room, &info);
-    return code == BEST ? found_of(state, matrix, room, NULL, whole, places, &info) : NULL;
+    if (solve_whole(state, matrix, maximize, whole, room, &info) != BEST) return NULL;
+    return matrix->plans ? first_plans(state, matrix, maximize, whole, room, places)
+        : found_of(state, matrix, room, NULL, whole, places, &info);
 }
 
 /* The plan of floats that are the decimals that they print as. Whole numbers are these decimals; a plan for others has to be best by a
@@ -152,7 +154,7 @@ static PyObject *found_in(State *state, const Matrix *matrix, int maximize, cons
     const int places = places_of(costs, count, whole);
     uint32_t by_margin = 0;
     if (places >= 0 && !forbids(costs, count)) return found_whole(state, matrix, maximize, whole, room, places);
-    if (solve(state, matrix, maximize, costs, room, &by_margin) != BEST || !(by_margin || places == 0)) return NULL;
+    if (matrix->plans || solve(state, matrix, maximize, costs, room, &by_margin) != BEST || !(by_margin || places == 0)) return NULL;
     return found_of(state, matrix, room, costs, whole, places, NULL);
 }
 
@@ -166,21 +168,27 @@ static PyObject *found_of_matrix(State *state, const Matrix *matrix, int maximiz
     return costs ? found_in(state, matrix, maximize, costs, room, whole) : NULL;
 }
 
-/* found(costs, maximize): what a result is made of; None where the longer way is to be taken. */
+/* found(costs, maximize, end, plans, arc_scans): what a result is made of, or that many first plans if some are asked for; None where the
+   longer way is to be taken. */
 PyObject *found(PyObject *module, PyObject *arguments) {
     State *state = PyModule_GetState(module);
     PyObject *costs, *answer = NULL;
     double spare[SPARE];
     int maximize;
     double end = INFINITY;
+    Py_ssize_t plans = 0;
+    unsigned long long arc_scans = 0;
     Matrix matrix;
     Room room;
-    if (!PyArg_ParseTuple(arguments, "Op|d", &costs, &maximize, &end)) return NULL;
+    if (!PyArg_ParseTuple(arguments, "Op|dnK", &costs, &maximize, &end, &plans, &arc_scans)) return NULL;
     if (!is_ready(state) || !look_at(state, costs, &matrix, 0)) Py_RETURN_NONE;
     matrix.as_printed = 1;
     matrix.end = end;
+    matrix.plans = plans;
+    matrix.arc_scans = arc_scans;
     matrix.forbids = maximize ? -INFINITY : INFINITY;
-    const int is_left = most_arc_scans(&matrix) >= LONG || matrix.kind == HALVES || (matrix.kind == FLOATS && matrix.swapped);
+    const int is_left = most_arc_scans(&matrix) >= LONG || matrix.kind == HALVES || (matrix.kind == FLOATS && matrix.swapped)
+        || (plans && matrix.turned);
     int64_t *whole = is_left ? NULL : PyMem_Malloc((size_t)matrix.n * (size_t)matrix.m * sizeof *whole);
     if (whole && take(&room, &matrix, !is_plain(&matrix) && !has_whole_kind(&matrix), spare)) {
         answer = found_of_matrix(state, &matrix, maximize, &room, whole);

@@ -2,8 +2,8 @@
    file gives the others.
 
    The extension is the short way from Python to the library, for CPython from 3.9 on by the limited API (abi3): linear_sum_assignment, a
-   batch of such problems, and the search of `solve`. What it doesn't know, what the library refuses, and each fault go to the package's
-   calls in Python: these answer, or raise. So nothing here raises but what Python itself raises where it has no memory, and Ctrl-C.
+   batch of such problems, and the searches of `solve` and `k_best`. What it doesn't know, what the library refuses, and each fault go to the
+   package's calls in Python: these answer, or raise. So nothing here raises but what Python itself raises where it has no memory, and Ctrl-C.
 
    It links with nothing: the package has loaded the library, and gives it the addresses of its exports. */
 #ifndef NUSHBARET_EXTENSION_H
@@ -19,7 +19,7 @@
 #endif
 
 /* What the library has, as c/nushbaret.h says. */
-enum { BEST = 0, STOPPED = 21, UNDECIDED = 23 };
+enum { BEST = 0, STOPPED = 21, UNDECIDED = 23, ALONE = 25 };
 #define MOST_SIDE 4194304
 #define GREATEST_COST 1000000000000
 /* No code of the library's: another way is to be taken, or there is an exception. */
@@ -48,6 +48,8 @@ typedef int32_t sparse_from_call(uint32_t, size_t, size_t, const uint32_t *, siz
     const int64_t *, size_t, uint32_t *, size_t, uint32_t *, size_t, int64_t *, size_t, uint64_t, struct record *, struct info *);
 typedef int32_t check_call(uint32_t, size_t, size_t, const uint32_t *, size_t, const uint32_t *, size_t, const int64_t *, size_t,
     const uint32_t *, size_t, const int64_t *, size_t, struct info *);
+typedef int32_t ranked_call(uint32_t, size_t, size_t, const uint32_t *, size_t, const uint32_t *, size_t, const int64_t *, size_t,
+    const uint32_t *, size_t, const int64_t *, size_t, uint64_t, uint32_t *, size_t, int64_t *, size_t, size_t *, struct info *);
 typedef int32_t check_doubles_call(uint32_t, size_t, size_t, const double *, size_t, const uint32_t *, size_t, const double *, size_t,
     struct doubles_info *);
 
@@ -62,6 +64,7 @@ typedef struct {
     sparse_from_call *sparse_from;
     check_doubles_call *check_doubles;
     check_call *check;
+    ranked_call *ranked;
     PyTypeObject *array, *float64;
     new_array *make;
     PyObject *manager, *blocks, *values, *places, *as_array; /* names of what a frame of pandas has */
@@ -75,6 +78,8 @@ typedef struct {
     PyObject *rows, *blocks, *owner; /* a list; a tuple, of which this has a reference; what keeps `data`, likewise */
     double forbids;                  /* what None stands for */
     double end;                      /* when the call has to end, by the clock; infinite where it hasn't */
+    Py_ssize_t plans;                /* how many of the first plans `found` is asked for; 0 for a best one alone */
+    uint64_t arc_scans;              /* and with how many arc scans */
     int kind, swapped, turned, as_printed, gives_arrays;
 } Matrix;
 
@@ -168,11 +173,16 @@ int32_t solve_rounded(const State *state, const Matrix *matrix, int maximize, co
 /* answering.c */
 void pair_up(const Matrix *matrix, const Room *room);
 PyObject *pair_of(PyObject *first, PyObject *second);
+PyObject *as_list(const int64_t *numbers, Py_ssize_t count);
+PyObject *as_given(const State *state, const Matrix *matrix, const int64_t *numbers);
 PyObject *given_both(const State *state, const Matrix *matrix, const Room *room);
 PyObject *rows_and_columns(const State *state, const Matrix *matrix, const Room *room);
 int places_of(const double *costs, size_t count, int64_t *whole);
 PyObject *found(PyObject *module, PyObject *arguments);
 PyObject *batch(PyObject *module, PyObject *arguments);
+
+/* ranked.c */
+PyObject *first_plans(const State *state, const Matrix *matrix, int maximize, const int64_t *costs, const Room *room, int places);
 
 /* listed.c */
 PyObject *listed(PyObject *module, PyObject *arguments);

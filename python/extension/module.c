@@ -149,12 +149,13 @@ static PyObject *linear_sum_assignment(PyObject *module, PyObject *const *argume
 
 /* ---- What the package gives ---- */
 
-/* attach(addresses): those of nushbaret_doubles, nushbaret_check_doubles, nushbaret_dense_from, nushbaret_sparse_from and
-   nushbaret_check. */
+/* attach(addresses): those of nushbaret_doubles, nushbaret_check_doubles, nushbaret_dense_from, nushbaret_sparse_from, nushbaret_check and
+   nushbaret_ranked. */
 static PyObject *attach(PyObject *module, PyObject *arguments) {
     State *state = PyModule_GetState(module);
-    unsigned long long doubles, check_doubles, dense, sparse, check;
-    if (!PyArg_ParseTuple(arguments, "KKKKK", &doubles, &check_doubles, &dense, &sparse, &check)) return NULL;
+    unsigned long long doubles, check_doubles, dense, sparse, check, ranked;
+    if (!PyArg_ParseTuple(arguments, "KKKKKK", &doubles, &check_doubles, &dense, &sparse, &check, &ranked)) return NULL;
+    state->ranked = (ranked_call *)(uintptr_t)ranked;
     state->check = (check_call *)(uintptr_t)check;
     state->sparse_from = (sparse_from_call *)(uintptr_t)sparse;
     state->dense_from = (dense_from_call *)(uintptr_t)dense;

@@ -210,20 +210,9 @@ static void faults(void) {
 
 static void refused(int is_sparse, int has_plan) {
     struct asked a = worked(NUSHBARET_MIN);
-    long k;
     a.is_sparse = is_sparse;
     if (!has_plan) a.is_sparse = 1, a.of_objects[1] = a.of_objects[3] = 1;
-    for (k = 1;; k++) {
-        struct asked now = a;
-        int32_t code;
-        growths = 0, refuse_at = k;
-        code = ask(&now);
-        refuse_at = 0;
-        WANT(code == (has_plan ? NUSHBARET_BEST : NUSHBARET_HALL)
-            || (code == NUSHBARET_MEMORY && memcmp(&now, &a, sizeof a) == 0));
-        if (growths < k) break;
-    }
-    WANT(k > 5);
+    WANT_REFUSALS(struct asked, ask, a, has_plan ? NUSHBARET_BEST : NUSHBARET_HALL, 5);
 }
 
 /* Whether costs i * j are right, of which half of the persons are short of objects; how many calls it takes. */

@@ -166,6 +166,7 @@ int main(void) {
     test_plans();
     test_bottleneck();
     test_wide();
+    test_exact();
     test_drawn();
     test_memory();
     test_large();

@@ -17,6 +17,25 @@ extern int failed;
 /* Growths of this thread, the one to refuse (from 1; 0: none), and blocks that aren't given back. */
 extern __thread long growths, refuse_at, blocks;
 
+/* Refuses the first growth of a call that reads and writes a struct of this type, then the second, and so on, up to one that it
+   doesn't ask for: it returns what is wanted, or says that memory was refused and leaves the struct as it was. More than
+   `fewest` calls have to be made. */
+#define WANT_REFUSALS(type, call, given, wanted, fewest) \
+    do { \
+        const type before = (given); \
+        long k; \
+        for (k = 1;; k++) { \
+            type now = before; \
+            int32_t code; \
+            growths = 0, refuse_at = k; \
+            code = call(&now); \
+            refuse_at = 0; \
+            WANT(code == (wanted) || (code == NUSHBARET_MEMORY && memcmp(&now, &before, sizeof now) == 0)); \
+            if (growths < k) break; \
+        } \
+        WANT(k > (fewest)); \
+    } while (0)
+
 enum { MOST = 64, PAIRS = 256 };
 
 /* What a call reads and writes. `is_by_struct` sends it through the functions of the header that take structs, and
@@ -71,6 +90,7 @@ void test_double_blocks(void);
 void test_plans(void);
 void test_bottleneck(void);
 void test_wide(void);
+void test_exact(void);
 void test_drawn(void);
 void test_memory(void);
 void test_large(void);

@@ -89,18 +89,8 @@ static void faults(void) {
 
 static void refused(void) {
     struct block b = worked();
-    long k;
     b.number_costs[0] = 11;
-    for (k = 1;; k++) {
-        struct block now = b;
-        int32_t code;
-        growths = 0, refuse_at = k;
-        code = look(&now);
-        refuse_at = 0;
-        WANT(code == NUSHBARET_SLACK || (code == NUSHBARET_MEMORY && memcmp(&now, &b, sizeof b) == 0));
-        if (growths < k) break;
-    }
-    WANT(k > 3);
+    WANT_REFUSALS(struct block, look, b, NUSHBARET_SLACK, 3);
 }
 
 static struct number draw(unsigned *seed, double *value) {

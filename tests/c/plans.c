@@ -325,21 +325,10 @@ static void lengths(void) {
 
 static void refused(question ask, int is_sparse, int is_tied) {
     struct asked a = worked();
-    long k;
     a.is_sparse = is_sparse;
     if (is_tied) a.costs[4] = -1;
     WANT(solve_plan(&a) == NUSHBARET_BEST);
-    for (k = 1;; k++) {
-        struct asked now = a;
-        int32_t code;
-        growths = 0, refuse_at = k;
-        code = ask(&now);
-        refuse_at = 0;
-        WANT(code == (is_tied && ask == ask_unique ? NUSHBARET_TIED : NUSHBARET_BEST)
-            || (code == NUSHBARET_MEMORY && memcmp(&now, &a, sizeof a) == 0));
-        if (growths < k) break;
-    }
-    WANT(k > 5);
+    WANT_REFUSALS(struct asked, ask, a, is_tied && ask == ask_unique ? NUSHBARET_TIED : NUSHBARET_BEST, 5);
 }
 
 /* A ring in which each person could take the next one's object as well, or at 1 more each: its path has all persons. */

@@ -28,7 +28,7 @@ WANTED = {"wasm32": ('target triple = "wasm32-unknown-unknown"', "%parts.pair.1 
                      "8", "i64 8", "%numbers = load { i64, i64 }", "ptrtoint ptr %second to i64",
                      "define internal { i64, i64 } @rattle_alloc", "@malloc(i32)"),
           "windows": ('target triple = "x86_64-w64-windows-gnu"', "%pair = load { i8, ptr }, ptr %place, align 8",
-                      'uwtable "target-cpu"="x86-64-v2"', "ptrtoaddr ptr %second to i64",
+                      'uwtable "no-builtin-calloc" "target-cpu"="x86-64-v2"', "ptrtoaddr ptr %second to i64",
                       "define internal { i64, i64 } @rattle_alloc", "@malloc(i64)")}
 # What is changed in the module, and what is said of it; the last ones only where addresses have 32 bits.
 REFUSED = (('declare void @llvm.trap() #0', 'declare i32 @getpid() #0', "calls of C that aren't the heap's: getpid"),

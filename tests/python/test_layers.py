@@ -16,7 +16,7 @@ OF_OTHER_FOLDERS = {
     "ways": "api.solve lap.direct lap.library",
     # They count or replace calls below the public one: of levels, checks, searches and the library.
     "api.test_forms": "costs.kinds costs.problem lap.levels",
-    "api.test_plans": "lap.library lap.paths lap.ranking",
+    "api.test_plans": "lap.library lap.proved lap.ranking",
     "api.test_solving": "lap.library",
     "api.test_time": "lap.levels lap.library",
     "counts.test_counts": "lap.counts_call lap.library",

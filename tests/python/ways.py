@@ -26,3 +26,8 @@ def by_the_longer_way():
 def is_short(costs, maximize):
     """Whether the shorter way finds a result."""
     return direct.found(costs, maximize) is not None
+
+
+def knows_plans(costs, maximize, count):
+    """Whether the shorter way finds so many first plans, or all."""
+    return direct.first_plans(costs, maximize, count) is not None

@@ -1,1 +1,6 @@
 mod Refusals
+mod OddParts
+mod UnitLaws
+mod PlacedPairs
+mod ScaledRows
+mod ExactEnds

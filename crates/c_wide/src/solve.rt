@@ -15,8 +15,8 @@ use cost_lists::{Object, Person};
 use std::alloc::Global;
 use wide_checker::{Wide, WideLists};
 
-// Writes an answer, and returns its code.
-fn put_answer(
+/// Writes an answer, and returns its code.
+pub fn put_answer(
     lists: &WideLists<'_>,
     answer: &Answer,
     objects: &mut [Object],

@@ -3,13 +3,13 @@ use super::arranged::{Arranged, is_better_exchanged, scattered_groups};
 use super::auction::Auction;
 use super::layout::Layout;
 use super::numbers::Numbers;
-use super::phases::{Ended, first_slackness};
+use super::phases::{BIDS_OF_A_HAND, Ended, first_slackness};
 use super::problem::{CostRange, Problem};
 use super::record::{AUCTION, COLD, REPAIR, Record, WARM};
 use super::repair::{PathEnd, Repair, answer_all};
 use super::shortage::{Lack, Marks, find_shortage};
 use super::state::State;
-use super::values::{count_at, set_byte, sum_of, unsigned};
+use super::values::{copy_numbers, count_at, set_byte, sum_of, unsigned};
 use search_base::{ArcScans, place_at};
 use std::alloc::{AllocError, Global};
 
@@ -51,12 +51,6 @@ fn found_of(lack: Lack) -> Found {
 fn copy_bytes(to: &mut [u8], from: &[u8]) {
     for (entry, byte) in to.iter_mut().zip(from) {
         *entry = *byte;
-    }
-}
-
-fn copy_numbers(to: &mut [i64], from: &[i64]) {
-    for (entry, number) in to.iter_mut().zip(from) {
-        *entry = *number;
     }
 }
 
@@ -139,7 +133,7 @@ const WARM_ARC_SCANS_OF_A_HAND: u64 = 2;
 impl OpenSearch<'_, '_> {
     // The auction, and its cut, with a shortage if it shows one.
     fn bid(&mut self, answer: &mut Answer<'_>) -> Result<Bids, AllocError> {
-        let Some(layout) = Layout::of(self.problem, &self.state, self.range) else {
+        let Some(layout) = Layout::of(self.alloc, self.problem, &self.state, self.range)? else {
             return Ok(Bids::Done);
         };
         let mut auction = Auction::for_layout(
@@ -152,10 +146,15 @@ impl OpenSearch<'_, '_> {
         if self.record.stage == AUCTION {
             self.resume(&mut auction, layout, answer)?;
         } else {
-            auction.begin_phase(&mut self.state, layout, first_slackness(layout));
+            auction.begin_phase(
+                &mut self.state,
+                layout,
+                first_slackness(layout),
+                BIDS_OF_A_HAND,
+            );
         }
         auction.arc_scans.limit = self.limit_from(auction.arc_scans.done);
-        let ended = auction.run(self.problem, &mut self.state, layout)?;
+        let ended = auction.run(self.alloc, self.problem, &mut self.state, layout)?;
         self.arc_scans = auction.arc_scans;
         self.end_bids(answer, &auction, layout, ended)
     }
@@ -197,8 +196,11 @@ impl OpenSearch<'_, '_> {
             self.keep_auction(answer, auction);
             return Ok(Bids::Stopped);
         }
-        auction.cut_prices(self.alloc, &mut self.state, layout)?;
         self.record.stage = REPAIR;
+        if matches!(ended, Ended::Best) {
+            return Ok(Bids::Done);
+        }
+        auction.cut_prices(self.alloc, &mut self.state, layout)?;
         if matches!(ended, Ended::Settled) {
             return Ok(Bids::Done);
         }

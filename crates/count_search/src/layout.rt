@@ -2,7 +2,8 @@
 use super::auction::{Sizes, Terms};
 use super::problem::{CostRange, Problem};
 use super::state::State;
-use super::values::{short, signed, sum_of, unsigned};
+use super::values::{byte_at, set_byte, short, signed, sum_of, unsigned};
+use std::alloc::{AllocError, Global};
 
 // Twice the greatest sum of prices is at most this.
 const ROOM: i64 = 1 << 60;
@@ -22,6 +23,26 @@ pub struct Layout {
     pub is_filled: bool,
     /// Whether all hands that needn't take anything may stay out at once.
     pub may_all_stay: bool,
+    /// Whether costs have few values, so that rows find many pairs equally good.
+    pub has_few_costs: bool,
+}
+
+// So many values among the first costs are few. They are counted by their remainders.
+const FEW_VALUES: u32 = 64;
+
+const FIRST_COSTS: usize = 4096;
+
+const DIVISOR: u64 = 1021;
+
+fn has_few_values(alloc: Global, costs: &[i64]) -> Result<bool, AllocError> {
+    let mut is_seen = vec![in alloc; 0u8; DIVISOR as usize]?;
+    let mut values = 0u32;
+    for cost in costs.iter().take(FIRST_COSTS) {
+        let place = (cost.unsigned_abs() % DIVISOR) as usize;
+        values = values.wrapping_add(u32::from(byte_at(is_seen.as_slice(), place) == 0));
+        set_byte(is_seen.as_mut_slice(), place, 1);
+    }
+    Ok(values <= FEW_VALUES)
 }
 
 #[derive(Clone, Copy)]
@@ -67,10 +88,15 @@ fn scale_for(spread: i64, nodes: i64) -> i64 {
 
 impl Layout {
     /// None where there is nothing to bid for, counts don't fit, or numbers would leave their range.
-    pub fn of(problem: &Problem<'_>, state: &State, range: CostRange) -> Option<Layout> {
+    pub fn of(
+        alloc: Global,
+        problem: &Problem<'_>,
+        state: &State,
+        range: CostRange,
+    ) -> Result<Option<Layout>, AllocError> {
         let sums = Sums::of(state);
         if problem.columns.is_empty() || !sums.fits() {
-            return None;
+            return Ok(None);
         }
         let CostRange {
             mut least,
@@ -83,8 +109,15 @@ impl Layout {
         let spread = greatest.wrapping_sub(least).max(1);
         let nodes = signed(problem.column_count()).wrapping_add(2);
         let scale = scale_for(spread, nodes);
+        if scale < 1 {
+            return Ok(None);
+        }
         let layout = Layout::sized(problem, sums, spread, scale, greatest);
-        if scale < 1 { None } else { Some(layout) }
+        let has_few_costs = has_few_values(alloc, problem.costs)?;
+        Ok(Some(Layout {
+            has_few_costs,
+            ..layout
+        }))
     }
 
     fn sized(problem: &Problem<'_>, sums: Sums, spread: i64, scale: i64, greatest: i64) -> Layout {
@@ -116,6 +149,7 @@ impl Layout {
             nodes: signed(problem.column_count()).wrapping_add(2),
             is_filled: sums.row_most == sums.column_least,
             may_all_stay: outside == may,
+            has_few_costs: false,
         }
     }
 }

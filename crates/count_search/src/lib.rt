@@ -19,6 +19,7 @@ mod phases;
 mod problem;
 mod queue;
 mod record;
+mod refine;
 mod repair;
 mod resume;
 mod runs;

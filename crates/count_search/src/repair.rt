@@ -35,11 +35,11 @@ pub struct Repair {
     slack: Vec<u32>,
     slack_most: Vec<u32>,
     pub excess: Vec<i64>,
-    distances: Vec<i64>,
+    pub distances: Vec<i64>,
     parents: Vec<u32>,
     edges: Vec<Edge>,
     is_done: Vec<u8>,
-    heap: Heap,
+    pub heap: Heap,
     passed: Vec<u32>,
     // The nearest node that lacks.
     nearest: Reached,
@@ -189,17 +189,34 @@ impl Repair {
         set_price(self.excess.as_mut_slice(), outside, sum.wrapping_neg());
     }
 
-    fn balance_column(&mut self, state: &State, column: usize) -> i64 {
+    // The slots of a column that no row holds.
+    fn free_of(&self, state: &State, column: usize) -> i64 {
         let held = match self.holders.get(column) {
             Some(holders) => signed(holders.len()),
             None => 0,
         };
+        i64::from(count_at(state.column_most.as_slice(), column)).wrapping_sub(held)
+    }
+
+    /// Nothing is too much: nobody needs the slots that no row holds.
+    pub fn keep_plan(&mut self, state: &State) {
+        for column in 0..state.outside() {
+            let room = count_at(self.slack_most.as_slice(), column);
+            let free = short(self.free_of(state, column));
+            set_count(self.slack.as_mut_slice(), column, free.min(room));
+        }
+        for excess in self.excess.as_mut_slice().iter_mut() {
+            *excess = 0;
+        }
+    }
+
+    fn balance_column(&mut self, state: &State, column: usize) -> i64 {
+        let free = self.free_of(state, column);
         let most = count_at(state.column_most.as_slice(), column);
         let room = most.saturating_sub(count_at(state.column_least.as_slice(), column));
         let above = state
             .price(column)
             .wrapping_sub(state.price(state.outside()));
-        let free = i64::from(most).wrapping_sub(held);
         let slack = if above > 0 {
             0
         } else if above < 0 {
@@ -429,7 +446,7 @@ impl Repair {
         Ok(())
     }
 
-    fn relax(
+    pub fn relax(
         &mut self,
         problem: &Problem<'_>,
         state: &State,

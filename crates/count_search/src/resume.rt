@@ -3,7 +3,7 @@
 use super::auction::Auction;
 use super::layout::Layout;
 use super::offers::{Offer, value_at};
-use super::phases::HIGHEST_PRICE;
+use super::phases::{BIDS_OF_A_HAND, HIGHEST_PRICE, most_bids};
 use super::problem::{Problem, Row};
 use super::record::Record;
 use super::slots::Slot;
@@ -62,7 +62,7 @@ impl Auction {
         self.terms.limit = HIGHEST_PRICE;
         self.clear_slots(state, layout.sizes.outside);
         self.terms.limit = signed64(record.limit).min(HIGHEST_PRICE);
-        let most = self.most_bids(layout);
+        let most = most_bids(layout, BIDS_OF_A_HAND);
         self.terms.budget = self.bids.saturating_add(record.bids.min(most));
     }
 

@@ -89,3 +89,9 @@ pub fn clear_bytes(list: &mut [u8]) {
         *byte = 0;
     }
 }
+
+pub fn copy_numbers(to: &mut [i64], from: &[i64]) {
+    for (entry, number) in to.iter_mut().zip(from) {
+        *entry = *number;
+    }
+}

@@ -242,8 +242,11 @@ class Assigner:
     def _fitting(self, costs: Any) -> Any:
         """Costs as an array; that of all costs becomes one that can hold these too."""
         numpy = reading.numpy_of(self._costs)
-        kind = None if len(set(map(type, costs))) == 1 else object
-        own = as_printed(numpy.asanyarray(costs) if hasattr(costs, "dtype") else numpy.array(costs, kind))
+        if type(costs) is numpy.ndarray and costs.dtype.kind in "iu" and costs.dtype == self._costs.dtype:
+            return costs
+        if not hasattr(costs, "dtype"):
+            costs = numpy.array(costs, None if len(set(map(type, costs))) == 1 else object)
+        own = as_printed(numpy.asanyarray(costs))
         if isinstance(own, numpy.ma.MaskedArray):
             self._costs = numpy.ma.asarray(self._costs)
         held = self._costs.dtype
@@ -282,12 +285,12 @@ class Assigner:
         labels = None if self._labels is None else (list(self._labels[0]), list(self._labels[1]))
         shape = AssignmentProblem(len(self._costs), self._width, self._maximize, kinds.shape(numbers.decimals),
                                   labels=labels)
-        rows, columns = proved.pairs_of(shape, answer)
         if not hasattr(self._costs, "dtype"):
+            rows, columns = proved.pairs_of(shape, answer)
             own = [numbers.flat[numbers.place(row, column)] for row, column in zip(rows, columns)]
             return proved.ResultParts(shape, answer, rows, columns, own, False)
         numpy: Any = reading.numpy_of(self._costs)
-        rows, columns = (numpy.array(side, numpy.intp) for side in (rows, columns))
+        rows, columns = proved.arrays_of(numpy, shape, answer)
         own = numpy.frombuffer(numbers.flat, numbers.flat.typecode)[numbers.place(rows, columns)].tolist()
         return proved.ResultParts(shape, answer, rows, columns, own, True)
 
@@ -335,6 +338,9 @@ class HeldCosts:
 
     def _numbers(self, costs: Any) -> Any:
         """Other costs as numbers of this kind; None where one is none."""
+        if self.decimals == 0 and getattr(costs, "dtype", None) == "int64" and not hasattr(costs, "mask"):
+            fits = -GREATEST_COST <= costs.min() and costs.max() <= GREATEST_COST
+            return array("q", costs.tobytes()) if fits else None
         found = doubles_of(costs)
         return found if found is None or self.decimals is None else in_decimal_units(found, self.decimals)
 

@@ -1,13 +1,15 @@
 """Plans in the order of their costs."""
-from typing import Any, Iterator, Optional
+from typing import Any, Iterator, List, Optional
 
 from ..costs import source as sources
-from ..costs.problem import AssignmentProblem
+from ..costs.numbers import Number
+from ..costs.problem import AssignmentProblem, Labels
 from ..costs.reading import manner, whole_number
 from ..costs.source import Source
-from ..lap import library
-from .results import Plan, Result
-from .shown import Matrix, Missing
+from ..lap import direct, library
+from ..lap.ranking import FIRST_PLANS
+from .results import Plan, Result, plan_of
+from .shown import FixedList, Matrix, Missing, fixed
 from .solve import solve_problem
 
 
@@ -39,6 +41,26 @@ class _KBest(Iterator[Plan]):
         self._begin()
 
 
+class _Known(Iterator[Plan]):
+    """The plans of `k_best` where all are known from the beginning: their rows, the columns and the cost of each, and
+    the labels of a frame. It can be pickled too."""
+
+    def __init__(self, rows: Any, columns: Any, costs: List[Number], labels: Labels, done: int = 0):
+        self._parts, self._done = (rows, columns, costs, labels), done
+        self._rows = fixed(rows)
+        self._columns = [*fixed(columns)] if hasattr(columns, "setflags") else [*map(FixedList, columns)]
+
+    def __next__(self) -> Plan:
+        place, (_, _, costs, labels) = self._done, self._parts
+        if place == len(costs):
+            raise StopIteration
+        self._done += 1
+        return plan_of(self._rows, self._columns[place], costs[place], labels and (list(labels[0]), list(labels[1])))
+
+    def __reduce__(self) -> Any:
+        return _Known, (*self._parts, self._done)
+
+
 def k_best(costs: Matrix, k: int, maximize: bool = False, decimals: Optional[int] = None, partial: bool = False,
            missing: Missing = "refuse", timeout: Optional[float] = None) -> Iterator[Plan]:
     """The k best plans, from the best on.
@@ -67,13 +89,12 @@ def k_best(costs: Matrix, k: int, maximize: bool = False, decimals: Optional[int
 
     Notes
     -----
-    Murty (1968), each plan from the duals of the one before. `nushbaret_ranked` finds the plans, and proves that no
-    other is cheaper than the last, where costs and prices are whole numbers in its range, each row has a pair, and it
-    decides: mostly. Elsewhere Python finds them, at first among pairs of small reduced cost. Before it is yielded, each
-    is checked as `check` does, by the library where costs are in its range: it is a best one of its part, which has the
-    plans that agree with an earlier plan in the first rows and differ from it in the next. That these parts hold all
-    plans is tested, not proved, and so is the order of plans of one cost. The iterator may be pickled half-way. Plans
-    differ in their rows or columns; equal rows make plans of one cost, and there may be very many.
+    The library finds the plans by `nushbaret_ranked` (Murty 1968), and proves that no other is cheaper than the last.
+    That is of the costs themselves where these are whole numbers in its range and each row has a pair. Otherwise it is
+    of rounded costs, or of those above exact duals: that these plans are the first ones of the costs, and that the
+    duals are right, is computed here from exact numbers. That plans of one cost are in order is tested, not proved.
+    The iterator may be pickled half-way. Plans differ in their rows or columns; equal rows make plans of one cost, and
+    there may be very many.
 
     Examples
     --------
@@ -84,6 +105,10 @@ def k_best(costs: Matrix, k: int, maximize: bool = False, decimals: Optional[int
     k = whole_number(k, "k")
     if k < 0:
         raise ValueError(f"k is {k}: it must be 0 or more")
+    if 0 < k <= FIRST_PLANS and decimals is None and missing == "refuse" and timeout is None:
+        found = direct.first_plans(costs, bool(maximize), k)
+        if found:
+            return _Known(*found)
     source = Source(sources.lasting(costs), None, None, None, manner(maximize, decimals, missing))
     with library.limited(timeout):
         problem = source.read()

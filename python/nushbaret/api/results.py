@@ -13,7 +13,6 @@ from ..costs.reading import Manner, manner
 from ..costs.source import Source, problem_of
 from ..lap import library, proved
 from ..lap.plan_check import check_wholly
-from ..lap.ranking import has_other
 from .infeasible import infeasible
 from .shown import ByNames, FixedList, Missing, fixed, frame_of, numbers
 from .solved import SolvedProblem, WholeDuals, ratios_of, result_parts, sum_of
@@ -258,8 +257,8 @@ class Result(ByNames, Lasting):
         Notes
         -----
         `nushbaret_unique` proves it of whole costs in its range. Of a matrix of doubles `nushbaret_doubles_from` proves
-        it where each other plan is worse by a margin. Else the library finds, among the plans along pairs without
-        reduced cost, one with as few of this plan's pairs as possible; which pairs these are follows from the duals.
+        it where each other plan is worse by a margin. Else `nushbaret_ranked` lists two plans along pairs without
+        reduced cost, or proves that there is one; which pairs these are follows from the duals.
 
         Examples
         --------
@@ -273,8 +272,7 @@ class Result(ByNames, Lasting):
     def _is_unique(self) -> bool:
         found = self._solved.is_only()
         if found is None:
-            ranking = self._solved.ranking()
-            found = not has_other(ranking.paths, ranking.whole)
+            found = not self._solved.ranking().has_other()
         return found
 
     def next_best(self) -> Optional[Plan]:
@@ -290,7 +288,7 @@ class Result(ByNames, Lasting):
         -----
         `nushbaret_next` proves that the plan is a next best one, or that there is none, where costs and prices are
         whole numbers in its range, as many pairs are made as the shorter side has rows or columns, and it decides:
-        mostly. Elsewhere Python finds it, and it is checked as in `k_best`.
+        mostly. Elsewhere it is the second one of `k_best`.
 
         Examples
         --------
@@ -303,9 +301,8 @@ class Result(ByNames, Lasting):
             return None
         if found is not None:
             return self._plan(*found)
-        ranking = self._solved.ranking()
-        part = ranking.next_one()
-        return None if part is None else self._plan(*self._solved.plan_of(ranking, part))
+        found = self._solved.other_plan()
+        return None if found is None else self._plan(*found)
 
     def _plan(self, rows: Any, columns: Any, cost: Number) -> Plan:
         return plan_of(rows, columns, cost, self.labels)

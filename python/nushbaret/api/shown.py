@@ -2,6 +2,7 @@
 pandas."""
 import decimal
 import importlib
+import sys
 from typing import (TYPE_CHECKING, Any, Dict, Iterable, List, Literal, NoReturn, Optional, Protocol, Sequence, Tuple,
                     Union)
 
@@ -61,12 +62,16 @@ def fixed(values: Any) -> Any:
     return values[:]
 
 
+def _numpy() -> Any:
+    """NumPy's module. A result from a pickle may be what loads it."""
+    return sys.modules.get("numpy") or importlib.import_module("numpy")
+
+
 def numbers(values: Iterable[int], as_array: bool) -> Any:
     """Row or column numbers as a result shows them."""
     if not as_array:
         return FixedList(values)
-    # A result from a pickle may be what loads NumPy.
-    numpy = importlib.import_module("numpy")
+    numpy = _numpy()
     return fixed(numpy.array(list(values), numpy.intp))
 
 
@@ -74,7 +79,7 @@ def places(items: Any, width: int, as_arrays: bool) -> List[Any]:
     """Row or column numbers that a call of the library counts from 1, so many at a time, as results show them."""
     if not as_arrays:
         return [FixedList(item - 1 for item in items[at:at + width]) for at in range(0, len(items), width)]
-    numpy = importlib.import_module("numpy")
+    numpy = _numpy()
     return list(fixed(numpy.frombuffer(items, numpy.uint32).astype(numpy.intp) - 1).reshape(-1, width))
 
 

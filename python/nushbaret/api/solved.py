@@ -2,7 +2,7 @@
 from array import array
 from fractions import Fraction
 from functools import cached_property
-from typing import Any, Iterable, Iterator, List, Optional, Sequence, Tuple
+from typing import Any, Generator, Iterable, Iterator, List, Optional, Sequence, Tuple
 
 from ..costs import problem as reading
 from ..costs.kinds import AnyWholeNumbers
@@ -11,9 +11,8 @@ from ..costs.numbers import Number, Ratio, Unit
 from ..costs.problem import AssignmentProblem, costs_of_pairs
 from ..costs.source import Source
 from ..lap import doubles, levels, proved
-from ..lap.paths import Subproblem
 from ..lap.plan_check import check_wholly
-from ..lap.ranking import Ranking, plans_shown
+from ..lap.ranking import RankedPlan, Ranking, first_by_rounded, in_order, plans_shown
 from ..lap.solving import Outcome, solved
 from .shown import FixedList, numbers, places
 
@@ -76,7 +75,8 @@ class SolvedProblem:
         if (problem.n_rows, problem.n_columns) != (self.shape.n_rows, self.shape.n_columns):
             raise ValueError(CHANGED)
         now = costs_of_pairs(problem, *self.pairs)
-        if now == self.costs and isinstance(problem.costs, AnyWholeNumbers) and problem.unit == self.shape.unit:
+        if now == self.costs and problem.unit == self.shape.unit and (
+                isinstance(problem.costs, AnyWholeNumbers) or {*map(type, now), *map(type, self.costs)} == {float}):
             return problem
         if None in now or not all(map(_are_equal, ratios_of(problem, now), self.ratios)):
             raise ValueError(CHANGED)
@@ -148,7 +148,7 @@ class SolvedProblem:
 
     def next_plan(self) -> Tuple[str, Optional[Tuple[Any, Any, Number]]]:
         """What the library says of the next best plan, and its rows, columns and cost; nothing where it can't say."""
-        asked = self._priced()
+        asked = None if self.answer.prices is None else self._priced()
         if asked is None:
             return "", None
         problem, answer = asked
@@ -163,17 +163,42 @@ class SolvedProblem:
                        done: int) -> Iterator[Tuple[Any, Any, Number]]:
         """Rows, columns and costs of the first plans, so many at most, without those that are done: first those that
         the library shows."""
-        asked = self._priced(problem)
+        asked = None if problem.costs.of_64_bits() is None else self._priced(problem)
         if asked is not None:
             width, costs = asked[1].n, problem.costs
             rows = numbers(range(width), self.as_arrays)
             done = yield from plans_shown(*asked, count, done, lambda objects, totals: (
                 (rows, columns, costs.total([(total, 1)]))
                 for columns, total in zip(places(objects, width, self.as_arrays), totals)))
+        else:
+            done = yield from self._plans_of(in_order(lambda wanted: first_by_rounded(problem, wanted), count, done))
         if done < count:
-            ranking = self.ranking(problem)
-            for part in ranking.in_order(count, done):
-                yield self.plan_of(ranking, part)
+            yield from self._plans_of(in_order(self.ranking(problem).first, count, done))
+
+    def _plans_of(self, plans: Generator[RankedPlan, None, int]) -> Generator[Tuple[Any, Any, Number], None, int]:
+        """The same plans as the caller sees them."""
+        while True:
+            try:
+                plan = next(plans)
+            except StopIteration as end:
+                return int(end.value)
+            yield self.plan_of(plan)
+
+    def other_plan(self) -> Optional[Tuple[Any, Any, Number]]:
+        """A best plan but this one; None if there is no other."""
+        plans, columns = first_by_rounded(self.read_again(), 2), [self.shape.n_columns] * self.shape.n_rows
+        for row, column in zip(*self.pairs):
+            columns[row] = column
+        if plans is None:
+            plans = self.ranking().first(2)
+        elif not self._costs_as(plans[0]):
+            raise ValueError(CHANGED)
+        return next((self.plan_of(plan) for plan in plans if plan.columns != columns), None)
+
+    def _costs_as(self, best: RankedPlan) -> bool:
+        """Whether this plan costs as much as another one."""
+        cost = sum(Fraction(*ratio) for ratio in self.ratios)
+        return cost == Fraction(-best.cost if self.shape.maximize else best.cost, best.unit.denominator)
 
     def ranking(self, problem: Optional[AssignmentProblem] = None) -> Ranking:
         """The plans of the problem, from this one on. Without a problem it is that of the call, checked."""
@@ -210,15 +235,14 @@ class SolvedProblem:
         unit = self.duals[1]
         return FixedList(unit.shown(dual) for dual in duals)
 
-    def plan_of(self, ranking: Ranking, part: Subproblem) -> Tuple[Any, Any, Number]:
-        """Rows, columns and cost of the best plan of a part."""
-        rows, columns = ranking.pairs(part)
-        unit = self.shape.costs.unit_shown(ranking.unit)
-        cost, rest = divmod(ranking.sign * part.cost * unit.denominator, ranking.unit.denominator)
-        if rest:
-            # Other costs are in a finer unit now than all were at the call.
-            unit, cost = ranking.unit, ranking.sign * part.cost
-        return numbers(rows, self.as_arrays), numbers(columns, self.as_arrays), unit.shown(cost)
+    def plan_of(self, plan: RankedPlan) -> Tuple[Any, Any, Number]:
+        """Rows, columns and cost of a plan in order."""
+        (rows, columns), finer = plan.pairs(self.shape.n_columns), plan.unit
+        cost, unit = -plan.cost if self.shape.maximize else plan.cost, self.shape.costs.unit_shown(finer)
+        shown, rest = divmod(cost * unit.denominator, finer.denominator)
+        # Other costs may be in a finer unit now than all were at the call.
+        return (numbers(rows, self.as_arrays), numbers(columns, self.as_arrays),
+                finer.shown(cost) if rest else unit.shown(shown))
 
 
 def _cost_of(problem: AssignmentProblem, answer: proved.Assignment) -> Number:

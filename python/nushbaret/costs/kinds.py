@@ -27,6 +27,9 @@ def chosen(values: Any, places: Any) -> Any:
     """The values at some places, in a list of the same kind."""
     if isinstance(values, list):
         return [values[place] for place in places]
+    if isinstance(values, BorrowedNumbers):
+        held = plain(values)
+        return array("q", [held[place] for place in places])
     return array(values.typecode, [values[place] for place in places]) if isinstance(values, array) else values[places]
 
 

@@ -14,6 +14,7 @@ from typing import Any, Optional, Tuple
 
 from ..costs import kinds, printing, reading
 from ..costs.naming import is_frame, labels_of
+from ..costs.numbers import of_decimals
 from ..costs.problem import AssignmentProblem
 from . import library, proved
 
@@ -21,7 +22,7 @@ NAME = printing.EXTENSION
 FILE = "_extension.abi3.so"
 # What the extension calls.
 EXPORTS = ("nushbaret_doubles", "nushbaret_check_doubles", "nushbaret_dense_from", "nushbaret_sparse_from",
-           "nushbaret_check")
+           "nushbaret_check", "nushbaret_ranked")
 
 
 def extension() -> Any:
@@ -103,6 +104,21 @@ def found(costs: Any, maximize: bool, end: float = math.inf) -> Optional[proved.
     n_rows, n_columns = (len(costs), len(costs[0])) if is_list else costs.shape
     labels = None if is_list else labels_of(costs)
     return _parts(n_rows, n_columns, maximize, answer, labels)
+
+
+def first_plans(costs: Any, maximize: bool, count: int) -> Optional[Tuple[Any, ...]]:
+    """Rows, the columns of so many first plans at most, what each costs, and the labels of a frame, of a matrix of no
+    more rows than columns; None where the longer way is to be taken."""
+    held = extension()
+    matrix = costs if type(costs) is list else _matrix(costs)
+    if held is None or matrix is None:
+        return None
+    answer = held.found(matrix, maximize, math.inf, count, library.ARC_SCANS_FOR_NEXT)
+    if answer is None:
+        return None
+    rows, columns, totals, decimals = answer
+    shown = of_decimals(decimals).shown
+    return rows, columns, [*map(shown, totals)], None if type(costs) is list else labels_of(costs)
 
 
 def _parts(n_rows: int, n_columns: int, maximize: bool, answer: Any, labels: Any = None) -> proved.ResultParts:

@@ -11,7 +11,7 @@ from typing import Any, Callable, Dict, Iterator, List, NamedTuple, Optional, Se
 
 from ..costs.limits import FEW, BorrowedNumbers, Numbers
 
-VERSION = "5.8.0"
+VERSION = "5.9.0"
 
 CODES = (
     "BEST", "HALL",
@@ -202,18 +202,23 @@ def next_objects(sense: bool, n: int, m: int, lists: Sequence[Any], objects: Num
     look_at_time()
     margin, other = ctypes.c_int64(), array("I", bytes(4 * n))
     code, _ = call("next", sense, n, m, *lists, objects, prices,
-                   piece=(_ARC_SCANS_FOR_NEXT, *other.buffer_info(), ctypes.addressof(margin)))
+                   piece=(ARC_SCANS_FOR_NEXT, *other.buffer_info(), ctypes.addressof(margin)))
     return code, other
 
 
 def first_objects(count: int, sense: bool, n: int, m: int, lists: Sequence[Any], objects: Numbers,
                   prices: Numbers) -> Tuple[str, Numbers, Numbers]:
     """What `nushbaret_ranked` says of a plan and its prices, the objects of so many first plans in a row, and what each
-    costs."""
-    look_at_time()
+    costs. It begins again with more arc scans where they don't suffice, as far as there is time."""
     found, plans, totals = ctypes.c_size_t(), array("I", bytes(4 * n * count)), array("q", bytes(8 * count))
-    code, _ = call("ranked", sense, n, m, *lists, objects, prices, piece=(
-        _ARC_SCANS_FOR_NEXT, *plans.buffer_info(), *totals.buffer_info(), ctypes.addressof(found)))
+    code, arc_scans = "UNDECIDED", ARC_SCANS_FOR_NEXT
+    while code == "UNDECIDED" and arc_scans < _MOST_ARC_SCANS:
+        look_at_time()
+        began = time.monotonic()
+        code, _ = call("ranked", sense, n, m, *lists, objects, prices, piece=(
+            arc_scans, *plans.buffer_info(), *totals.buffer_info(), ctypes.addressof(found)))
+        now, end = time.monotonic(), _end()
+        arc_scans = int(arc_scans * (4 if end is None else max(min(4, (end - now) / max(now - began, 1e-9)), 0.1)))
     return code, plans[:n * found.value], totals[:found.value]
 
 
@@ -258,7 +263,9 @@ PIECES = {"dense": PieceSize(2 * 10**7, 10), "sparse": PieceSize(5 * 10**6, 4), 
 # A plan without prices is of use if it lacks at most this part of all persons.
 _MOST_MISSING = 16
 # About a second, in which Ctrl-C and the time have to wait.
-_ARC_SCANS_FOR_NEXT = 10**8
+ARC_SCANS_FOR_NEXT = 10**8
+# Some hours.
+_MOST_ARC_SCANS = 10**13
 _LONGEST_WAIT = 10.0**5
 _TIME_IS_OVER = "the time is over; nothing of the caller's was changed"
 

@@ -158,9 +158,8 @@ def next_objects(problem: AssignmentProblem, best: Assignment) -> Tuple[str, Any
 
 def first_objects(problem: AssignmentProblem, best: Assignment, count: int) -> Tuple[str, Any, Any]:
     """What `nushbaret_ranked` says of an answer, the objects of the first plans, one after the other, and what each
-    costs; nothing where it can't be asked. It orders plans by their persons, which are the rows unless there are more
-    of these. Then each row has a pair."""
-    about = None if problem.n_rows > problem.n_columns else _asked_about(problem, best)
+    costs; nothing where it can't be asked."""
+    about = _asked_about(problem, best)
     return ("", (), ()) if about is None else library.first_objects(count, *about)
 
 
@@ -183,10 +182,11 @@ def pairs_of(problem: AssignmentProblem, found: Assignment) -> Tuple[List[int], 
 
 def rows_and_columns(problem: AssignmentProblem, answer: Assignment) -> Tuple[Any, Any]:
     """The numbers of the pairs of an answer, without dummies, as arrays if the costs were one."""
-    return _arrays_of(problem.arrays, problem, answer) if problem.arrays else pairs_of(problem, answer)
+    return arrays_of(problem.arrays, problem, answer) if problem.arrays else pairs_of(problem, answer)
 
 
-def _arrays_of(numpy: Any, problem: AssignmentProblem, answer: Assignment) -> Tuple[Any, Any]:
+def arrays_of(numpy: Any, problem: AssignmentProblem, answer: Assignment) -> Tuple[Any, Any]:
+    """As `pairs_of`, in arrays of NumPy's."""
     own = numpy.array(answer.objects, numpy.intp)
     own -= 1
     persons, most = numpy.arange(answer.n, dtype=numpy.intp), max(problem.n_rows, problem.n_columns)

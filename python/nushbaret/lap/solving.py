@@ -40,13 +40,6 @@ def most(problem: AssignmentProblem, start: Began) -> proved.Assignment:
     return answer
 
 
-def least_sum(problem: AssignmentProblem, assigned: int) -> Optional[int]:
-    """The least sum of so many pairs, whose costs are whole; None if the library proves that there are none."""
-    answer = solved(problem, None, assigned)
-    return None if isinstance(answer, proved.HallSet) else sum(costs_of_pairs(problem,
-                                                                              *proved.pairs_of(problem, answer)))
-
-
 def worst_needed(problem: AssignmentProblem, assigned: int) -> Any:
     """The cost of the worst pair in a plan of so many pairs whose worst pair is as good as possible. The library proves
     that each plan of so many pairs has one as bad."""

@@ -1,17 +1,19 @@
 """The k best plans, the next best one, whether a plan is the only one, and bottlenecks, compared with all plans."""
+import contextlib
 import heapq
 import itertools
 import pickle
 import unittest
 from array import array
 from decimal import Decimal
+from fractions import Fraction
 from unittest import mock
 
 import nushbaret
-from nushbaret.lap import library, ranking
-from nushbaret.lap.paths import Paths, PathSearch
+from nushbaret.lap import library, proved, ranking
 from drawn import drawing, matrix
-from optional import np
+from optional import np, pd
+from ways import by_the_longer_way, extension, knows_plans
 
 
 def ordered(costs, maximize, assigned):
@@ -32,9 +34,12 @@ def pairs_of(plan, n_rows, n_columns):
     return plan.cost, [own.get(row, n_columns) for row in range(n_rows)]
 
 
+@contextlib.contextmanager
 def without_ranked():
-    """Lets Python find the plans in order, as where the library doesn't decide."""
-    return mock.patch.object(ranking, "first_objects", return_value=("UNDECIDED", array("I"), array("q")))
+    """Takes whole numbers by their reduced costs too."""
+    answer = "UNDECIDED", array("I"), array("q")
+    with by_the_longer_way(), mock.patch.object(proved, "first_objects", return_value=answer):
+        yield
 
 
 def kept(costs, keeps):
@@ -145,17 +150,97 @@ class Plans(unittest.TestCase):
         self.assertEqual((plans[0].cost, plans[1].cost), (result.cost, result.next_best().cost))
         self.assertEqual(plans[1].cost, min(result.without(*pair).cost for pair in result.pairs))
 
-    def test_the_library_and_python(self):
-        """The library's plans and those that Python finds are the same, also where the one goes on for the other."""
+    def test_by_reduced_costs(self):
+        """Whole numbers as they are, by their reduced costs, and by these rounded down: the plans are the same."""
         draw = drawing(40)
-        for n_rows, n_columns, most in [(12, 12, 3), (12, 12, 1000), (9, 14, 3), (9, 14, 1000), (30, 30, 99)]:
+        for n_rows, n_columns, most in [(12, 12, 3), (12, 12, 1000), (9, 14, 3), (14, 9, 1000), (14, 9, 2)]:
             for maximize in (False, True):
                 costs = matrix(draw, n_rows, n_columns, most, draw.choice([0.7, 1.0]))
-                found = [plan[1:] for plan in nushbaret.k_best(costs, 40, maximize)]
+                found = list(nushbaret.k_best(costs, 40, maximize, partial=True))
                 with without_ranked():
-                    self.assertEqual([plan[1:] for plan in nushbaret.k_best(costs, 40, maximize)], found)
-                with mock.patch.object(ranking, "_MOST_OBJECTS", 30 * n_rows):
-                    self.assertEqual([plan[1:] for plan in nushbaret.k_best(costs, 40, maximize)], found)
+                    self.assertEqual(list(nushbaret.k_best(costs, 40, maximize, partial=True)), found)
+                    for words in {"_MOST_STEPS": 64}, {"FIRST_PLANS": 1}, {"_FIRST_PAIRS": 1, "_FEW": 0}:
+                        with mock.patch.multiple(ranking, **words):
+                            self.assertEqual(list(nushbaret.k_best(costs, 40, maximize, partial=True)), found, words)
+
+    def test_many_near_to_each_other(self):
+        """Where hundreds of plans are nearly as good, and steps of a window can't put them in order."""
+        draw, turns, closer = drawing(42), 0, ranking.Window.closer
+        for kind in (lambda: draw.randint(0, 9) / 3, lambda: draw.randint(0, 2) * 10**18 + draw.randint(0, 3)):
+            for n_rows, n_columns in [(9, 9), (8, 11), (11, 8)] * 4:
+                costs = [[kind() for _ in range(n_columns)] for _ in range(n_rows)]
+                k = draw.choice([40, 300])
+                with mock.patch.object(ranking.Window, "closer", autospec=True, side_effect=closer) as call:
+                    found = [(plan.cost, list(plan.columns)) for plan in nushbaret.k_best(costs, k)]
+                turns += call.call_count
+                with mock.patch.object(ranking.Window, "closer", return_value=None):
+                    self.assertEqual([(plan.cost, list(plan.columns)) for plan in nushbaret.k_best(costs, k)], found)
+        self.assertGreater(turns, 3)
+
+    def test_numbers_of_any_kind(self):
+        """Doubles, near to each other and not, tiny and huge, Decimals, Fractions and whole numbers of any size."""
+        draw, ties = drawing(41), 0
+        kinds = [draw.random, lambda: draw.randint(0, 99) / 10,
+                 lambda: draw.randint(0, 2) + draw.randint(0, 3) * 2.0**-50, lambda: draw.randint(0, 9) * 5e-324,
+                 lambda: draw.choice([draw.random(), draw.randint(0, 3) * 1e300]),
+                 lambda: Decimal(draw.randint(-9, 9)).scaleb(draw.choice([0, -3, -20])), lambda: draw.randint(0, 2**90),
+                 lambda: Fraction(draw.randint(-9, 9), draw.choice([1, 3, 7])), lambda: draw.randint(-2**62, 2**62),
+                 lambda: draw.randint(0, 2) * 10**15 + draw.randint(0, 2)]
+        for turn in range(400):
+            kind, n_rows, n_columns = kinds[turn % len(kinds)], draw.randint(1, 5), draw.randint(1, 5)
+            costs = [[kind() if draw.random() < draw.choice([0.5, 1]) else None for _ in range(n_columns)]
+                     for _ in range(n_rows)]
+            form = costs
+            if np and all(cost is None or type(cost) is float for row in costs for cost in row) and turn % 3:
+                form = np.array([[np.nan if cost is None else cost for cost in row] for row in costs], float)
+            exact = [[None if cost is None else Fraction(str(cost)) for cost in row] for row in costs]
+            maximize, k = draw.random() < 0.5, draw.choice([1, 3, 10, 1000])
+            with mock.patch.object(ranking, "_FEW", draw.choice([0, 64])):
+                result = nushbaret.solve(form, maximize, partial=True, missing="forbid")
+                plans = list(nushbaret.k_best(form, k, maximize, partial=True, missing="forbid"))
+                other, is_unique = result.next_best(), result.is_unique()
+            wanted = ordered(exact, maximize, len(result.rows))
+            self.assertEqual([pairs_of(plan, n_rows, n_columns) for plan in plans], wanted[:k])
+            self.assertEqual(None if other is None else other.cost, wanted[1][0] if len(wanted) > 1 else None)
+            self.assertEqual(is_unique, len(wanted) < 2 or wanted[1][0] != wanted[0][0])
+            ties += not is_unique
+        self.assertGreater(ties, 20)
+
+    @unittest.skipUnless(extension(), "the extension isn't there")
+    def test_the_extension_and_the_longer_way(self):
+        """The same plans in the same form, as many as are asked for, of each form of costs."""
+        draw, short = drawing(41), 0
+        for turn in range(300):
+            n_rows, n_columns, k = draw.randint(1, 7), draw.randint(1, 7), draw.choice([1, 2, 10, 128, 129])
+            costs, maximize = matrix(draw, n_rows, n_columns, draw.choice([2, 9, 10**6, 10**13])), draw.random() < 0.5
+            form = self.forms(costs)[turn % 8] if np else costs
+            found = [self.form_of(plan) for plan in nushbaret.k_best(form, k, maximize)]
+            with by_the_longer_way():
+                self.assertEqual([self.form_of(plan) for plan in nushbaret.k_best(form, k, maximize)], found)
+            short += knows_plans(form, maximize, k)
+        self.assertGreater(short, 100)
+
+    def forms(self, costs):
+        array = np.array(costs)
+        return [costs, [[cost / 4 for cost in line] for line in costs], [tuple(line) for line in costs], array,
+                array.astype(np.int32 if array.max() < 2**31 else np.float64), np.asfortranarray(array) * 0.25,
+                array * 0.1, pd.DataFrame(array, columns=[*map(str, range(array.shape[1]))]) if pd else array]
+
+    def form_of(self, plan):
+        return str(plan), type(plan.rows), type(plan.columns), plan.pairs, type(plan.cost), plan.labels
+
+    def test_plans_cant_be_changed(self):
+        forms = [[[1, 2], [3, 4]]] + ([np.array([[1, 2], [3, 4]])] if np else [])
+        for form in forms:
+            plans = nushbaret.k_best(form, 2)
+            for held in plans, pickle.loads(pickle.dumps(nushbaret.k_best(form, 2))):
+                for plan in held:
+                    for values in plan.rows, plan.columns:
+                        with self.assertRaises((TypeError, ValueError)):
+                            values[0] = 1
+                        if hasattr(values, "setflags"):
+                            with self.assertRaises(ValueError):
+                                values.setflags(write=True)
 
     def test_few_pairs_at_first(self):
         """Where small reduced costs don't suffice, greater ones are looked at: each list is the one of all pairs."""
@@ -183,60 +268,38 @@ class Plans(unittest.TestCase):
 
 
 class Checked(unittest.TestCase):
-    """The library sees each plan that Python finds, and a wrong one isn't handed out."""
+    """The library sees what is asked by reduced costs, and wrong ones are found."""
 
     COSTS = [[4, 1, 3], [2, 0, 5], [3, 2, 2]]
 
-    def setUp(self):
-        patch = without_ranked()
-        patch.start()
-        self.addCleanup(patch.stop)
+    def test_wrong_reduced_costs(self):
+        behind = ranking.Ranking._reduced
 
-    def test_each_plan_is_checked(self):
-        draw = drawing(35)
-        for costs in (self.COSTS, matrix(draw, 9, 4, 5, 0.7), matrix(draw, 4, 9, 5, 0.7)):
-            with mock.patch.object(library, "call", side_effect=library.call) as call:
-                plans = list(nushbaret.k_best(costs, 5, partial=True))
-            checks = [asked for asked in call.call_args_list if asked[0][0] == "check"]
-            self.assertEqual(len(checks), len(plans))
+        def wrong(own, problem):
+            found = behind(own, problem)
+            return found._replace(pairs={**found.pairs, (0, own.own[0]): 2**90})
+        costs = [[2**70 * cost if cost < 4 else None for cost in row] for row in self.COSTS]
+        result = nushbaret.solve(costs)
+        with mock.patch.object(ranking.Ranking, "_reduced", wrong):
+            for call in lambda: list(nushbaret.k_best(costs, 3)), result.next_best:
+                with self.assertRaisesRegex(RuntimeError, "looked for in order, and the library says SLACK"):
+                    call()
 
-    def refused(self, name, wrong, said, costs=None):
-        with mock.patch.object(Paths, name, wrong), self.assertRaisesRegex(RuntimeError, said):
-            list(nushbaret.k_best(costs or self.COSTS, 6))
+    def test_more_arc_scans(self):
+        """Where they don't suffice, the library begins again with more, while there is time."""
+        wanted, behind, asked = list(nushbaret.k_best(self.COSTS, 4)), library.call, []
 
-    def test_a_wrong_plan(self):
-        def turned(ranking, part, ties):
-            return part._replace(columns=part.columns[::-1])
-        self.refused("first_of_its_cost", turned, "found to be the best of its part, and the library says otherwise: "
-                     "row 0", [[1, 1, 9], [1, 1, 9], [9, 9, 1]])
-
-    def test_a_wrong_cost(self):
-        behind = Paths.after
-
-        def cheaper(ranking, part, *words):
-            found = behind(ranking, part, *words)
-            return found._replace(cost=found.cost - 1)
-        self.refused("after", cheaper, "found to cost 5, and its pairs cost 6")
-
-    def test_wrong_duals(self):
-        behind = Paths.after
-
-        def same(ranking, part, *words):
-            return behind(ranking, part, *words)._replace(column_duals=part.column_duals)
-        self.refused("after", same, "the library says otherwise", matrix(drawing(36), 9, 9, 9))
-
-    def test_a_part_taken_for_empty(self):
-        def none(ranking, part, *words):
-            return PathSearch(None, {}, {}, {})
-        self.refused("search", none, "a group was found to be short, and the library says otherwise")
-
-    def test_a_plan_taken_for_the_only_one(self):
-        result = nushbaret.solve([[1, 1], [1, 1]])
-        own = result._solved.ranking()
-        self.assertTrue(ranking.has_other(own.paths, own.whole))
-        own.whole = own.whole._replace(row_duals=[dual + 1 for dual in own.whole.row_duals])
-        with self.assertRaisesRegex(RuntimeError, "along pairs of reduced cost 0, and the library says otherwise"):
-            ranking.has_other(own.paths, own.whole)
+        def few(name, *words, piece=()):
+            asked.append(piece[0] if name == "ranked" else 0)
+            if 0 < asked[-1] < 10**9:
+                return "UNDECIDED", library.Info()
+            return behind(name, *words, piece=piece)
+        with by_the_longer_way(), mock.patch.object(library, "call", few):
+            self.assertEqual(list(nushbaret.k_best(self.COSTS, 4)), wanted)
+            self.assertEqual([count for count in asked if count], [10**8, 4 * 10**8, 16 * 10**8])
+            with mock.patch.object(library, "_MOST_ARC_SCANS", 10**8 + 1), self.assertRaisesRegex(
+                    RuntimeError, "the library says UNDECIDED: please report this problem"):
+                list(nushbaret.k_best(self.COSTS, 4))
 
 
 class Bottlenecks(unittest.TestCase):

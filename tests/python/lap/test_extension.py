@@ -26,6 +26,8 @@ if np:
     import exact_doubles
 
 LONGER = object()
+# No end, and so many first plans with so many arc scans.
+PLANS = math.inf, 3, 10**6
 
 
 def is_near(costs, rows, columns):
@@ -433,6 +435,7 @@ class Kept(unittest.TestCase):
             call(costs)
             call(costs, maximize=True)
             module.found(costs, False)
+            module.found(costs, False, *PLANS)
 
     def test_references(self):
         """No object is kept or let go once too often."""
@@ -449,6 +452,7 @@ class Kept(unittest.TestCase):
                 call(costs)
                 call(costs, maximize=False)
                 module.found(costs, True)
+                module.found(costs, True, *PLANS)
             after = [sys.getrefcount(value) for value in watched]
             self.assertLess(max(abs(last - first) for first, last in zip(before, after)), 25, costs)
 
@@ -489,7 +493,7 @@ class Kept(unittest.TestCase):
 
 REFUSED = """
 import sys
-from lap.test_extension import another, forms
+from lap.test_extension import PLANS, another, forms
 import _testcapi
 module, call = another()
 held = forms()
@@ -497,7 +501,8 @@ for costs in held:
     call(costs), module.found(costs, True)
 refused = 0
 for costs in held:
-    for run in (lambda: call(costs), lambda: call(costs, maximize=True), lambda: module.found(costs, False)):
+    for run in (lambda: call(costs), lambda: call(costs, maximize=True), lambda: module.found(costs, False),
+                lambda: module.found(costs, False, *PLANS)):
         wanted = run()
         for number in range(200):
             _testcapi.set_nomemory(number, number + 1)

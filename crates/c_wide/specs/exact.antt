@@ -1,0 +1,5 @@
+pub mod Parts
+pub mod Units
+pub mod Pairs
+pub mod Given
+pub mod Ends
