@@ -431,6 +431,33 @@ int32_t nushbaret_check_wide(uint32_t sense, size_t n, size_t m,
     const struct nushbaret_wide_number *prices, size_t prices_count,
     struct nushbaret_info *info);
 
+/* Of all optimal assignments, one that changes fewest persons. kept has n numbers: the object that each person had so far, 0
+   if none. A person whose object isn't this one is changed. The problem is given as for nushbaret_check, so its costs are at
+   most NUSHBARET_GREATEST_COST. There are n values in objects, n in persons and m in prices.
+
+   code                  written
+   NUSHBARET_BEST        objects; info->total; *changed, how many persons are changed: no optimal assignment changes fewer;
+                         and prices, from 0 to 2^124, that prove it
+   NUSHBARET_HALL        info->persons and info->objects say how many numbers stand at the beginning of persons and of
+                         objects, rising
+   NUSHBARET_UNDECIDED   nothing: the search found nothing that the checker takes (never seen)
+   NUSHBARET_UNLISTED    info->place: kept[info->place] is above m, and the problem has no fault
+   any other             as in nushbaret_check: a fault, and info->place
+
+   The prices are those of other costs: n + 1 times each cost, and 1 more (under NUSHBARET_MAX 1 less) for a pair that isn't
+   kept. nushbaret_check_wide checks the answer, with these costs. A kept object needn't be listed by its person, and may be
+   that of several persons. */
+int32_t nushbaret_fewest_changes(uint32_t sense, size_t n, size_t m,
+    const uint32_t *of_persons, size_t of_persons_count,
+    const uint32_t *of_objects, size_t of_objects_count,
+    const int64_t *costs, size_t costs_count,
+    const uint32_t *kept, size_t kept_count,
+    uint32_t *objects, size_t objects_count,
+    uint32_t *persons, size_t persons_count,
+    struct nushbaret_wide_number *prices, size_t prices_count,
+    size_t *changed,
+    struct nushbaret_info *info);
+
 /* DOUBLES. Dense problems whose costs are doubles, each of which is taken for exactly the number that it is. An infinity
    forbids its pair: the positive one under NUSHBARET_MIN, the negative one under NUSHBARET_MAX. What is no number and the
    other infinity are faults: NUSHBARET_COST, with the first one's place. What a caller owes and what a call keeps is as

@@ -167,6 +167,7 @@ int main(void) {
     test_bottleneck();
     test_wide();
     test_exact();
+    test_fewest();
     test_drawn();
     test_memory();
     test_large();

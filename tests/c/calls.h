@@ -91,6 +91,7 @@ void test_plans(void);
 void test_bottleneck(void);
 void test_wide(void);
 void test_exact(void);
+void test_fewest(void);
 void test_drawn(void);
 void test_memory(void);
 void test_large(void);

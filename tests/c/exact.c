@@ -1,5 +1,6 @@
 /* Doubles as costs of 128 bits: what the call says is what a search of all plans finds in exact arithmetic, its prices prove
-   it, each fault and each refused growth leaves the lists as they were. */
+   it, each fault and each refused growth leaves the lists as they were. A problem of finite costs has the same answers where a
+   column that is forbidden to all makes a list of pairs of it. */
 #include "calls.h"
 #include <math.h>
 
@@ -265,19 +266,60 @@ static void verdicts(void) {
     WANT(check_exact(&a) == NUSHBARET_SLACK && a.info.person == 2 && a.info.object == 1);
 }
 
-static void refused(int has_plan) {
+/* The worked problem with so many forbidden pairs. */
+static void refused(int forbidden) {
+    static const int places[] = {5, 1, 2, 4};
     struct asked a = worked();
-    if (!has_plan) a.costs[1] = a.costs[2] = a.costs[4] = a.costs[5] = INFINITY;
-    WANT_REFUSALS(struct asked, ask, a, has_plan ? NUSHBARET_BEST : NUSHBARET_HALL, 5);
+    int k;
+    for (k = 0; k < forbidden; k++) a.costs[places[k]] = INFINITY;
+    WANT_REFUSALS(struct asked, ask, a, forbidden < 4 ? NUSHBARET_BEST : NUSHBARET_HALL, 5);
+}
+
+/* A problem with one more column, which is forbidden to all. */
+static struct asked widened(const struct asked *a) {
+    struct asked wide = *a;
+    size_t i, j;
+    wide.m++;
+    for (i = 0; i < wide.n; i++)
+        for (j = 0; j < wide.m; j++) {
+            const double forbidden = a->sense == NUSHBARET_MIN ? INFINITY : -INFINITY;
+            wide.costs[i * wide.m + j] = j < a->m ? a->costs[i * a->m + j] : forbidden;
+        }
+    return wide;
+}
+
+/* Whether a plan and prices of one problem are proved for the other one too. */
+static int is_shared(const struct asked *solved, const struct asked *other) {
+    struct asked a = *other;
+    memcpy(a.objects, solved->objects, sizeof a.objects);
+    memcpy(a.prices, solved->prices, sizeof a.prices);
+    return check_exact(&a) == NUSHBARET_BEST && a.unit == solved->unit;
+}
+
+/* Both forms of a problem of finite costs. */
+static void both_forms(const struct asked *drawn_one) {
+    struct asked all = *drawn_one, listed;
+    int32_t code;
+    size_t k;
+    for (k = 0; k < all.n * all.m; k++)
+        if (!isfinite(all.costs[k])) return;
+    if (all.m == COLUMNS) return;
+    listed = widened(&all);
+    code = ask(&all);
+    WANT(ask(&listed) == code);
+    if (code != NUSHBARET_BEST) return;
+    WANT(value_of(all.total) == value_of(listed.total) && all.unit == listed.unit);
+    WANT(is_shared(&all, &listed) && is_shared(&listed, &all));
 }
 
 void test_exact(void) {
     unsigned seed = 37;
     int k;
-    shown(), faults(), verdicts(), refused(0), refused(1);
+    shown(), faults(), verdicts(), refused(0), refused(1), refused(4);
     for (k = 0; k < 3000; k++) {
         struct asked a = draw(&seed), before = a;
         const int32_t code = ask(&a);
         WANT(is_as_searched(&a, &before, code));
+        both_forms(&before);
     }
 }

@@ -161,6 +161,9 @@ CALL(int32_t, ranked, (uint32_t s, size_t n, size_t m, PAIRS, COSTS, PLAN, uint6
 CALL(int32_t, wide, (uint32_t s, size_t n, size_t m, PAIRS, const struct nushbaret_wide_number *c, size_t cc, uint32_t *o, size_t oc,
     uint32_t *p, size_t pc, struct nushbaret_wide_number *q, size_t qc, struct nushbaret_wide_number *total, INFO),
     (s, n, m, a, ac, b, bc, c, cc, o, oc, p, pc, q, qc, total, info))
+CALL(int32_t, block, (uint32_t s, size_t n, size_t m, PAIRS, COSTS, const uint32_t *o, size_t oc, const int64_t *k, size_t kc,
+    const int64_t *q, size_t qc, size_t most, int64_t *l, size_t lc, uint8_t *w, size_t wc, uint32_t *x, size_t xc, uint32_t *y, size_t yc,
+    int64_t *z, size_t zc, INFO), (s, n, m, a, ac, b, bc, c, cc, o, oc, k, kc, q, qc, most, l, lc, w, wc, x, xc, y, yc, z, zc, info))
 CALL(int32_t, rows, (size_t n, const size_t *s, size_t sc, const uint32_t *v, size_t vc, COSTS, const int64_t *l, size_t lc,
     const int64_t *u, size_t uc, const uint8_t *p, size_t pc, const int64_t *t, size_t tc, struct nushbaret_rows_info *info),
     (n, s, sc, v, vc, c, cc, l, lc, u, uc, p, pc, t, tc, info))
@@ -180,6 +183,7 @@ __attribute__((constructor)) static void start(void) {
     relocate();
     protect();
     FOUND(dense), FOUND(dense_from), FOUND(sparse), FOUND(sparse_from);
-    FOUND(check), FOUND(check_hall), FOUND(bottleneck), FOUND(unique), FOUND(next), FOUND(ranked), FOUND(wide), FOUND(rows), FOUND(counts_from);
+    FOUND(check), FOUND(check_hall), FOUND(bottleneck), FOUND(unique), FOUND(next), FOUND(ranked), FOUND(wide), FOUND(block), FOUND(rows);
+    FOUND(counts_from);
     FOUND(version);
 }

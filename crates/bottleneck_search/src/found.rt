@@ -1,6 +1,8 @@
 // What a search found.
 use cost_lists::{Object, Person};
 use list_solver::HallSet;
+use sparse_search::{Matching, SparseProblem, hall_set};
+use std::alloc::{AllocError, Global};
 
 /// A plan, and persons who list fewer objects than they are at costs better than its worst pair's.
 #[derive(Drop)]
@@ -55,4 +57,17 @@ pub fn write_objects(objects: &mut [Object], places: &[u32]) {
     for (object, place) in objects.iter_mut().zip(places.iter()) {
         *object = place.wrapping_add(1);
     }
+}
+
+/// Persons that a matching leaves short, and their objects.
+pub fn short_of(
+    alloc: Global,
+    problem: SparseProblem<'_>,
+    matching: Matching,
+    person: u32,
+) -> Result<HallSet, AllocError> {
+    let mut matching = matching;
+    matching.blocked_persons(problem, person)?;
+    let set = hall_set(alloc, problem, matching.persons())?;
+    Ok(set_of(set.persons, set.objects))
 }

@@ -15,7 +15,7 @@ pub struct Rows<'a> {
 }
 
 // So many costs of a row are looked at together.
-const TOGETHER: usize = 16;
+const TOGETHER: usize = 8;
 
 // A cost so that less is better, if the flip is -1 where great ones are wanted.
 #[inline(always)]
@@ -36,9 +36,9 @@ fn lower_by(row: &[Cost], flip: Cost, least: &mut [Cost]) -> Cost {
 
 #[inline(always)]
 fn is_any_up_to(costs: &[Cost], flip: Cost, most: Cost) -> bool {
-    let mut is_any = false;
+    let (mut is_any, flipped) = (false, most.wrapping_add(flip));
     for cost in costs {
-        is_any = (turned(*cost, flip) <= most) | is_any;
+        is_any = ((cost ^ flip) <= flipped) | is_any;
     }
     is_any
 }

@@ -3,7 +3,7 @@
 ghost use Rattle.std.specs.Prelude.{◌≡◌, length};
 
 use super::bounds::Bound;
-use super::found::{Found, made_of, places_of, set_of, write_objects};
+use super::found::{Found, made_of, places_of, short_of, write_objects};
 use super::growth::{Grown, Growth};
 use super::lists::{Listed, by_rising_rows, fuller, matched, up_to, worst_of};
 use super::rows::Rows;
@@ -11,13 +11,12 @@ use super::steps::{ALL, SearchState, Stage, Table};
 use super::thresholds::{costs_between, count_below, sample_above};
 use assign_core::Cost;
 use cost_lists::{CostLists, Object, Source};
-use list_solver::{Grouped, HallSet, Record};
+use list_solver::{Grouped, Record};
 use search_base::{ArcScans, NOBODY};
-use sparse_search::{Known, Matching, SparseProblem, hall_set};
+use sparse_search::{Known, Matching, SparseProblem};
 use std::alloc::{AllocError, Global};
 
-// A path of a matching that grows takes about as long as a threshold of the halves over this part of
-// all pairs.
+// A path of a matching that grows takes about as long as a threshold over this part of all pairs.
 const PATHS: usize = 64;
 
 // A search: what it reads, where it stands, and a matching from which it goes on.
@@ -48,19 +47,6 @@ struct Held {
 enum Step {
     On(Held),
     End(Found),
-}
-
-// Persons that a matching leaves short, and their objects.
-fn short_of(
-    alloc: Global,
-    problem: SparseProblem<'_>,
-    matching: Matching,
-    person: u32,
-) -> Result<HallSet, AllocError> {
-    let mut matching = matching;
-    matching.blocked_persons(problem, person)?;
-    let set = hall_set(alloc, problem, matching.persons())?;
-    Ok(set_of(set.persons, set.objects))
 }
 
 impl<'a> Search<'a> {
@@ -97,19 +83,18 @@ impl<'a> Search<'a> {
     }
 
     // Whether few persons are without an object, next to the pairs of a threshold.
-    fn is_nearly_full(&self) -> bool {
+    fn is_nearly_full(&self, table: Table<'_>) -> bool {
         let free = self.kept.iter().filter(|object| **object == NOBODY).count();
-        let pairs = self.table.pairs(self.n);
+        let pairs = table.pairs(self.n);
         self.kept.len() == self.n && free.saturating_mul(pairs) <= self.tried.saturating_mul(PATHS)
     }
 
-    // Lets the matching that is kept grow from the low threshold on. If the record was wrong, the
-    // thresholds are tried from the bound on.
-    fn grow(&mut self) -> Result<Option<Found>, AllocError> {
-        let kept = self.kept.as_slice();
-        let mut growth = Growth::begin(self.alloc, self.table, kept, self.state.low)?;
-        match growth.grow(self.table, &mut self.arc_scans)? {
-            Grown::Full if growth.is_shown(self.table) => Ok(Some(growth.found())),
+    // Lets the matching that is kept grow from the low threshold on, by all pairs or by all up to a
+    // threshold of a plan. If the record was wrong, the thresholds are tried from the bound on.
+    fn grow(&mut self, table: Table<'_>) -> Result<Option<Found>, AllocError> {
+        let mut growth = Growth::begin(self.alloc, table, self.kept.as_slice(), self.state.low)?;
+        match growth.grow(table, &mut self.arc_scans)? {
+            Grown::Full if growth.is_shown(table) => Ok(Some(growth.found())),
             Grown::Stopped => {
                 self.state.stage = Stage::Growth;
                 self.state.low = growth.threshold.saturating_sub(1);
@@ -126,9 +111,9 @@ impl<'a> Search<'a> {
     }
 
     // The same, if the matching is nearly full.
-    fn grow_if_nearly_full(&mut self) -> Result<Option<Found>, AllocError> {
-        if self.may_grow && self.is_nearly_full() {
-            self.grow()
+    fn grow_if_nearly_full(&mut self, table: Table<'_>) -> Result<Option<Found>, AllocError> {
+        if self.may_grow && self.is_nearly_full(table) {
+            self.grow(table)
         } else {
             Ok(None)
         }
@@ -192,7 +177,7 @@ impl<'a> Search<'a> {
             .checked_div(whole)
             .unwrap_or(0);
         for _ in 0..sample.len() {
-            if let Some(found) = self.grow_if_nearly_full()? {
+            if let Some(found) = self.grow_if_nearly_full(self.table)? {
                 return Ok(Step::End(found));
             }
             let Some(most) = sample_above(sample.as_slice(), share, self.state.low) else {
@@ -239,7 +224,8 @@ impl<'a> Search<'a> {
             if first >= last {
                 break;
             }
-            if let Some(found) = self.grow_if_nearly_full()? {
+            let table = Table::Pairs(held.listed.problem());
+            if let Some(found) = self.grow_if_nearly_full(table)? {
                 return Ok(Step::End(found));
             }
             let middle = first.wrapping_add(last.wrapping_sub(first) / 2);
@@ -312,7 +298,7 @@ impl<'a> Search<'a> {
 
     fn run(&mut self) -> Result<Found, AllocError> {
         if self.state.stage == Stage::Growth {
-            if let Some(found) = self.grow()? {
+            if let Some(found) = self.grow(self.table)? {
                 return Ok(found);
             }
         }

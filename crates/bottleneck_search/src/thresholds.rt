@@ -4,8 +4,13 @@ use assign_core::Cost;
 use sparse_search::Pair;
 use std::alloc::{AllocError, Global};
 
-// How many costs a sample has.
+// How many costs a sample has at most, and how many for each object.
 const SAMPLE: usize = 4096;
+
+const SHARE: usize = 4;
+
+// A threshold up to which there are so many times as many costs as are wanted is too high.
+const MANY: usize = 4;
 
 /// The first number that is drawn, always the same.
 pub const DRAWN: u64 = 12345;
@@ -21,7 +26,7 @@ pub fn next_drawn(drawn: u64) -> u64 {
 pub fn sampled(alloc: Global, rows: Rows<'_>) -> Result<Vec<Cost>, AllocError> {
     let mut costs = Vec::new(alloc);
     let mut drawn = DRAWN;
-    for _ in 0..SAMPLE {
+    for _ in 0..SAMPLE.min(rows.objects.saturating_mul(SHARE)) {
         drawn = next_drawn(drawn);
         let place = (drawn >> 20)
             .checked_rem(rows.costs.len() as u64)
@@ -32,10 +37,17 @@ pub fn sampled(alloc: Global, rows: Rows<'_>) -> Result<Vec<Cost>, AllocError> {
     Ok(costs)
 }
 
-/// The cost of a sample that comes so many places after those up to a cost.
+/// The cost of a sample that comes so many places after those up to a cost. Where it stands there many
+/// times, the next lower one, if that is above the cost.
 pub fn sample_above(sample: &[Cost], places: usize, low: Cost) -> Option<Cost> {
-    let below = sample.iter().filter(|cost| **cost <= low).count();
-    sample.get(below.saturating_add(places)).copied()
+    let first = count_below(sample, low.saturating_add(1));
+    let cost = sample.get(first.saturating_add(places)).copied()?;
+    let end = count_below(sample, cost.saturating_add(1));
+    let before = count_below(sample, cost);
+    if before > first && end.saturating_sub(first) / MANY > places {
+        return sample.get(before.wrapping_sub(1)).copied();
+    }
+    Some(cost)
 }
 
 /// The different costs of pairs above one cost and up to another, rising.

@@ -2,5 +2,11 @@ mod Refusals
 mod OddParts
 mod UnitLaws
 mod PlacedPairs
+mod DenseUnits
 mod ScaledRows
 mod ExactEnds
+mod CombinedRows
+mod CombinedPlaces
+mod CombinedLists
+mod FewestLaws
+mod FewestEnds

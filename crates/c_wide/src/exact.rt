@@ -1,5 +1,6 @@
 // Doubles as whole numbers of a unit that is a power of two, and so as costs of 128 bits.
 mod check;
+mod costs;
 mod judge;
 mod pairs;
 mod parts;

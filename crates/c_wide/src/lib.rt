@@ -6,11 +6,13 @@
 mod answer;
 mod check;
 mod exact;
+mod fewest;
 mod input;
 mod judge;
 mod solve;
 
 pub use check::wide_verdict_on;
 pub use exact::{exact_verdict_on, solve_exact};
+pub use fewest::{combined_means_fewest, fewest_on};
 pub use input::{WideInput, wide_form_of};
 pub use solve::solve_wide;

@@ -6,6 +6,7 @@ mod decided;
 mod drawn;
 mod given;
 mod larger;
+mod mended;
 mod problem;
 mod searched;
 mod slow;

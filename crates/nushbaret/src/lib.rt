@@ -9,6 +9,7 @@ mod counts;
 mod dense;
 mod doubles;
 mod exact;
+mod fewest;
 mod next;
 mod ranked;
 mod rows;
@@ -26,6 +27,7 @@ pub use counts::{
 pub use dense::{nushbaret_dense, nushbaret_dense_from};
 pub use doubles::{nushbaret_check_doubles, nushbaret_doubles, nushbaret_doubles_from};
 pub use exact::{nushbaret_check_exact_doubles, nushbaret_exact_doubles};
+pub use fewest::nushbaret_fewest_changes;
 pub use next::nushbaret_next;
 pub use ranked::nushbaret_ranked;
 pub use rows::nushbaret_rows;

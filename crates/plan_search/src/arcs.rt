@@ -18,6 +18,8 @@ pub struct Arcs {
     owners: Vec<usize>,
     /// The least reduced cost of each person that isn't below the bound.
     above: Vec<Cost>,
+    /// Whether no row was cut off.
+    is_whole: bool,
 }
 
 impl Arcs {
@@ -60,23 +62,20 @@ impl Arcs {
         value_at(self.owners.as_slice(), place_of(object), 0)
     }
 
-    /// The middle one of the least reduced costs that aren't below the bound, or the least one if
-    /// the middle person has none.
-    pub fn middle(&self, alloc: Global) -> Result<Cost, AllocError> {
-        let mut above = Vec::from_slice(alloc, self.above.as_slice())?;
-        above.sort_unstable();
-        let middle = value_at(above.as_slice(), above.len() / 2, Cost::MAX);
-        let least = value_at(above.as_slice(), 0, Cost::MAX);
-        Ok(if middle == Cost::MAX { least } else { middle })
+    /// Whether all arcs below the bound are there.
+    pub fn is_whole(&self) -> bool {
+        self.is_whole
     }
 
-    /// The one that a quarter of them aren't above, or the least one if that person has none.
-    pub fn quarter(&self, alloc: Global) -> Result<Cost, AllocError> {
+    /// Of the least reduced costs that aren't below the bound one that a half, a third and so on of them
+    /// aren't above, by the number of parts; or the least one if that person has none.
+    pub fn bound_above(&self, alloc: Global, parts: usize) -> Result<Cost, AllocError> {
         let mut above = Vec::from_slice(alloc, self.above.as_slice())?;
         above.sort_unstable();
-        let quarter = value_at(above.as_slice(), above.len() / 4, Cost::MAX);
+        let place = above.len().checked_div(parts).unwrap_or(0);
+        let cost = value_at(above.as_slice(), place, Cost::MAX);
         let least = value_at(above.as_slice(), 0, Cost::MAX);
-        Ok(if quarter == Cost::MAX { least } else { quarter })
+        Ok(if cost == Cost::MAX { least } else { cost })
     }
 
     /// Adds an arc of the last node that was begun.
@@ -100,6 +99,7 @@ impl Arcs {
             weights: Vec::new(alloc),
             owners: Vec::from_slice(alloc, self.owners.as_slice())?,
             above: Vec::new(alloc),
+            is_whole: self.is_whole,
         })
     }
 
@@ -200,22 +200,28 @@ fn add_block(
     Ok(above)
 }
 
-// Adds the arcs of a person, of its row of costs.
+// Adds the arcs of a person, of its row of costs, which is cut off after so many.
 fn add_row(
     arcs: &mut Arcs,
     best: Best<'_>,
     row: &[Cost],
     place: usize,
     bound: Cost,
+    width: usize,
 ) -> Result<(), AllocError> {
     let sum = value_at(best.sums, place, 0);
     let mut above = Cost::MAX;
     let mut first: Object = 0;
+    let end = arcs.objects.len().saturating_add(width);
     arcs.begin_node()?;
     for (costs, prices) in row
         .chunks(BLOCK as usize)
         .zip(best.prices.chunks(BLOCK as usize))
     {
+        if arcs.objects.len() >= end {
+            arcs.is_whole = false;
+            break;
+        }
         let mut least = least_sum(best.sense, costs, prices).wrapping_sub(sum);
         if least < bound {
             least = add_block(arcs, best, costs, prices, place, first, bound)?;
@@ -233,12 +239,13 @@ fn add_rows(
     best: Best<'_>,
     costs: &[Cost],
     bound: Cost,
+    width: usize,
 ) -> Result<(), AllocError> {
     let mut rest = costs;
     for place in 0..best.objects.len() {
         let (row, others) = rest.split_at(best.prices.len().min(rest.len()));
         rest = others;
-        add_row(arcs, best, row, place, bound)?;
+        add_row(arcs, best, row, place, bound, width)?;
     }
     Ok(())
 }
@@ -330,24 +337,26 @@ pub fn no_arcs(
         weights: Vec::with_capacity(alloc, room)?,
         owners: owners_of(alloc, objects, m)?,
         above: Vec::new(alloc),
+        is_whole: true,
     })
 }
 
 // How many arcs there is room for at first, for each person.
 const USUAL_WIDTH: usize = 4;
 
-/// The core of a best plan below a bound.
+/// The core of a best plan below a bound. Rows of costs are cut off after so many arcs.
 pub fn core_below(
     alloc: Global,
     source: Source<'_>,
     best: Best<'_>,
     bound: Cost,
+    width: usize,
 ) -> Result<Arcs, AllocError> {
     let n = best.objects.len();
     let room = n.saturating_mul(USUAL_WIDTH);
     let mut arcs = no_arcs(alloc, best.objects, best.prices.len(), room)?;
     match source {
-        Source::Dense(costs) => add_rows(&mut arcs, best, costs, bound)?,
+        Source::Dense(costs) => add_rows(&mut arcs, best, costs, bound, width)?,
         Source::Listed(pairs) => {
             arcs.above = vec![in alloc; Cost::MAX; n]?;
             let good = good_pairs(&mut arcs, alloc, best, pairs, bound)?;

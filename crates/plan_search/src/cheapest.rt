@@ -1,49 +1,28 @@
-// The least dear way for a row to give up its column (Dijkstra 1959).
+// The least dear way for a row to give up its column.
 use super::inner::Inner;
 use super::part::Part;
+use super::paths::Paths;
 use super::values::{set_value, value_at};
 use assign_core::Cost;
 use std::alloc::{AllocError, Global};
-use std::collections::BinaryHeap;
 
 /// A search along the pairs of a part.
 #[derive(Drop)]
 pub struct Cheapest {
-    /// How far each column is from the row; `Cost::MAX` where it wasn't reached.
-    distances: Vec<Cost>,
+    /// How far each column is from the row.
+    paths: Paths,
     /// The row by which each column was reached, and the column by which each row was.
     from: Vec<usize>,
     via: Vec<usize>,
-    /// The columns that were reached.
-    reached: Vec<usize>,
-    /// These, by their negated distances.
-    heap: BinaryHeap<(Cost, usize)>,
 }
 
 impl Cheapest {
     pub fn new(alloc: Global, inner: &Inner) -> Result<Cheapest, AllocError> {
         Ok(Cheapest {
-            distances: vec![in alloc; Cost::MAX; inner.columns()]?,
+            paths: Paths::new(alloc, inner.columns())?,
             from: vec![in alloc; 0usize; inner.columns()]?,
             via: vec![in alloc; 0usize; inner.rows().wrapping_add(1)]?,
-            reached: Vec::new(alloc),
-            heap: BinaryHeap::new(alloc),
         })
-    }
-
-    fn distance(&self, column: usize) -> Cost {
-        value_at(self.distances.as_slice(), column, 0)
-    }
-
-    // Reaches a column.
-    fn reach(&mut self, column: usize, row: usize, length: Cost) -> Result<(), AllocError> {
-        if self.distance(column) == Cost::MAX {
-            self.reached.push(column)?;
-        }
-        set_value(self.distances.as_mut_slice(), column, length);
-        set_value(self.from.as_mut_slice(), column, row);
-        self.heap.push((length.wrapping_neg(), column))?;
-        Ok(())
     }
 
     // Looks at the pairs of a row at a distance from the first one, up to this length.
@@ -60,12 +39,12 @@ impl Cheapest {
         for (column, weight) in columns.iter().zip(weights.iter()) {
             let longer = before.saturating_add(part.sum(*column, *weight));
             if longer <= most
-                && longer < self.distance(*column)
                 && *column != own
                 && part.holder(*column) >= first
                 && (row != first || part.allows(first, *column))
+                && self.paths.reach(*column, longer)?
             {
-                self.reach(*column, row, longer)?;
+                set_value(self.from.as_mut_slice(), *column, row);
             }
         }
         Ok(())
@@ -85,16 +64,14 @@ impl Cheapest {
         let mut is_nobody_met = false;
         self.look(inner, part, first, (first, 0), most)?;
         for _ in 0..inner.size().wrapping_add(1) {
-            let Some((negated, column)) = self.heap.pop() else {
+            let Some((column, length)) = self.paths.next() else {
                 return Ok(None);
             };
-            let length = negated.wrapping_neg();
             if column == own {
                 return Ok(Some(length));
             }
             let holder = part.holder(column);
-            let is_late = length > self.distance(column) || (holder == last && is_nobody_met);
-            if !is_late {
+            if holder != last || !is_nobody_met {
                 is_nobody_met = is_nobody_met || holder == last;
                 set_value(self.via.as_mut_slice(), holder, column);
                 let width = inner.end(holder).saturating_sub(inner.start(holder));
@@ -109,8 +86,8 @@ impl Cheapest {
     fn raise(&self, part: &mut Part, last: usize, first: usize, length: Cost) {
         let mut of_nobody = 0;
         part.raise_value(first, length);
-        for column in self.reached.iter() {
-            let rise = length.saturating_sub(self.distance(*column));
+        for column in self.paths.reached() {
+            let rise = length.saturating_sub(self.paths.distance(*column));
             let holder = part.holder(*column);
             if rise > 0 && holder == last {
                 of_nobody = of_nobody.max(rise);
@@ -154,10 +131,6 @@ impl Cheapest {
 
     /// Forgets a search.
     pub fn clear(&mut self) {
-        for column in self.reached.iter() {
-            set_value(self.distances.as_mut_slice(), *column, Cost::MAX);
-        }
-        self.reached.clear();
-        self.heap.clear();
+        self.paths.clear();
     }
 }

@@ -1,44 +1,40 @@
-// The least cycle through a node, by shortest paths (Dijkstra 1959).
+// The least cycle through a node.
 use super::arcs::Arcs;
+use super::paths::Paths;
 use super::values::{set_value, value_at};
-use super::walk::Walk;
 use assign_core::Cost;
-use cost_lists::Object;
+use cost_lists::{Object, Price};
 use std::alloc::{AllocError, Global};
-use std::collections::BinaryHeap;
 
 /// A search for the least cycle.
 #[derive(Drop)]
 pub struct Nearest {
-    /// How far each node is from the first one; `Cost::MAX` where it wasn't reached.
-    distances: Vec<Cost>,
+    paths: Paths,
     /// The node and the object by which each node was reached.
     from: Vec<(usize, Object)>,
-    /// The nodes that were reached.
-    reached: Vec<usize>,
-    /// The least weight of an arc into each node.
+    /// The least weight of an arc into each node; empty where the paths to all nodes are wanted.
     entering: Vec<Cost>,
-    /// Nodes that were reached, by their negated distances.
-    heap: BinaryHeap<(Cost, usize)>,
     /// The weight of the least cycle so far, and the objects that its nodes take.
     best: Cost,
     cycle: Vec<(usize, Object)>,
 }
 
 impl Nearest {
-    /// A search for cycles that weigh less than this.
-    pub fn new(alloc: Global, arcs: &Arcs, most: Cost) -> Result<Nearest, AllocError> {
-        let nodes = arcs.nodes();
-        let mut nearest = Nearest {
-            distances: vec![in alloc; Cost::MAX; nodes]?,
-            from: vec![in alloc; (0usize, 0u32); nodes]?,
-            reached: Vec::new(alloc),
-            entering: vec![in alloc; Cost::MAX; nodes]?,
-            heap: BinaryHeap::new(alloc),
+    fn all_paths(alloc: Global, arcs: &Arcs, most: Cost) -> Result<Nearest, AllocError> {
+        Ok(Nearest {
+            paths: Paths::new(alloc, arcs.nodes())?,
+            from: vec![in alloc; (0usize, 0u32); arcs.nodes()]?,
+            entering: Vec::new(alloc),
             best: most,
             cycle: Vec::new(alloc),
-        };
-        for node in 0..nodes {
+        })
+    }
+
+    /// A search for cycles that weigh less than this.
+    pub fn new(alloc: Global, arcs: &Arcs, most: Cost) -> Result<Nearest, AllocError> {
+        let mut nearest = Nearest::all_paths(alloc, arcs, most)?;
+        nearest.entering = vec![in alloc; Cost::MAX; arcs.nodes()]?;
+        for node in 0..arcs.nodes() {
             nearest.enter(arcs, node);
         }
         Ok(nearest)
@@ -65,16 +61,12 @@ impl Nearest {
         self.cycle.as_slice()
     }
 
-    fn distance(&self, node: usize) -> Cost {
-        value_at(self.distances.as_slice(), node, 0)
-    }
-
     // Keeps the cycle that a node closes by an object.
     fn keep(&mut self, first: usize, node: usize, object: Object) -> Result<(), AllocError> {
         self.cycle.clear();
         self.cycle.push((node, object))?;
         let mut at = node;
-        for _ in 0..self.distances.len() {
+        for _ in 0..self.from.len() {
             if at == first {
                 return Ok(());
             }
@@ -85,31 +77,14 @@ impl Nearest {
         Ok(())
     }
 
-    // Reaches a node.
-    fn reach(
-        &mut self,
-        node: usize,
-        length: Cost,
-        from: (usize, Object),
-    ) -> Result<(), AllocError> {
-        if self.distance(node) == Cost::MAX {
-            self.reached.push(node)?;
-        }
-        set_value(self.distances.as_mut_slice(), node, length);
-        set_value(self.from.as_mut_slice(), node, from);
-        self.heap.push((length.wrapping_neg(), node))?;
-        Ok(())
-    }
-
     // Looks at the arcs of a node at a distance from the first one. A path is no use that can't
     // come back by less than the least cycle.
     fn look(
         &mut self,
         arcs: &Arcs,
-        walk: &Walk,
+        left: &[i32],
         first: usize,
-        node: usize,
-        length: Cost,
+        (node, length): (usize, Cost),
     ) -> Result<(), AllocError> {
         let back = value_at(self.entering.as_slice(), first, 0);
         for arc in arcs.start(node)..arcs.start(node.wrapping_add(1)) {
@@ -124,48 +99,66 @@ impl Nearest {
                     self.keep(first, node, object)?;
                 }
             } else if longer.saturating_add(back) < self.best
-                && longer < self.distance(next)
-                && walk.left(next) == 0
+                && value_at(left, next, 0) == 0
+                && self.paths.reach(next, longer)?
             {
-                self.reach(next, longer, (node, object))?;
+                set_value(self.from.as_mut_slice(), next, (node, object));
             }
         }
         Ok(())
     }
 
-    // Forgets what was reached.
-    fn clear(&mut self) {
-        for node in self.reached.iter() {
-            set_value(self.distances.as_mut_slice(), *node, Cost::MAX);
-        }
-        self.reached.clear();
-        self.heap.clear();
-    }
-
-    /// Looks for a lesser cycle through a node, along nodes that the walk hasn't left, with so many
+    /// Looks for a lesser cycle through a node, along nodes that a walk hasn't left, with so many
     /// looks at most.
     pub fn search(
         &mut self,
         arcs: &Arcs,
-        walk: &Walk,
+        left: &[i32],
         first: usize,
         arc_scans: &mut u64,
     ) -> Result<(), AllocError> {
-        self.reach(first, 0, (first, 0))?;
+        self.paths.clear();
+        let _is_first = self.paths.reach(first, 0)?;
         for _ in 0..arcs.size() {
-            let Some((negated, node)) = self.heap.pop() else {
-                break;
+            let Some((node, length)) = self.paths.next() else {
+                return Ok(());
             };
-            let length = negated.wrapping_neg();
             if *arc_scans == 0 || length >= self.best {
-                break;
+                return Ok(());
             }
-            if length == self.distance(node) {
-                *arc_scans = arc_scans.saturating_sub(arcs.width(node).saturating_add(1));
-                self.look(arcs, walk, first, node, length)?;
-            }
+            *arc_scans = arc_scans.saturating_sub(arcs.width(node).saturating_add(1));
+            self.look(arcs, left, first, (node, length))?;
         }
-        self.clear();
         Ok(())
     }
+
+    // By how much the prices of the objects of a node rise, so that the cycle has the weight 0.
+    fn rise(&self, first: usize, node: usize) -> Cost {
+        if node == first {
+            return 0;
+        }
+        self.best.saturating_sub(self.paths.distance(node)).max(0)
+    }
+}
+
+/// Adds the prices that prove the best plan without the pair of a node, if there is one. The last node's
+/// objects keep the price 0.
+pub fn add_risen(
+    alloc: Global,
+    risen: &mut Vec<Price>,
+    arcs: &Arcs,
+    first: usize,
+    prices: &[Price],
+    arc_scans: &mut u64,
+) -> Result<(), AllocError> {
+    let mut nearest = Nearest::all_paths(alloc, arcs, Cost::MAX)?;
+    nearest.search(arcs, &[], first, arc_scans)?;
+    let last = nearest.rise(first, arcs.nodes().wrapping_sub(1));
+    let mut object: Object = 0;
+    for price in prices {
+        object = object.wrapping_add(1);
+        let more = nearest.rise(first, arcs.owner(object)).wrapping_sub(last);
+        risen.push(price.wrapping_add(more))?;
+    }
+    Ok(())
 }

@@ -1,11 +1,11 @@
 // Further prices that prove the same plan, by which the arcs into some nodes weigh the margin or
 // more.
 use super::arcs::{Arcs, Best};
+use super::paths::Paths;
 use super::values::{place_of, set_value, value_at};
 use assign_core::Cost;
 use cost_lists::{Object, Price};
 use std::alloc::{AllocError, Global};
-use std::collections::BinaryHeap;
 
 /// No price rises by more than this for one list.
 const MOST_RISE: Cost = 1 << 61;
@@ -18,10 +18,8 @@ pub struct Pricing {
     rises: Vec<Cost>,
     /// The nodes that arcs enter by the margin or more.
     is_cut: Vec<bool>,
-    /// How far nodes are from the newest of these, up to the margin.
-    distances: Vec<Cost>,
-    reached: Vec<usize>,
-    heap: BinaryHeap<(Cost, usize)>,
+    /// Paths from the newest of these, that are shorter than the margin.
+    paths: Paths,
     cuts: Cost,
     failures: Cost,
 }
@@ -32,9 +30,7 @@ impl Pricing {
             margin,
             rises: vec![in alloc; 0i64; nodes]?,
             is_cut: vec![in alloc; false; nodes]?,
-            distances: vec![in alloc; margin; nodes]?,
-            reached: Vec::with_capacity(alloc, nodes)?,
-            heap: BinaryHeap::with_capacity(alloc, nodes)?,
+            paths: Paths::new(alloc, nodes)?,
             cuts: 0,
             failures: 0,
         })
@@ -73,23 +69,6 @@ impl Pricing {
             .wrapping_sub(self.rise(from))
     }
 
-    fn distance(&self, node: usize) -> Cost {
-        value_at(self.distances.as_slice(), node, 0)
-    }
-
-    // Reaches a node by a distance, if that is less than before.
-    fn reach(&mut self, node: usize, distance: Cost) -> Result<(), AllocError> {
-        let before = self.distance(node);
-        if distance < before {
-            if before == self.margin {
-                self.reached.push(node)?;
-            }
-            set_value(self.distances.as_mut_slice(), node, distance);
-            self.heap.push((distance.wrapping_neg(), node))?;
-        }
-        Ok(())
-    }
-
     // Goes along an arc, and returns whether it doesn't come back by less than the margin. Arcs
     // into cut nodes have the margin to spare.
     fn step(
@@ -104,12 +83,11 @@ impl Pricing {
             0
         };
         let weighs = self.weight(from, to, weight).wrapping_sub(spare);
-        let longer = self.distance(from).saturating_add(weighs);
-        if to == first {
-            return Ok(longer >= self.margin);
+        let longer = self.paths.distance(from).saturating_add(weighs);
+        if longer < self.margin && to != first {
+            let _is_shorter = self.paths.reach(to, longer)?;
         }
-        self.reach(to, longer)?;
-        Ok(true)
+        Ok(longer >= self.margin || to != first)
     }
 
     // Goes along the open arcs of a person.
@@ -144,40 +122,31 @@ impl Pricing {
         first: usize,
         arc_scans: &mut u64,
     ) -> Result<bool, AllocError> {
-        self.reach(first, 0)?;
+        let _is_first = self.paths.reach(first, 0)?;
         for _ in 0..open.size().saturating_add(best.objects.len()) {
-            let Some((negated, node)) = self.heap.pop() else {
+            let Some((node, _)) = self.paths.next() else {
                 break;
             };
-            if negated.wrapping_neg() == self.distance(node) {
-                *arc_scans = arc_scans.saturating_sub(open.width(node).saturating_add(1));
-                let goes = if node == best.objects.len() {
-                    self.go_on_last(best, first)?
-                } else {
-                    self.go_on(open, first, node)?
-                };
-                if !goes || *arc_scans == 0 {
-                    return Ok(false);
-                }
+            *arc_scans = arc_scans.saturating_sub(open.width(node).saturating_add(1));
+            let goes = if node == best.objects.len() {
+                self.go_on_last(best, first)?
+            } else {
+                self.go_on(open, first, node)?
+            };
+            if !goes || *arc_scans == 0 {
+                return Ok(false);
             }
         }
         Ok(true)
     }
 
-    // Forgets the distances. If that is wanted, prices rise by how far these are below the margin.
-    fn end(&mut self, rises: bool) {
-        for node in self.reached.iter() {
-            if rises {
-                let below = self
-                    .margin
-                    .wrapping_sub(value_at(self.distances.as_slice(), *node, 0));
-                let rise = value_at(self.rises.as_slice(), *node, 0).wrapping_add(below);
-                set_value(self.rises.as_mut_slice(), *node, rise);
-            }
-            set_value(self.distances.as_mut_slice(), *node, self.margin);
+    // Prices rise by how much the paths are shorter than the margin.
+    fn raise(&mut self) {
+        for node in self.paths.reached() {
+            let below = self.margin.wrapping_sub(self.paths.distance(*node));
+            let rise = value_at(self.rises.as_slice(), *node, 0).wrapping_add(below);
+            set_value(self.rises.as_mut_slice(), *node, rise);
         }
-        self.reached.clear();
-        self.heap.clear();
     }
 
     // Whether another node may be cut: not after more failures than cuts.
@@ -195,13 +164,13 @@ impl Pricing {
         arc_scans: &mut u64,
     ) -> Result<(), AllocError> {
         if self.may_cut() && self.measure(open, best, node, arc_scans)? {
-            self.end(true);
+            self.raise();
             set_value(self.is_cut.as_mut_slice(), node, true);
             self.cuts = self.cuts.wrapping_add(1);
         } else {
-            self.end(false);
             self.failures = self.failures.wrapping_add(1);
         }
+        self.paths.clear();
         Ok(())
     }
 

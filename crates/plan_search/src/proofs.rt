@@ -1,8 +1,8 @@
 // What shows that each plan of a tree is the first one of its part, and the next one dear enough.
 use super::arcs::{Arcs, Best};
 use super::leaf::{Pairs, best_of};
+use super::nearest::add_risen;
 use super::order::Order;
-use super::rise::add_risen;
 use super::search::show;
 use super::tree::Tree;
 use assign_core::Cost;

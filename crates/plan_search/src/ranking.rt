@@ -55,7 +55,7 @@ fn wider(
     found: usize,
     count: usize,
 ) -> Result<Cost, AllocError> {
-    let least = core.quarter(alloc)?.saturating_add(1);
+    let least = core.bound_above(alloc, 4)?.saturating_add(1);
     let quarters = if bound == 1 {
         0
     } else if found >= count / 2 {
@@ -77,7 +77,7 @@ fn search_below(
     bound: Cost,
     arc_scans: &mut u64,
 ) -> Result<Searched, AllocError> {
-    let core = core_below(alloc, source, best, bound)?;
+    let core = core_below(alloc, source, best, bound, usize::MAX)?;
     let inner = inner_of(alloc, &core, best.objects, best.prices.len())?;
     let order = order_of(alloc, &inner, count, bound.wrapping_sub(1), arc_scans)?;
     Ok(Searched { core, inner, order })

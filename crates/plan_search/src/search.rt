@@ -39,29 +39,8 @@ fn ranks_of(alloc: Global, arcs: &Arcs, walk: &Walk, m: usize) -> Result<Vec<i32
     Ok(ranks)
 }
 
-// Looks for the least cycle among those that a node reaches: at each node that closes one, which
+// The least cycle of a core, if it weighs less than this: looked for at each node that closes one, which
 // the walk leaves then.
-fn search_from(
-    nearest: &mut Nearest,
-    walk: &mut Walk,
-    arcs: &Arcs,
-    node: usize,
-    arc_scans: &mut u64,
-) -> Result<(), AllocError> {
-    walk.begin(arcs, node)?;
-    for _ in 0..arcs.nodes().wrapping_add(1) {
-        if nearest.best() <= 0 || *arc_scans == 0 || !walk.go(arcs)? {
-            return Ok(());
-        }
-        if let Some(last) = walk.last() {
-            nearest.search(arcs, walk, last, arc_scans)?;
-            walk.leave(last);
-        }
-    }
-    Ok(())
-}
-
-// The least cycle of a core, if it weighs less than this.
 fn least_cycle(
     alloc: Global,
     arcs: &Arcs,
@@ -70,8 +49,15 @@ fn least_cycle(
 ) -> Result<Nearest, AllocError> {
     let mut nearest = Nearest::new(alloc, arcs, most)?;
     let mut walk = Walk::new(alloc, arcs.nodes())?;
-    for node in 0..arcs.nodes() {
-        search_from(&mut nearest, &mut walk, arcs, node, arc_scans)?;
+    for _ in 0..arcs.nodes() {
+        if nearest.best() <= 0 || *arc_scans == 0 {
+            break;
+        }
+        let Some(last) = walk.next(arcs)? else {
+            break;
+        };
+        nearest.search(arcs, walk.all_left(), last, arc_scans)?;
+        walk.leave(last);
     }
     Ok(nearest)
 }
@@ -92,9 +78,13 @@ fn other_plan(
 // The core is made wider so often at most.
 const MOST_CORES: usize = 64;
 
+// After so many arcs rows of the first core are cut off. All its arcs weigh 0, and any cycle of them
+// is a least one.
+const FIRST_WIDTH: usize = 8;
+
 // The bound of the next core, after one in which the least cycle weighs so much, or which has none.
 fn wider(alloc: Global, arcs: &Arcs, bound: Cost, weight: Cost) -> Result<Cost, AllocError> {
-    let middle = arcs.middle(alloc)?.saturating_add(1);
+    let middle = arcs.bound_above(alloc, 2)?.saturating_add(1);
     let most = if bound == 1 {
         middle
     } else {
@@ -103,29 +93,7 @@ fn wider(alloc: Global, arcs: &Arcs, bound: Cost, weight: Cost) -> Result<Cost, 
     Ok(most.min(weight))
 }
 
-// Cuts a node of each cycle that a node reaches, which the walk leaves then.
-fn cut_from(
-    pricing: &mut Pricing,
-    walk: &mut Walk,
-    open: &Arcs,
-    best: Best<'_>,
-    node: usize,
-    arc_scans: &mut u64,
-) -> Result<(), AllocError> {
-    walk.begin(open, node)?;
-    for _ in 0..open.nodes().wrapping_add(1) {
-        if *arc_scans == 0 || !walk.go(open)? {
-            return Ok(());
-        }
-        if let Some(last) = walk.last() {
-            pricing.cut(open, best, last, arc_scans)?;
-            walk.leave(last);
-        }
-    }
-    Ok(())
-}
-
-// Walks along all open arcs, and cuts nodes of cycles.
+// Walks along all open arcs, and cuts a node of each cycle, which the walk leaves then.
 fn cut_all(
     alloc: Global,
     pricing: &mut Pricing,
@@ -135,8 +103,15 @@ fn cut_all(
 ) -> Result<Walk, AllocError> {
     let mut walk = Walk::new(alloc, open.nodes())?;
     pricing.begin();
-    for node in 0..open.nodes() {
-        cut_from(pricing, &mut walk, open, best, node, arc_scans)?;
+    for _ in 0..open.nodes().wrapping_add(1) {
+        if *arc_scans == 0 {
+            break;
+        }
+        let Some(last) = walk.next(open)? else {
+            break;
+        };
+        pricing.cut(open, best, last, arc_scans)?;
+        walk.leave(last);
     }
     Ok(walk)
 }
@@ -194,16 +169,19 @@ fn search(
     arc_scans: &mut u64,
 ) -> Result<Option<Least>, AllocError> {
     let (mut bound, mut weight): (Cost, Cost) = (1, most);
-    let mut other = None;
+    let (mut other, mut width) = (None, FIRST_WIDTH);
     for _ in 0..MOST_CORES {
-        let arcs = core_below(alloc, source, best, bound)?;
+        let arcs = core_below(alloc, source, best, bound, width)?;
         let nearest = least_cycle(alloc, &arcs, weight, arc_scans)?;
         if *arc_scans == 0 {
             return Ok(None);
         }
+        width = usize::MAX;
         if nearest.best() < weight {
             weight = nearest.best();
             other = Some(other_plan(alloc, best.objects, nearest.cycle())?);
+        } else if !arcs.is_whole() {
+            continue;
         }
         if bound >= weight {
             let core = arcs.below(alloc, weight)?;

@@ -16,6 +16,8 @@ pub struct Walk {
     /// The nodes from the first to the last one entered that wasn't left.
     path: Vec<usize>,
     count: i32,
+    /// The node at which the next path begins.
+    first: usize,
 }
 
 impl Walk {
@@ -26,6 +28,7 @@ impl Walk {
             is_on: vec![in alloc; false; nodes]?,
             path: Vec::with_capacity(alloc, nodes)?,
             count: 0,
+            first: 0,
         })
     }
 
@@ -34,8 +37,13 @@ impl Walk {
         value_at(self.left.as_slice(), node, 0)
     }
 
-    /// The last node of the path.
-    pub fn last(&self) -> Option<usize> {
+    /// When each node was left.
+    pub fn all_left(&self) -> &[i32] {
+        self.left.as_slice()
+    }
+
+    // The last node of the path.
+    fn last(&self) -> Option<usize> {
         self.path.last().copied()
     }
 
@@ -63,17 +71,9 @@ impl Walk {
         Some(object)
     }
 
-    /// Begins a path at a node, unless it was left.
-    pub fn begin(&mut self, arcs: &Arcs, node: usize) -> Result<(), AllocError> {
-        if self.left(node) != 0 {
-            return Ok(());
-        }
-        self.enter(arcs, node)
-    }
-
-    /// Goes on until all that the path reaches was left, or up to the first arc to a node of the path. Returns
-    /// whether there is one: it leads on from the last node.
-    pub fn go(&mut self, arcs: &Arcs) -> Result<bool, AllocError> {
+    // Goes on until all that the path reaches was left, or up to the first arc to a node of the path. Returns
+    // whether there is one: it leads on from the last node.
+    fn go(&mut self, arcs: &Arcs) -> Result<bool, AllocError> {
         for _ in 0..arcs.size() {
             let Some(node) = self.last() else {
                 return Ok(false);
@@ -92,5 +92,24 @@ impl Walk {
             }
         }
         Ok(false)
+    }
+
+    /// Goes on to the next arc that closes a cycle, and returns the node from which it leads, the last one of the
+    /// path; `None` when all nodes were left.
+    pub fn next(&mut self, arcs: &Arcs) -> Result<Option<usize>, AllocError> {
+        for _ in 0..arcs.nodes().wrapping_add(1) {
+            if self.go(arcs)? {
+                return Ok(self.last());
+            }
+            let node = self.first;
+            if node >= arcs.nodes() {
+                return Ok(None);
+            }
+            self.first = node.wrapping_add(1);
+            if self.left(node) == 0 {
+                self.enter(arcs, node)?;
+            }
+        }
+        Ok(None)
     }
 }

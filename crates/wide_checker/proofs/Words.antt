@@ -15,9 +15,6 @@ euclid_whole (negsuc a) = omega (arith, ints)
 zero_words : Wide
 zero_words = record { low = 0; high = pos 0 }
 
-pub value_read : (xs : List Wide) (i : ℕ) (d : Wide) → i < length xs → get_or (map wide_value xs) i (pos 0) ≡ wide_value (get_or xs i d)
-value_read xs i d lt = get_or-map wide_value xs i d (pos 0) lt
-
 -- what holds of each number of a list
 pub all_values : (P : ℤ → Type 0) (xs : List Wide) → All (λ w. P (wide_value w)) xs → All P (map wide_value xs)
 all_values P xs each i e lt =

@@ -1,12 +1,12 @@
 // Plans of any program, checked against the given doubles.
 ghost use Rattle.c_wide.specs.exact.Ends.{IsExactJudged};
 
+use super::costs::{lists_in_units, unit_costs};
 use super::judge::judge_exact;
-use super::pairs::{lists_of_pairs, unit_pairs};
 use super::solve::exponent_of;
+use c_calls::Fault;
 use c_calls::doubles::Input;
 use c_calls::lists::{Info, refuse, report_verdict};
-use c_calls::{Fault, Shape};
 use cost_lists::Object;
 use std::alloc::Global;
 use wide_checker::{Wide, check};
@@ -27,12 +27,11 @@ pub fn exact_verdict_on(
         Ok(judged) => judged,
         Err(fault) => return refuse(fault, info),
     };
-    let Shape { n, m, .. } = judged.shape;
-    let pairs = match unit_pairs(alloc, n, m, input.costs, judged.unit) {
-        Ok(pairs) => pairs,
+    let costs = match unit_costs(alloc, judged.shape, input.costs, judged.unit) {
+        Ok(costs) => costs,
         Err(_) => return refuse(Fault::Memory, info),
     };
-    let lists = lists_of_pairs(judged.shape, &pairs);
+    let lists = lists_in_units(judged.shape, &costs);
     match check(alloc, &lists, objects, prices) {
         Ok(verdict) => {
             *unit = exponent_of(judged.unit);

@@ -51,8 +51,8 @@ fn units_in(cost: f64, unit: u64) -> i128
     if parts.negative { -size } else { size }
 }
 
-// The same in two words.
-fn wide_in(cost: f64, unit: u64) -> Wide
+/// The same in two words.
+pub fn wide_in(cost: f64, unit: u64) -> Wide
     requires finite { IsTrue (is_number cost) }
     requires multiple { IsMultiple unit cost }
     requires within { IsWithin unit cost }

@@ -4,14 +4,14 @@ ghost use Rattle.c_calls.specs.doubles.Input.{HasLengths};
 ghost use Rattle.c_wide.specs.Ends.{wide_buffers};
 ghost use Rattle.c_wide.specs.exact.Ends.{IsExactReported};
 
+use super::costs::{lists_in_units, unit_costs};
 use super::judge::{Judged, judge_exact};
-use super::pairs::{lists_of_pairs, unit_pairs};
 use super::unit::UNIT_ONE;
 use crate::answer::answer_of;
 use crate::solve::put_answer;
+use c_calls::Fault;
 use c_calls::doubles::Input;
 use c_calls::lists::{Info, refuse};
-use c_calls::{Fault, Shape};
 use cost_lists::{Object, Person};
 use std::alloc::Global;
 use wide_checker::Wide;
@@ -48,12 +48,11 @@ pub fn solve_exact(
         Ok(judged) => judged,
         Err(fault) => return refuse(fault, info),
     };
-    let Shape { n, m, .. } = judged.shape;
-    let pairs = match unit_pairs(alloc, n, m, input.costs, judged.unit) {
-        Ok(pairs) => pairs,
+    let costs = match unit_costs(alloc, judged.shape, input.costs, judged.unit) {
+        Ok(costs) => costs,
         Err(_) => return refuse(Fault::Memory, info),
     };
-    let lists = lists_of_pairs(judged.shape, &pairs);
+    let lists = lists_in_units(judged.shape, &costs);
     match answer_of(alloc, &lists) {
         Ok(answer) => {
             *unit = exponent_of(judged.unit);

@@ -9,7 +9,7 @@ use assign_core::{Cost, GREATEST_COST};
 use cost_lists::{CostLists, GREATEST_NUMBER, Pairs};
 use std::test::Fail;
 
-fn is_count(n: u32) -> bool
+pub fn is_count(n: u32) -> bool
     ensures { IsTrue result ↔ IsCount n }
 {
     0 < n && n <= GREATEST_NUMBER
@@ -38,7 +38,7 @@ fn are_costs(costs: &[Cost]) -> bool
     true
 }
 
-fn pairs_of(n: u32, m: u32) -> usize
+pub fn pairs_of(n: u32, m: u32) -> usize
     ensures { result ≡ n * m }
 {
     n as usize * m as usize

@@ -1,0 +1,4 @@
+pub mod Changes
+pub mod Combined
+pub mod Answers
+pub mod Ends

@@ -1,0 +1,9 @@
+// Of all best plans one that changes fewest persons, by costs of 128 bits that combine both.
+mod answer;
+mod combine;
+mod kept;
+mod law;
+mod solve;
+
+pub use law::combined_means_fewest;
+pub use solve::fewest_on;
