@@ -3,18 +3,22 @@
 
 bench/questions.py [SIZE..] at the top of the repository, after c/build.sh built the library; PYTHONPATH=python. A
 size is N or NxM; without one 10, 50, 300, 300x600 and 1000. It needs NumPy. All take turns in one run, and of each the
-least processor time counts. Below 100 rows it also prints what ten plans take above nine solves, in microseconds.
+least processor time counts. Below 100 rows it also prints what ten plans take above nine solves, in microseconds. The
+groups that can change places, and a plan of the fewest changes, are asked as the command does it for a roster.
 
 Kinds: uniform to 10^6; points (distances in a square); products i * j; few (0..4); hundred (0..99); overlaps of boxes;
 sums (x_i + y_j + 0..99).
 """
+import itertools
 import sys
 import time
 from array import array
 
 import numpy
 import nushbaret
-from nushbaret.lap import library
+from nushbaret.lap import library, proved
+from nushbaret.lap.solving import best_plan, duals_of_whole
+from nushbaret.roster import single_nodes
 
 SECONDS, MOST = 1.5, 9
 
@@ -61,22 +65,55 @@ def questions(costs):
     n, m = costs.shape
     flat, sizes = array("q", costs.ravel().tolist()), (n, m)
     objects, persons, prices = array("I", bytes(4 * n)), array("I", bytes(4 * n)), array("q", bytes(8 * m))
-    kept = nushbaret.Assigner(costs)
-    kept.result
+    kept, one, now = nushbaret.Assigner(costs), nushbaret.Assigner(costs), costs.copy()
+    kept.result, one.result
     dice = numpy.random.default_rng(5)
+
+    nodes = single_nodes.RosterNodes(
+        [*range(n)], [*range(m)], array("I", numpy.repeat(numpy.arange(n), m).tolist()),
+        array("I", [*range(m)] * n), flat, None, True, True)
+    nodes = nodes._replace(edges=single_nodes.Edges(nodes.rows, nodes.columns))
+    before = set(nushbaret.solve(costs[:, ::-1]).pairs)
+
+    def best_ones():
+        """All best plans, as --keep and --others of the command ask for them."""
+        best = best_plan(single_nodes.problem_of(nodes, flat))
+        return best, single_nodes.face_of(nodes, flat, best, proved.rents(duals_of_whole(best)))
+
+    def groups():
+        best, face = best_ones()
+        single_nodes.swaps_of(nodes, face, nodes.pairs(best.rows, best.columns))
+
+    def fewest_changes():
+        best, face = best_ones()
+        single_nodes.fewest_changes(nodes, face, len(best.rows), before)
 
     def dense():
         library.call("dense", False, *sizes, flat, objects, persons, prices)
 
+    rows, columns = (itertools.cycle([(place, dice.permutation(lines[place])) for place in range(0, len(lines), 3)])
+                     for lines in (costs, costs.T))
+
     def changed_row():
-        kept.update(int(dice.integers(n)), dice.permutation(costs[dice.integers(n)]))
+        kept.update(*next(rows))
         kept.result
+
+    def changed_column():
+        kept.update_column(*next(columns))
+        kept.result
+
+    def changed_cost():
+        row, other = next(rows)
+        now[row, 0] = other[0]
+        one.update(row, now[row])
+        one.result
 
     return {"dense": dense, "solve": lambda: nushbaret.solve(costs),
             "only one": lambda: nushbaret.solve(costs).is_unique(),
             "next": lambda: nushbaret.solve(costs).next_best(), "ten": lambda: list(nushbaret.k_best(costs, 10)),
             "hundred": lambda: list(nushbaret.k_best(costs, 100)), "worst pair": lambda: nushbaret.bottleneck(costs),
-            "changed row": changed_row}
+            "changed row": changed_row, "changed column": changed_column, "changed cost": changed_cost,
+            "groups": groups, "fewest changes": fewest_changes}
 
 
 def least_times(asked):

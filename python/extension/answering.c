@@ -1,10 +1,6 @@
 /* What the library found, as callers get it: rows and columns as arrays or lists, what a result is made of, and a batch. */
-#include <math.h>
 #include <string.h>
 #include "extension.h"
-
-/* Floats of at most so many decimal places are whole numbers of a unit. */
-enum { MOST_PLACES = 6 };
 
 /* ---- Pairs ---- */
 
@@ -80,37 +76,10 @@ PyObject *given_both(const State *state, const Matrix *matrix, const Room *room)
     return pair_of(rows, rows ? as_given(state, matrix, room->columns) : NULL);
 }
 
-/* ---- solve ---- */
+/* ---- What a result is made of ---- */
 
-/* Whether a pair is forbidden, of costs that aren't NaN. */
-static int forbids(const double *costs, size_t count) {
-    int found = 0;
-    for (size_t k = 0; k < count; k++) found |= fabs(costs[k]) > MOST_DOUBLE;
-    return found;
-}
-
-/* Whether doubles have decimals that are whole numbers, at most 10^12, of the unit 1 / power; these are written. An infinite one stands
-   as 0. */
-static int has_places(const double *costs, size_t count, double power, int64_t *whole) {
-    for (size_t k = 0; k < count; k++) {
-        const double scaled = costs[k] * power, nearest = scaled + TO_WHOLE - TO_WHOLE;
-        const int is_infinite = fabs(costs[k]) > MOST_DOUBLE;
-        if (!is_infinite && (!(fabs(scaled) <= (double)GREATEST_COST) || nearest / power != costs[k])) return 0;
-        whole[k] = is_infinite ? 0 : (int64_t)nearest;
-    }
-    return 1;
-}
-
-/* How many decimal places finite doubles have at most, from 0 on; -1 where these are too many. */
-int places_of(const double *costs, size_t count, int64_t *whole) {
-    static const double powers[MOST_PLACES + 1] = {1, 1e1, 1e2, 1e3, 1e4, 1e5, 1e6};
-    for (int places = 0; places <= MOST_PLACES; places++)
-        if (has_places(costs, count, powers[places], whole)) return places;
-    return -1;
-}
-
-/* The costs of the pairs of a plan: whole numbers, or doubles where `whole` is NULL. */
-static PyObject *paid(const Matrix *matrix, const double *costs, const int64_t *whole, const Room *room) {
+/* The costs of the pairs of a plan, which are paired up: whole numbers, or doubles where `whole` is NULL. */
+PyObject *paid(const Matrix *matrix, const double *costs, const int64_t *whole, const Room *room) {
     PyObject *list = PyList_New(matrix->n);
     for (Py_ssize_t k = 0; list && k < matrix->n; k++) {
         const int64_t person = matrix->turned ? room->columns[k] : room->rows[k], object = matrix->turned ? room->rows[k] : room->columns[k];
@@ -126,7 +95,7 @@ static PyObject *paid(const Matrix *matrix, const double *costs, const int64_t *
 
 /* Rows and columns; the costs paid, the objects, prices and total if there are any, and the places of whole numbers, else -1; and the first
    cost, the number of rows and that of columns. */
-static PyObject *found_of(const State *state, const Matrix *matrix, const Room *room, const double *costs, const int64_t *whole, int places,
+PyObject *found_of(const State *state, const Matrix *matrix, const Room *room, const double *costs, const int64_t *whole, int places,
     const struct info *info) {
     PyObject *pairs = rows_and_columns(state, matrix, room);
     if (!pairs) return NULL;
@@ -137,68 +106,6 @@ static PyObject *found_of(const State *state, const Matrix *matrix, const Room *
         : Py_BuildValue("(Oy#OOi)", own, objects, n, Py_None, Py_None, places);
     Py_XDECREF(own);
     return pair_of(pairs, rest);
-}
-
-/* The plan of whole costs, or the first ones. */
-static PyObject *found_whole(const State *state, const Matrix *matrix, int maximize, const int64_t *whole, const Room *room, int places) {
-    struct info info;
-    if (solve_whole(state, matrix, maximize, whole, room, &info) != BEST) return NULL;
-    return matrix->plans ? first_plans(state, matrix, maximize, whole, room, places)
-        : found_of(state, matrix, room, NULL, whole, places, &info);
-}
-
-/* The plan of floats that are the decimals that they print as. Whole numbers are these decimals; a plan for others has to be best by a
-   margin. */
-static PyObject *found_in(State *state, const Matrix *matrix, int maximize, const double *costs, const Room *room, int64_t *whole) {
-    const size_t count = (size_t)matrix->n * (size_t)matrix->m;
-    const int places = places_of(costs, count, whole);
-    uint32_t by_margin = 0;
-    if (places >= 0 && !forbids(costs, count)) return found_whole(state, matrix, maximize, whole, room, places);
-    if (matrix->plans || solve(state, matrix, maximize, costs, room, &by_margin) != BEST || !(by_margin || places == 0)) return NULL;
-    return found_of(state, matrix, room, costs, whole, places, NULL);
-}
-
-/* The same of a matrix that was read. */
-static PyObject *found_of_matrix(State *state, const Matrix *matrix, int maximize, const Room *room, int64_t *whole) {
-    if (has_whole_kind(matrix)) {
-        const int64_t *costs = whole_costs_of(matrix, whole);
-        return costs ? found_whole(state, matrix, maximize, costs, room, 0) : NULL;
-    }
-    const double *costs = costs_of(state, matrix, room);
-    return costs ? found_in(state, matrix, maximize, costs, room, whole) : NULL;
-}
-
-/* found(costs, maximize, end, plans, arc_scans): what a result is made of, or that many first plans if some are asked for; None where the
-   longer way is to be taken. */
-PyObject *found(PyObject *module, PyObject *arguments) {
-    State *state = PyModule_GetState(module);
-    PyObject *costs, *answer = NULL;
-    double spare[SPARE];
-    int maximize;
-    double end = INFINITY;
-    Py_ssize_t plans = 0;
-    unsigned long long arc_scans = 0;
-    Matrix matrix;
-    Room room;
-    if (!PyArg_ParseTuple(arguments, "Op|dnK", &costs, &maximize, &end, &plans, &arc_scans)) return NULL;
-    if (!is_ready(state) || !look_at(state, costs, &matrix, 0)) Py_RETURN_NONE;
-    matrix.as_printed = 1;
-    matrix.end = end;
-    matrix.plans = plans;
-    matrix.arc_scans = arc_scans;
-    matrix.forbids = maximize ? -INFINITY : INFINITY;
-    const int is_left = most_arc_scans(&matrix) >= LONG || matrix.kind == HALVES || (matrix.kind == FLOATS && matrix.swapped)
-        || (plans && matrix.turned);
-    int64_t *whole = is_left ? NULL : PyMem_Malloc((size_t)matrix.n * (size_t)matrix.m * sizeof *whole);
-    if (whole && take(&room, &matrix, !is_plain(&matrix) && !has_whole_kind(&matrix), spare)) {
-        answer = found_of_matrix(state, &matrix, maximize, &room, whole);
-        PyMem_Free(room.taken);
-    }
-    PyMem_Free(whole);
-    let_go(&matrix);
-    if (answer && is_over(end)) Py_CLEAR(answer);
-    if (answer || PyErr_Occurred()) return answer;
-    Py_RETURN_NONE;
 }
 
 /* ---- A batch ---- */

@@ -2,8 +2,9 @@
    file gives the others.
 
    The extension is the short way from Python to the library, for CPython from 3.9 on by the limited API (abi3): linear_sum_assignment, a
-   batch of such problems, and the searches of `solve` and `k_best`. What it doesn't know, what the library refuses, and each fault go to the
-   package's calls in Python: these answer, or raise. So nothing here raises but what Python itself raises where it has no memory, and Ctrl-C.
+   batch of such problems, the searches of `solve`, `k_best`, `bottleneck` and an Assigner, and questions about a plan. What it doesn't know,
+   what the library refuses, and each fault go to the package's calls in Python: these answer, or raise. So nothing here raises but what
+   Python itself raises where it has no memory, and Ctrl-C.
 
    It links with nothing: the package has loaded the library, and gives it the addresses of its exports. */
 #ifndef NUSHBARET_EXTENSION_H
@@ -19,7 +20,7 @@
 #endif
 
 /* What the library has, as c/nushbaret.h says. */
-enum { BEST = 0, STOPPED = 21, UNDECIDED = 23, ALONE = 25 };
+enum { BEST = 0, STOPPED = 21, UNDECIDED = 23, TIED = 24, ALONE = 25 };
 #define MOST_SIDE 4194304
 #define GREATEST_COST 1000000000000
 /* No code of the library's: another way is to be taken, or there is an exception. */
@@ -50,6 +51,12 @@ typedef int32_t check_call(uint32_t, size_t, size_t, const uint32_t *, size_t, c
     const uint32_t *, size_t, const int64_t *, size_t, struct info *);
 typedef int32_t ranked_call(uint32_t, size_t, size_t, const uint32_t *, size_t, const uint32_t *, size_t, const int64_t *, size_t,
     const uint32_t *, size_t, const int64_t *, size_t, uint64_t, uint32_t *, size_t, int64_t *, size_t, size_t *, struct info *);
+typedef int32_t unique_call(uint32_t, size_t, size_t, const uint32_t *, size_t, const uint32_t *, size_t, const int64_t *, size_t,
+    const uint32_t *, size_t, const int64_t *, size_t, uint32_t *, size_t, int32_t *, size_t, struct info *);
+typedef int32_t next_call(uint32_t, size_t, size_t, const uint32_t *, size_t, const uint32_t *, size_t, const int64_t *, size_t,
+    const uint32_t *, size_t, const int64_t *, size_t, uint64_t, uint32_t *, size_t, int64_t *, struct info *);
+typedef int32_t bottleneck_call(uint32_t, size_t, size_t, const uint32_t *, size_t, const uint32_t *, size_t, const int64_t *, size_t,
+    uint32_t *, size_t, uint32_t *, size_t, uint32_t *, size_t, uint64_t, struct record *, struct info *);
 typedef int32_t check_doubles_call(uint32_t, size_t, size_t, const double *, size_t, const uint32_t *, size_t, const double *, size_t,
     struct doubles_info *);
 
@@ -65,10 +72,22 @@ typedef struct {
     check_doubles_call *check_doubles;
     check_call *check;
     ranked_call *ranked;
+    unique_call *unique;
+    next_call *next;
+    bottleneck_call *bottleneck;
     PyTypeObject *array, *float64;
     new_array *make;
     PyObject *manager, *blocks, *values, *places, *as_array; /* names of what a frame of pandas has */
 } State;
+
+/* A plan of before: how many rows its problem had; as bytes an object for each person, and a price for each object or none; the costs of its
+   pairs, rows rising; and the places of whole numbers, else -1. */
+typedef struct {
+    Py_ssize_t n_rows, objects_size, prices_size;
+    const char *objects, *prices;
+    PyObject *paid;
+    int places;
+} Plan;
 
 /* Costs as a caller has them: an array's numbers, a list's rows, or a frame's blocks. The persons are the fewer: where they are columns, it
    is turned. */
@@ -78,8 +97,9 @@ typedef struct {
     PyObject *rows, *blocks, *owner; /* a list; a tuple, of which this has a reference; what keeps `data`, likewise */
     double forbids;                  /* what None stands for */
     double end;                      /* when the call has to end, by the clock; infinite where it hasn't */
-    Py_ssize_t plans;                /* how many of the first plans `found` is asked for; 0 for a best one alone */
-    uint64_t arc_scans;              /* and with how many arc scans */
+    const Plan *earlier;             /* where the search begins, or what is asked about; NULL where there is none */
+    Py_ssize_t plans;                /* how many of the first plans are asked for */
+    uint64_t arc_scans;              /* and with how many arc scans, as of a next plan */
     int kind, swapped, turned, as_printed, gives_arrays;
 } Matrix;
 
@@ -177,12 +197,27 @@ PyObject *as_list(const int64_t *numbers, Py_ssize_t count);
 PyObject *as_given(const State *state, const Matrix *matrix, const int64_t *numbers);
 PyObject *given_both(const State *state, const Matrix *matrix, const Room *room);
 PyObject *rows_and_columns(const State *state, const Matrix *matrix, const Room *room);
-int places_of(const double *costs, size_t count, int64_t *whole);
-PyObject *found(PyObject *module, PyObject *arguments);
+PyObject *paid(const Matrix *matrix, const double *costs, const int64_t *whole, const Room *room);
+PyObject *found_of(const State *state, const Matrix *matrix, const Room *room, const double *costs, const int64_t *whole, int places,
+    const struct info *info);
 PyObject *batch(PyObject *module, PyObject *arguments);
 
+/* found.c */
+int places_of(const double *costs, size_t count, int64_t *whole);
+PyObject *found(PyObject *module, PyObject *arguments);
+
+/* What is made of costs as whole numbers of so many decimal places; and of doubles, where `whole` has room for as many whole numbers. NULL
+   where the longer way is to be taken. */
+typedef PyObject *of_whole(const State *state, const Matrix *matrix, int maximize, const int64_t *whole, const Room *room, int places);
+typedef PyObject *of_doubles(const State *state, const Matrix *matrix, int maximize, const double *costs, const Room *room, int64_t *whole);
+
 /* ranked.c */
-PyObject *first_plans(const State *state, const Matrix *matrix, int maximize, const int64_t *costs, const Room *room, int places);
+of_whole first_plans;
+of_doubles first_of_doubles;
+
+/* questions.c */
+of_whole is_only, next_plan, best_worst;
+of_doubles is_only_of_doubles, next_of_doubles, best_worst_of_doubles;
 
 /* listed.c */
 PyObject *listed(PyObject *module, PyObject *arguments);

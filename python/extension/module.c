@@ -149,12 +149,16 @@ static PyObject *linear_sum_assignment(PyObject *module, PyObject *const *argume
 
 /* ---- What the package gives ---- */
 
-/* attach(addresses): those of nushbaret_doubles, nushbaret_check_doubles, nushbaret_dense_from, nushbaret_sparse_from, nushbaret_check and
-   nushbaret_ranked. */
+/* attach(addresses): those of nushbaret_doubles, nushbaret_check_doubles, nushbaret_dense_from, nushbaret_sparse_from, nushbaret_check,
+   nushbaret_ranked, nushbaret_unique, nushbaret_next and nushbaret_bottleneck. */
 static PyObject *attach(PyObject *module, PyObject *arguments) {
     State *state = PyModule_GetState(module);
-    unsigned long long doubles, check_doubles, dense, sparse, check, ranked;
-    if (!PyArg_ParseTuple(arguments, "KKKKKK", &doubles, &check_doubles, &dense, &sparse, &check, &ranked)) return NULL;
+    unsigned long long doubles, check_doubles, dense, sparse, check, ranked, unique, next, bottleneck;
+    if (!PyArg_ParseTuple(arguments, "KKKKKKKKK", &doubles, &check_doubles, &dense, &sparse, &check, &ranked, &unique, &next, &bottleneck))
+        return NULL;
+    state->bottleneck = (bottleneck_call *)(uintptr_t)bottleneck;
+    state->next = (next_call *)(uintptr_t)next;
+    state->unique = (unique_call *)(uintptr_t)unique;
     state->ranked = (ranked_call *)(uintptr_t)ranked;
     state->check = (check_call *)(uintptr_t)check;
     state->sparse_from = (sparse_from_call *)(uintptr_t)sparse;

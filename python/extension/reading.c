@@ -159,6 +159,7 @@ int look_at(State *state, PyObject *costs, Matrix *matrix, int may_turn) {
     }
     if (!known) return 0;
     matrix->end = INFINITY;
+    matrix->earlier = NULL;
     turn(matrix, may_turn);
     if (matrix->n > 0 && matrix->m <= MOST_SIDE) return 1;
     let_go(matrix);

@@ -68,19 +68,23 @@ int32_t solve(const State *state, const Matrix *matrix, int maximize, const doub
 }
 
 /* The search for whole numbers, in pieces without the lock, between which Ctrl-C ends it: LEFT with an exception then. Prices are written as
-   whole numbers. */
+   whole numbers. It begins at the plan of before, if there is one. */
 int32_t solve_whole(const State *state, const Matrix *matrix, int maximize, const int64_t *costs, const Room *room, struct info *info) {
     const size_t n = (size_t)matrix->n, m = (size_t)matrix->m;
     struct record record;
     int32_t code = STOPPED;
     const uint64_t least = ARC_SCANS + (uint64_t)PASSES * n * m;
     uint64_t spent = 0, budget = FIRST_ARC_SCANS > least && matrix->end == INFINITY ? FIRST_ARC_SCANS : least;
+    const Plan *earlier = matrix->earlier;
+    const int64_t *first = earlier ? (const int64_t *)earlier->prices : costs;
+    const size_t size = n * sizeof *room->objects, prices = earlier ? (size_t)earlier->prices_size / 8 : 0;
     memset(&record, 0, sizeof record);
-    memset(room->objects, 0, n * sizeof *room->objects);
+    if (earlier) memcpy(room->objects, earlier->objects, size);
+    else memset(room->objects, 0, size);
     while (code == STOPPED) {
         PyThreadState *thread = PyEval_SaveThread();
-        code = state->dense_from(maximize ? 1 : 0, n, m, costs, n * m, costs, 0, room->objects, n, room->persons, n, (int64_t *)room->prices,
-            m, budget, &record, info);
+        code = state->dense_from(maximize ? 1 : 0, n, m, costs, n * m, first, prices, room->objects, n, room->persons, n,
+            (int64_t *)room->prices, m, budget, &record, info);
         PyEval_RestoreThread(thread);
         spent += budget;
         budget = spent / 4 > least ? spent / 4 : least;

@@ -7,7 +7,7 @@ from ..costs import kinds, naming, printing, reading
 from ..costs.limits import GREATEST_COST, MOST_PERSONS
 from ..costs.problem import AssignmentProblem, Labels, judge_row, row_in_list, rows_of_any, rows_of_view
 from ..costs.source import Source
-from ..lap import doubles, library, proved
+from ..lap import direct, doubles, library, proved
 from .results import Result
 from .shown import Matrix
 from .solve import solve
@@ -266,10 +266,9 @@ class Assigner:
     def _solved(self) -> Result:
         if self._numbers is None:
             self._numbers = numbers_of(self._costs, self._width)
-        answer = None if self._numbers is None else self._numbers.answer(self._maximize)
-        if self._numbers is None or answer is None:
+        found = None if self._numbers is None else self._found(self._numbers)
+        if found is None:
             return solve(self._given(), self._maximize)
-        found = self._parts(self._numbers, answer)
         return Result(Source(self._given(), None, None, None, reading.Manner(self._maximize)), found)
 
     def _given(self) -> Any:
@@ -280,16 +279,23 @@ class Assigner:
         rows, columns = map(list, self._labels)
         return pandas.DataFrame(self._costs.view(reading.numpy_of(self._costs).ndarray), rows, columns, copy=False)
 
-    def _parts(self, numbers: "HeldCosts", answer: proved.Assignment) -> proved.ResultParts:
-        """What a result is made of."""
+    def _found(self, numbers: "HeldCosts") -> Optional[proved.ResultParts]:
+        """What a result is made of; None where this way finds nothing that is sure to be best."""
         labels = None if self._labels is None else (list(self._labels[0]), list(self._labels[1]))
+        numpy = reading.numpy_of(self._costs)
+        found = None if numpy is None else numbers.found_in_array(numpy, self._maximize, labels)
+        answer = None if found else numbers.answer(self._maximize)
+        return self._parts(numbers, answer, labels) if answer else found
+
+    def _parts(self, numbers: "HeldCosts", answer: proved.Assignment, labels: Labels) -> proved.ResultParts:
+        """The same by an answer."""
         shape = AssignmentProblem(len(self._costs), self._width, self._maximize, kinds.shape(numbers.decimals),
                                   labels=labels)
-        if not hasattr(self._costs, "dtype"):
+        numpy = reading.numpy_of(self._costs)
+        if numpy is None:
             rows, columns = proved.pairs_of(shape, answer)
             own = [numbers.flat[numbers.place(row, column)] for row, column in zip(rows, columns)]
             return proved.ResultParts(shape, answer, rows, columns, own, False)
-        numpy: Any = reading.numpy_of(self._costs)
         rows, columns = proved.arrays_of(numpy, shape, answer)
         own = numpy.frombuffer(numbers.flat, numbers.flat.typecode)[numbers.place(rows, columns)].tolist()
         return proved.ResultParts(shape, answer, rows, columns, own, True)
@@ -339,8 +345,7 @@ class HeldCosts:
     def _numbers(self, costs: Any) -> Any:
         """Other costs as numbers of this kind; None where one is none."""
         if self.decimals == 0 and getattr(costs, "dtype", None) == "int64" and not hasattr(costs, "mask"):
-            fits = -GREATEST_COST <= costs.min() and costs.max() <= GREATEST_COST
-            return array("q", costs.tobytes()) if fits else None
+            return array("q", costs.tobytes())
         found = doubles_of(costs)
         return found if found is None or self.decimals is None else in_decimal_units(found, self.decimals)
 
@@ -360,11 +365,9 @@ class HeldCosts:
 
     def _let_go(self, item: int) -> None:
         """Lets nobody have an object."""
-        if self.state:
-            objects, _ = self.state
-            for person, held in enumerate(objects):
-                if held == item + 1:
-                    objects[person] = 0
+        objects = self.state[0] if self.state else ()
+        if item + 1 in objects:
+            objects[objects.index(item + 1)] = 0
 
     def add_row(self, costs: Any) -> bool:
         """Whether a row more is of this kind too, and leaves the same side the fewer; then it stands here."""
@@ -411,6 +414,18 @@ class HeldCosts:
             change(person, held)
             flat.extend(held)
         self.flat = flat
+
+    def found_in_array(self, numpy: Any, maximize: bool, labels: Labels) -> Optional[proved.ResultParts]:
+        """What a result is made of, whose costs are in an array, by the extension: of whole numbers, from the plan of
+        before. None where the longer way is to be taken."""
+        if self.decimals is None:
+            return None
+        costs = numpy.frombuffer(self.flat, numpy.int64).reshape(self.n, self.m)
+        first = self.state and (self.state[0], library.begun(self.state[1], self.state[0]))
+        found = direct.from_earlier(costs.T if self.is_turned else costs, maximize, self.decimals, first, labels)
+        if found:
+            self.state = found.answer.objects[:], found.answer.prices[:]
+        return found
 
     def answer(self, maximize: bool) -> Optional[proved.Assignment]:
         """The best plan, from the one of before; None where this way finds nothing that is sure to be best."""
@@ -487,11 +502,11 @@ def in_decimal_units(costs: Any, decimals: int) -> Optional[Any]:
     numpy = reading.loaded_numpy()
     if numpy is None or len(costs) < _FEW:
         return _whole_list(costs, power)
-    with numpy.errstate(all="ignore"):
-        held = numpy.frombuffer(costs)
-        whole = numpy.rint(held * power)
-        fits = bool(numpy.abs(whole).max() <= GREATEST_COST and (whole / power == held).all())
-    return array("q", whole.astype(numpy.int64).tobytes()) if fits else None
+    held = numpy.frombuffer(costs)
+    if not max(float(held.max()), -float(held.min())) * power <= GREATEST_COST:
+        return None
+    whole = numpy.rint(held * power)
+    return array("q", whole.astype(numpy.int64).tobytes()) if (whole / power == held).all() else None
 
 
 def _whole_list(costs: Any, power: float) -> Optional[Any]:

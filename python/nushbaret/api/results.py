@@ -256,8 +256,8 @@ class Result(ByNames, Lasting):
 
         Notes
         -----
-        `nushbaret_unique` proves it of whole costs in its range. Of a matrix of doubles `nushbaret_doubles_from` proves
-        it where each other plan is worse by a margin. Else `nushbaret_ranked` lists two plans along pairs without
+        `nushbaret_unique` proves it of whole costs in its range. Of a matrix of doubles `nushbaret_doubles` proves it
+        where each other plan is worse by a margin. Else `nushbaret_ranked` lists two plans along pairs without
         reduced cost, or proves that there is one; which pairs these are follows from the duals.
 
         Examples

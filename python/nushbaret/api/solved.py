@@ -10,11 +10,11 @@ from ..costs.limits import GREATEST_PRICE
 from ..costs.numbers import Number, Ratio, Unit
 from ..costs.problem import AssignmentProblem, costs_of_pairs
 from ..costs.source import Source
-from ..lap import doubles, levels, proved
+from ..lap import direct, doubles, levels, proved
 from ..lap.plan_check import check_wholly
 from ..lap.ranking import RankedPlan, Ranking, first_by_rounded, in_order, plans_shown
 from ..lap.solving import Outcome, solved
-from .shown import FixedList, numbers, places
+from .shown import FixedList, fixed, numbers, places
 
 # Whole duals, in a unit.
 WholeDuals = Tuple[proved.Duals, Unit]
@@ -139,8 +139,15 @@ class SolvedProblem:
         problem = self.read_again() if problem is None else problem
         return (problem, answer) if problem.unit == unit else None
 
+    def _asked(self, question: int) -> Any:
+        """What the extension says of the plan; None where the longer way is to be taken."""
+        return direct.about(question, self.source, self.shape, self.answer, self.costs)
+
     def is_only(self) -> Optional[bool]:
         """What the library says of whether the plan is the only best one; None where it can't say."""
+        said: Optional[bool] = self._asked(direct.ONLY)
+        if said is not None:
+            return said
         if self.answer.prices is None and doubles.is_only(self.read_again(), self.answer.objects):
             return True
         asked = self._priced()
@@ -148,6 +155,12 @@ class SolvedProblem:
 
     def next_plan(self) -> Tuple[str, Optional[Tuple[Any, Any, Number]]]:
         """What the library says of the next best plan, and its rows, columns and cost; nothing where it can't say."""
+        said = self._asked(direct.NEXT)
+        if said is False:
+            return "ALONE", None
+        found = said and self._next_of(said)
+        if found:
+            return "BEST", found
         asked = None if self.answer.prices is None else self._priced()
         if asked is None:
             return "", None
@@ -158,6 +171,16 @@ class SolvedProblem:
         rows, columns = proved.pairs_of(problem, answer._replace(objects=objects))
         cost = sum_of(problem, ratios_of(problem, costs_of_pairs(problem, rows, columns)))
         return code, (numbers(rows, self.as_arrays), numbers(columns, self.as_arrays), cost)
+
+    def _next_of(self, said: Any) -> Optional[Tuple[Any, Any, Number]]:
+        """The plan that the extension says is the next, or of doubles among the first two."""
+        if len(said[0]) == 2:
+            return fixed(said[0][0]), fixed(said[0][1]), self.shape.unit.shown(said[1])
+        plans = direct.plans_of_doubles(said, self.shape.maximize, 2) or []
+        others = [plan for plan in plans if plan[0] != self.pairs[1]]
+        if len(others) != 1 or plans[0][1] != sum_of(self.shape, self.ratios):
+            return None
+        return fixed(said[0][0]), numbers(others[0][0], self.as_arrays), others[0][1]
 
     def plans_in_order(self, problem: AssignmentProblem, count: int,
                        done: int) -> Iterator[Tuple[Any, Any, Number]]:

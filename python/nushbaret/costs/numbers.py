@@ -3,7 +3,7 @@ them."""
 import decimal
 import math
 from fractions import Fraction
-from typing import Any, Iterable, List, NamedTuple, Optional, Sequence, Tuple, Union
+from typing import Any, Collection, Dict, Iterable, List, NamedTuple, Optional, Sequence, Tuple, Union
 
 Number = Union[int, decimal.Decimal, Fraction]
 Ratio = Tuple[int, int]
@@ -87,6 +87,19 @@ def unit_of(ratios: Iterable[Ratio], as_fraction: bool = False) -> Unit:
 def in_unit(ratio: Ratio, unit: Unit) -> int:
     """A number as a multiple of the unit."""
     return ratio[0] * (unit.denominator // ratio[1])
+
+
+def of_floats(values: Collection[float]) -> Tuple[Dict[float, int], Unit]:
+    """The decimals that finite floats print as, as multiples of a unit that they have in common."""
+    texts = [repr(value) for value in values]
+    if "e" in "".join(texts):
+        ratios = [ratio_of(value, False) for value in values]
+        unit = unit_of(ratios)
+        return {value: in_unit(ratio, unit) for value, ratio in zip(values, ratios)}, unit
+    parts = [text.split(".") for text in texts]
+    decimals = max(0 if rest == "0" else len(rest) for _, rest in parts)
+    return {value: int((whole + rest.ljust(decimals, "0"))[:len(whole) + decimals])
+            for value, (whole, rest) in zip(values, parts)}, of_decimals(decimals)
 
 
 def total(ratios: Sequence[Ratio], as_fraction: bool) -> Number:

@@ -336,9 +336,9 @@ def no_worse(problem: AssignmentProblem, bound: Any) -> AssignmentProblem:
     if not numpy or problem.persons is not None:
         problem = listed(problem)
         return kept(problem, problem.costs.no_worse(bound, problem.maximize))
-    found = problem.costs.no_worse(bound, problem.maximize)
-    rows, columns = found.reshape(problem.n_rows, problem.n_columns).nonzero()
-    return problem._replace(costs=problem.costs.at(found), persons=(rows + 1).astype(numpy.uint32),
+    places = numpy.flatnonzero(problem.costs.no_worse(bound, problem.maximize))
+    rows, columns = numpy.divmod(places, max(problem.n_columns, 1))
+    return problem._replace(costs=problem.costs.at(places), persons=(rows + 1).astype(numpy.uint32),
                             objects=(columns + 1).astype(numpy.uint32))
 
 

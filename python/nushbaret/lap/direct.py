@@ -10,19 +10,24 @@ import math
 import sys
 import time
 from array import array
-from typing import Any, Optional, Tuple
+from typing import Any, List, Optional, Tuple
 
 from ..costs import kinds, printing, reading
 from ..costs.naming import is_frame, labels_of
-from ..costs.numbers import of_decimals
+from ..costs.numbers import Number, of_decimals, of_floats
 from ..costs.problem import AssignmentProblem
+from ..costs.source import Source
 from . import library, proved
+from .ranking import in_exact_order, sure
 
 NAME = printing.EXTENSION
 FILE = "_extension.abi3.so"
 # What the extension calls.
 EXPORTS = ("nushbaret_doubles", "nushbaret_check_doubles", "nushbaret_dense_from", "nushbaret_sparse_from",
-           "nushbaret_check", "nushbaret_ranked")
+           "nushbaret_check", "nushbaret_ranked", "nushbaret_unique", "nushbaret_next", "nushbaret_bottleneck")
+# What it is asked of a matrix: a best plan, the first ones, one of the best worst pair; and of a plan, whether it is
+# the only best one, and which is the next.
+BEST, FIRST, WORST, ONLY, NEXT = range(5)
 
 
 def extension() -> Any:
@@ -87,18 +92,21 @@ def end_of(timeout: Optional[float]) -> Optional[float]:
     return time.monotonic() + timeout if type(timeout) in (int, float) and 0 < timeout < 10**9 else None
 
 
-def found(costs: Any, maximize: bool, end: float = math.inf) -> Optional[proved.ResultParts]:
+def _said(costs: Any, *question: Any) -> Any:
+    """What the extension says of a matrix; None where the longer way is to be taken."""
+    held = extension()
+    matrix = costs if type(costs) is list else _matrix(costs)
+    return None if held is None or matrix is None else held.found(matrix, *question)
+
+
+def found(costs: Any, maximize: bool, end: float = math.inf, question: int = BEST) -> Optional[proved.ResultParts]:
     """What a result is made of, for a small array, a frame or a list of rows, where floats are the decimals that they
     print as; None where the longer way is to be taken."""
-    held = extension()
-    if held is None:
-        return None
-    is_list = type(costs) is list
-    matrix = costs if is_list else _matrix(costs)
-    answer = None if matrix is None else held.found(matrix, maximize, end)
+    answer = _said(costs, maximize, end, question)
     if answer is None:
         return None
     own, _, _, _, decimals = answer[1]
+    is_list = type(costs) is list
     if is_list and decimals < 0 and not _is_long(own[0]):
         return None
     n_rows, n_columns = (len(costs), len(costs[0])) if is_list else costs.shape
@@ -109,21 +117,66 @@ def found(costs: Any, maximize: bool, end: float = math.inf) -> Optional[proved.
 def first_plans(costs: Any, maximize: bool, count: int) -> Optional[Tuple[Any, ...]]:
     """Rows, the columns of so many first plans at most, what each costs, and the labels of a frame, of a matrix of no
     more rows than columns; None where the longer way is to be taken."""
-    held = extension()
-    matrix = costs if type(costs) is list else _matrix(costs)
-    if held is None or matrix is None:
-        return None
-    answer = held.found(matrix, maximize, math.inf, count, library.ARC_SCANS_FOR_NEXT)
+    answer = _said(costs, maximize, math.inf, FIRST, count, library.ARC_SCANS_FOR_NEXT)
     if answer is None:
         return None
-    rows, columns, totals, decimals = answer
-    shown = of_decimals(decimals).shown
-    return rows, columns, [*map(shown, totals)], None if type(costs) is list else labels_of(costs)
+    is_list = type(costs) is list
+    labels = None if is_list else labels_of(costs)
+    if len(answer) == 4:
+        rows, columns, totals, decimals = answer
+        return rows, columns, [*map(of_decimals(decimals).shown, totals)], labels
+    found = None if is_list and not _is_long(answer[1][2][0]) else plans_of_doubles(answer, maximize, count)
+    if found is None:
+        return None
+    rows, plans = answer[0][0], [columns for columns, _ in found]
+    return (rows, plans if type(rows) is list else reading.numpy_of(rows).array(plans, "intp"),
+            [cost for _, cost in found], labels)
 
 
-def _parts(n_rows: int, n_columns: int, maximize: bool, answer: Any, labels: Any = None) -> proved.ResultParts:
+def plans_of_doubles(answer: Any, maximize: bool, count: int) -> Optional[List[Tuple[List[int], Number]]]:
+    """The columns and exact costs of the first plans of doubles, so many or all, by an answer of the extension; None
+    where it isn't sure that these are the first ones."""
+    (_, columns, totals, _), (is_all, shift, own) = answer
+    held = columns if type(columns) is list else columns.tolist()
+    plans = in_exact_order(held, own, *of_floats(set(own)), maximize, count)
+    first = sure(plans, totals, is_all, shift, maximize, count)
+    sign = -1 if maximize else 1
+    return None if first is None else [(plan.columns, plan.unit.shown(sign * plan.cost)) for plan in first]
+
+
+def from_earlier(costs: Any, maximize: bool, decimals: int, plan: Optional[Tuple[Any, Any]],
+                 labels: Any) -> Optional[proved.ResultParts]:
+    """What a result is made of, for an array of whole numbers of a decimal unit; the search begins at objects and
+    prices of an earlier plan, if there is one. None where the longer way is to be taken."""
+    begun = () if plan is None else (_as_bytes(len(costs), *plan, None, 0),)
+    answer = _said(costs, maximize, math.inf, BEST, 0, 0, *begun)
+    n_rows, n_columns = costs.shape
+    return None if answer is None else _parts(n_rows, n_columns, maximize, answer, labels, decimals)
+
+
+def about(question: int, source: Source, shape: AssignmentProblem, best: proved.Assignment, paid: List[Any]) -> Any:
+    """What the library says of a plan of a matrix as its costs are now; None where the longer way is to be taken."""
+    plain = Source(source.costs, None, None, None, reading.Manner(shape.maximize))
+    if source.rows is not None or source[2:] != plain[2:]:
+        return None
+    if not isinstance(best.objects, array) or not isinstance(best.prices, (array, type(None))):
+        return None
+    places = shape.unit.decimals if isinstance(shape.costs, kinds.AnyWholeNumbers) else -1
+    if places is None:
+        return None
+    plan = _as_bytes(shape.n_rows, best.objects, best.prices, paid, places)
+    return _said(source.costs, shape.maximize, math.inf, question, 0, library.ARC_SCANS_FOR_NEXT, plan)
+
+
+def _as_bytes(n_rows: int, objects: Any, prices: Any, paid: Any, places: int) -> Tuple[Any, ...]:
+    """A plan as the extension takes it."""
+    return n_rows, objects.tobytes(), b"" if prices is None else prices.tobytes(), paid, places
+
+
+def _parts(n_rows: int, n_columns: int, maximize: bool, answer: Any, labels: Any = None,
+           places: int = 0) -> proved.ResultParts:
     (rows, columns), (own, objects, prices, total, decimals) = answer
-    kind = kinds.shape(None if decimals < 0 else decimals)
+    kind = kinds.shape(None if decimals < 0 else decimals or places)
     shape = AssignmentProblem(n_rows, n_columns, maximize, kind, labels=labels)
     n, m = sorted((n_rows, n_columns))
     best = proved.Assignment(n, m, total, array("I", objects), None if prices is None else array("q", prices))

@@ -296,11 +296,17 @@ def first_by_rounded(problem: AssignmentProblem, wanted: int) -> Optional[List[R
     code, objects, totals = proved.first_objects(whole, answer, wanted + _MORE)
     if code not in ("BEST", "ALONE"):
         return None
-    plans = _by_exact_costs(problem, [_columns_of(problem, objects[at:at + answer.n])
-                                      for at in range(0, len(objects), answer.n)])
+    plans = [_columns_of(problem, objects[at:at + answer.n]) for at in range(0, len(objects), answer.n)]
+    return sure(_by_exact_costs(problem, plans, wanted), totals, code == "ALONE", shift, problem.maximize, wanted)
+
+
+def sure(plans: List[RankedPlan], totals: Sequence[int], is_all: bool, shift: int, maximize: bool,
+         wanted: int) -> Optional[List[RankedPlan]]:
+    """The first of some plans in order, so many or all, which were listed by costs times 2**shift that are rounded, at
+    these totals; None where those that aren't listed may be before one of these."""
     # Each rounded cost is less than one off.
-    least = (-totals[-1] if problem.maximize else totals[-1]) - answer.n
-    if code == "BEST" and Fraction(plans[wanted - 1].cost, plans[0].unit.denominator) * Fraction(2)**shift >= least:
+    least = (-totals[-1] if maximize else totals[-1]) - len(plans[0].columns)
+    if not is_all and Fraction(plans[wanted - 1].cost, plans[0].unit.denominator) * Fraction(2)**shift >= least:
         return None
     return plans[:wanted]
 
@@ -315,16 +321,28 @@ def _columns_of(problem: AssignmentProblem, objects: Any) -> List[int]:
     return columns
 
 
-def _by_exact_costs(problem: AssignmentProblem, plans: List[List[int]]) -> List[RankedPlan]:
-    """Plans of a matrix in order, by their exact costs."""
-    n_columns, sign = problem.n_columns, -1 if problem.maximize else 1
-    places = [[row * n_columns + column for row, column in enumerate(columns) if column < n_columns]
-              for columns in plans]
-    used = sorted(set().union(*places))
+def _by_exact_costs(problem: AssignmentProblem, plans: List[List[int]], wanted: int) -> List[RankedPlan]:
+    """The first of some plans of a matrix, by their exact costs."""
+    n_columns = problem.n_columns
+    places = [row * n_columns + column for columns in plans for row, column in enumerate(columns)
+              if column < n_columns]
+    used, fractions = sorted(set(places)), problem.costs.fractions
     ratios = problem.costs.ratios(problem.costs.at(used).listed())
-    unit = unit_of({(1, denominator) for _, denominator in ratios}, problem.costs.fractions)
-    costs = {place: sign * in_unit(ratio, unit) for place, ratio in zip(used, ratios)}
-    return sorted(RankedPlan(sum(map(costs.__getitem__, own)), columns, unit) for own, columns in zip(places, plans))
+    unit = unit_of({(1, denominator) for _, denominator in ratios}, fractions)
+    exact = {place: in_unit(ratio, unit) for place, ratio in zip(used, ratios)}
+    return in_exact_order(plans, places, exact, unit, problem.maximize, wanted)
+
+
+def in_exact_order(plans: List[List[int]], pairs: Sequence[Any], exact: Dict[Any, int], unit: Unit, maximize: bool,
+                   wanted: int) -> List[RankedPlan]:
+    """The first of some plans, so many or all, by the exact costs of their pairs, which stand plan by plan, in the unit
+    of these first ones."""
+    own, count, sign = [*map(exact.__getitem__, pairs)], len(pairs) // len(plans), -1 if maximize else 1
+    starts = range(0, len(own), count)
+    order = sorted((sign * sum(own[at:at + count]), columns, at) for at, columns in zip(starts, plans))[:wanted]
+    times = math.gcd(unit.denominator, *{cost for _, _, at in order for cost in own[at:at + count]})
+    shown = unit_of([(1, unit.denominator // times)], unit.decimals is None)
+    return [RankedPlan(cost * shown.denominator // unit.denominator, columns, shown) for cost, columns, _ in order]
 
 
 # The pairs of small reduced cost, by doubles.

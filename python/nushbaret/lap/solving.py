@@ -3,6 +3,7 @@ from array import array
 from typing import Any, List, NamedTuple, Optional, Tuple, Union
 
 from ..costs.kinds import WholeNumbers
+from ..costs.limits import Numbers
 from ..costs.problem import AssignmentProblem, costs_of_pairs
 from . import doubles, levels, library, proved
 from .matching import most_assigned
@@ -40,20 +41,21 @@ def most(problem: AssignmentProblem, start: Began) -> proved.Assignment:
     return answer
 
 
-def worst_needed(problem: AssignmentProblem, assigned: int) -> Any:
-    """The cost of the worst pair in a plan of so many pairs whose worst pair is as good as possible. The library proves
-    that each plan of so many pairs has one as bad."""
+def worst_needed(problem: AssignmentProblem, assigned: int) -> Tuple[Any, Numbers]:
+    """The cost of the worst pair in a plan of so many pairs whose worst pair is as good as possible, and the objects of
+    one. The library proves that each plan of so many pairs has a pair as bad."""
     found = None if problem.costs.of_64_bits() is None else _worst(problem, assigned)
     if found is not None:
         return found
     # Only the order of costs matters.
     values, ranks = _ranks(problem)
-    place = _worst(problem._replace(costs=WholeNumbers(ranks, numpy=problem.numpy)), assigned)
-    assert place is not None, "places of costs are in the library's range"
-    return values[place]
+    found = _worst(problem._replace(costs=WholeNumbers(ranks, numpy=problem.numpy)), assigned)
+    assert found is not None, "places of costs are in the library's range"
+    place, objects = found
+    return values[place], objects
 
 
-def _worst(problem: AssignmentProblem, assigned: int) -> Optional[int]:
+def _worst(problem: AssignmentProblem, assigned: int) -> Optional[Tuple[int, Numbers]]:
     """The same by the library; None where a cost is beyond its range. Staying out costs as much as the best pair."""
     out = 0
     if assigned < min(problem.n_rows, problem.n_columns):
@@ -64,7 +66,7 @@ def _worst(problem: AssignmentProblem, assigned: int) -> Optional[int]:
                                     written)
     if code not in ("BEST", "COST"):
         proved.refuse(code, info)
-    return info.total if code == "BEST" else None
+    return (info.total, written[0]) if code == "BEST" else None
 
 
 def _ranks(problem: AssignmentProblem) -> Tuple[Any, Any]:

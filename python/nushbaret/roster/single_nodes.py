@@ -10,12 +10,13 @@ from array import array
 from bisect import bisect_right
 from itertools import compress
 from operator import add
-from typing import Any, Collection, Dict, Iterator, List, NamedTuple, Optional, Sequence, Set, Tuple
+from typing import Any, Collection, Dict, Iterable, Iterator, List, NamedTuple, Optional, Sequence, Set, Tuple
 
 from ..costs.kinds import WholeNumbers
-from ..costs.limits import GREATEST_COST, Numbers, TooLarge
+from ..costs.limits import GREATEST_COST, GREATEST_PRICE, Numbers, TooLarge
 from ..costs.problem import AssignmentProblem, of_whole_numbers
 from ..counts.exchanges import strong_parts
+from ..lap import library
 from ..lap.solving import BestPlan, best_plan
 
 Pair = Tuple[int, int]
@@ -32,6 +33,10 @@ class Edges(Sequence[Pair]):
 
     def __iter__(self) -> Iterator[Pair]:
         return zip(self._rows, self._columns)
+
+    def at(self, edges: Sequence[int]) -> Iterator[Pair]:
+        """The pairs of some edges."""
+        return zip(map(self._rows.__getitem__, edges), map(self._columns.__getitem__, edges))
 
     def __getitem__(self, edge: Any) -> Any:
         return self._rows[edge], self._columns[edge]
@@ -111,19 +116,39 @@ def face_of(nodes: RosterNodes, costs: Numbers, best: BestPlan, rents: List[int]
     """All plans as good as a best one for these costs, which are to be least, and for the rents that prove it."""
     without, unused = (sorted(set(range(len(side))).difference(own)) for side, own in (
         (nodes.of_rows, best.rows), (nodes.of_columns, best.columns)))
+    least, own = _tight_by_library(nodes, costs, rents) or _tight(nodes, costs, rents)
+    out = [least[row] for row in without]
+    bound = min((cost for cost in out if cost is not None), default=None)
+    tight = [edge for row, edge in own if bound is None or least[row] <= bound]
+    some_out = len(without) > 0
+    rows = [row for row, cost in enumerate(least) if some_out and (cost is None or bound is None or cost >= bound)]
+    spare = len(unused) > 0
+    return Face(tight, rows, [column for column in range(len(nodes.of_columns)) if spare and rents[column] == 0])
+
+
+Tight = Tuple[List[Any], Iterable[Tuple[int, int]]]
+
+
+def _tight_by_library(nodes: RosterNodes, costs: Numbers, rents: List[int]) -> Optional[Tight]:
+    """What `_tight` finds, where the nodes are a whole matrix whose numbers are in the library's range; else None."""
+    n, m = len(nodes.of_rows), len(nodes.of_columns)
+    if not nodes.is_full or not n * m or max(rents) > GREATEST_PRICE:
+        return None
+    found = library.tight_pairs(n, m, costs, array("q", rents))
+    if found is None:
+        return None
+    least, rows, columns = found
+    return least.tolist(), ((row - 1, (row - 1) * m + column - 1) for row, column in zip(rows, columns))
+
+
+def _tight(nodes: RosterNodes, costs: Numbers, rents: List[int]) -> Tight:
+    """The least that each row pays, None where it has no edge, and rows and edges that pay it, rows rising."""
     least: List[Optional[int]] = [None] * len(nodes.of_rows)
     lowest: List[List[int]] = [[] for _ in nodes.of_rows]
     for row, edges, paid in _paid(nodes, costs, rents):
         low = least[row] = min(paid)
         lowest[row] = list(compress(edges, map(low.__eq__, paid))) if paid.count(low) > 1 else [edges[paid.index(low)]]
-    out = [least[row] for row in without]
-    bound = min((cost for cost in out if cost is not None), default=None)
-    tight = [edge for low, own in zip(least, lowest) if low is not None and (bound is None or low <= bound)
-             for edge in own]
-    some_out = len(without) > 0
-    rows = [row for row, cost in enumerate(least) if some_out and (cost is None or bound is None or cost >= bound)]
-    spare = len(unused) > 0
-    return Face(tight, rows, [column for column in range(len(nodes.of_columns)) if spare and rents[column] == 0])
+    return least, ((row, edge) for row, own in enumerate(lowest) for edge in own)
 
 
 def _paid(nodes: RosterNodes, costs: Numbers, rents: List[int]) -> Iterator[Tuple[int, Sequence[int], List[int]]]:
@@ -147,14 +172,12 @@ def fewest_changes(nodes: RosterNodes, face: Face, count: int, kept: Collection[
     """The pairs of a plan of the face, each of which has so many, with the fewest pairs that aren't kept.
 
     All pairs of the face cost a change or nothing, and who may not stay out is worth more than all changes."""
-    step = count + 1
-    rows, columns, changes = array("q"), array("q"), array("q")
-    out_rows, out_columns = set(face.rows), set(face.columns)
-    for edge in face.edges:
-        row, column = nodes.rows[edge], nodes.columns[edge]
-        rows.append(row)
-        columns.append(column)
-        changes.append((nodes.edges[edge] not in kept) - step * ((row not in out_rows) + (column not in out_columns)))
+    step, out_rows, out_columns = count + 1, set(face.rows), set(face.columns)
+    of_row = [0 if row in out_rows else step for row in range(len(nodes.of_rows))]
+    of_column = [0 if column in out_columns else step for column in range(len(nodes.of_columns))]
+    rows, columns = (array("q", map(side.__getitem__, face.edges)) for side in (nodes.rows, nodes.columns))
+    changes = array("q", [(pair not in kept) - of_row[row] - of_column[column]
+                          for pair, row, column in zip(nodes.edges.at(face.edges), rows, columns)])
     best = best_plan(of_whole_numbers(len(nodes.of_rows), len(nodes.of_columns), rows, columns, changes), True)
     return [] if best is None else nodes.pairs(best.rows, best.columns)
 
@@ -197,7 +220,7 @@ def _parts_of(nodes: RosterNodes, face: Face, chosen: List[Pair]) -> Tuple[Set[P
     out = first_object + max(nodes.of_columns, default=0) + 1
     leads: List[List[int]] = [[] for _ in range(out + 2)]
     own = set(chosen)
-    pairs = {nodes.edges[edge] for edge in face.edges}
+    pairs = set(nodes.edges.at(face.edges))
     for person, object_ in pairs:
         begin, end = (first_object + object_, person) if (person, object_) in own else (person, first_object + object_)
         leads[begin].append(end)

@@ -305,7 +305,7 @@ class Rows(unittest.TestCase):
                 assigner.update(row, costs[row])
 
     def test_plans_at_equal_prices(self):
-        begun, none, same = _assigner.library._begun, array("q", bytes(160)), array("q", [1] * 20)
+        begun, none, same = _assigner.library.begun, array("q", bytes(160)), array("q", [1] * 20)
         self.assertEqual(begun(none, array("I", range(20))), same)
         self.assertIs(begun(none, array("I", [0, 0, *range(1, 19)])), none)
         self.assertIs(begun(same, array("I", range(20))), same)

@@ -1,5 +1,6 @@
 """The extension module: what it reads, what it leaves to the longer way, and that it keeps nothing and survives refused
 memory."""
+import contextlib
 import gc
 import importlib.machinery
 import importlib.util
@@ -12,6 +13,7 @@ import subprocess
 import sys
 import threading
 import unittest
+from array import array
 from concurrent.futures import ThreadPoolExecutor
 from fractions import Fraction
 from unittest import mock
@@ -27,7 +29,7 @@ if np:
 
 LONGER = object()
 # No end, and so many first plans with so many arc scans.
-PLANS = math.inf, 3, 10**6
+PLANS = math.inf, direct.FIRST, 3, 10**6
 
 
 def is_near(costs, rows, columns):
@@ -428,14 +430,122 @@ def forms():
     return held
 
 
+def questions(module, costs):
+    """The questions about a matrix, each as a call, with the plan that is found now, if one is."""
+    plan = plan_found(module, costs)
+    asked = [lambda: module.found(costs, False, *PLANS), lambda: module.found(costs, False, math.inf, direct.WORST)]
+    for question in (direct.BEST, direct.ONLY, direct.NEXT) if plan else ():
+        asked.append(lambda question=question: module.found(costs, False, math.inf, question, 0, 10**6, plan))
+    return asked
+
+
+def plan_found(module, costs):
+    """A best plan as the extension takes it; None where it finds none."""
+    answer = module.found(costs, False)
+    if answer is None:
+        return None
+    (rows, _), (own, objects, prices, _, places) = answer
+    n_rows = len(costs) if type(costs) is list else costs.shape[0]
+    return n_rows, objects, prices or b"", own, places
+
+
+@unittest.skipUnless(extension(), "the extension isn't there, or the library has no calls for doubles")
+class Questions(unittest.TestCase):
+    def same(self, costs, maximize):
+        """Each question has the same answer by the longer way, and types are the same."""
+        said = []
+        for way in contextlib.nullcontext(), by_the_longer_way():
+            with way:
+                result, fair = nushbaret.solve(costs, maximize), nushbaret.bottleneck(costs, maximize)
+                other, plans = result.next_best(), list(nushbaret.k_best(costs, 4, maximize))
+                self.assertNotEqual(other and other.pairs, result.pairs)
+                said.append((result.is_unique(), other and other.cost, other and type(other.rows), fair.cost,
+                             fair.is_unique(), bool(fair.verdict), [(plan.cost, [*plan.columns]) for plan in plans]))
+        self.assertEqual(*said)
+
+    def test_by_either_way(self):
+        draw = drawing(311)
+        for turn in range(60):
+            n, m = draw.randint(1, 5), draw.randint(1, 5)
+            number = (lambda: draw.randint(0, 9), lambda: draw.randint(0, 90) / 10, draw.random)[turn % 3]
+            costs = [[number() for _ in range(m)] for _ in range(n)]
+            self.same(costs, turn % 2 == 0)
+            if np:
+                self.same(np.array(costs), turn % 2 == 0)
+                self.same(np.asfortranarray(np.array(costs).astype(("i4", "f8", "f4")[turn % 3])), turn % 2 == 1)
+            if pd and turn % 5 == 0:
+                self.same(pd.DataFrame(costs), turn % 2 == 0)
+
+    def test_they_are_asked(self):
+        """None of these takes the longer way."""
+        forms = [[[4, 1, 7], [2, 3, 9]], [[4.5, 1.25], [2.0, 3.75], [9.0, 8.0]]]
+        forms += [np.array(form) for form in forms] if np else []
+        for costs in forms:
+            with mock.patch("nushbaret.api.solved.SolvedProblem.read_again", side_effect=AssertionError), \
+                    mock.patch("nushbaret.costs.source.Source.read", side_effect=AssertionError):
+                result = nushbaret.solve(costs)
+                self.assertTrue(result.is_unique())
+                self.assertGreater(result.next_best().cost, result.cost)
+                nushbaret.bottleneck(costs)
+
+    def test_changed_costs(self):
+        """What was changed after the call is refused in the same words."""
+        for change in (lambda costs: costs[0].__setitem__(1, 2), lambda costs: costs[1].__setitem__(1, -50),
+                       lambda costs: costs.append([0, 0, 0]), lambda costs: costs[0].__setitem__(0, None)):
+            for ask in nushbaret.Result.is_unique, nushbaret.Result.next_best:
+                said = []
+                for way in contextlib.nullcontext(), by_the_longer_way():
+                    costs = [[4, 1, 7], [2, 3, 9]]
+                    with way:
+                        result = nushbaret.solve(costs)
+                        change(costs)
+                        try:
+                            said.append(ask(result))
+                        except ValueError as fault:
+                            said.append(str(fault))
+                self.assertEqual(*said)
+
+    def test_other_plans_are_left(self):
+        """A plan of another matrix, or with objects that aren't there, is nothing that is answered."""
+        module, _ = another()
+        costs = [[4, 1, 7], [2, 3, 9]]
+        n_rows, objects, prices, own, places = plan_found(module, costs)
+        beyond, nobody = array("I", [2, 4]).tobytes(), array("I", [2, 0]).tobytes()
+        for plan in ((3, objects, prices, own, places), (n_rows, objects[:4], prices, own, places),
+                     (n_rows, objects, prices[:8], own, places), (n_rows, objects, prices * 2, own, places),
+                     (n_rows, beyond, prices, own, places), (n_rows, nobody, prices, own, places),
+                     (n_rows, objects, b"", own, places), (n_rows, objects, prices, own, -1),
+                     (n_rows, objects, prices, [1, 3], places), (n_rows, objects, prices, None, places)):
+            for question in direct.ONLY, direct.NEXT:
+                self.assertIsNone(module.found(costs, False, math.inf, question, 0, 10**6, plan), plan)
+        for question in direct.ONLY, direct.NEXT, -1, 5, 99:
+            self.assertIsNone(module.found(costs, False, math.inf, question))
+        self.assertIsNone(module.found(costs, False, math.inf, direct.FIRST, 0, 10**6))
+
+    def test_begins_at_a_plan(self):
+        """The answer is as good from any plan and prices."""
+        module, _ = another()
+        draw = drawing(312)
+        for _ in range(100):
+            n, m = draw.randint(1, 6), draw.randint(1, 6)
+            costs = [[draw.randint(-9, 9) for _ in range(m)] for _ in range(n)]
+            least, most = sorted((n, m))
+            objects = draw.sample(range(1, most + 1), least)
+            objects[draw.randrange(least)] = 0
+            prices = array("q", [draw.randint(0, 9) for _ in range(most)])
+            answer = module.found(costs, False, math.inf, direct.BEST, 0, 0,
+                                  (n, array("I", objects).tobytes(), prices.tobytes(), None, 0))
+            self.assertEqual(answer[1][3], module.found(costs, False)[1][3])
+
+
 @unittest.skipUnless(extension(), "the extension isn't there, or the library has no calls for doubles")
 class Kept(unittest.TestCase):
     def each_way(self, module, call):
         for costs in forms():
             call(costs)
             call(costs, maximize=True)
-            module.found(costs, False)
-            module.found(costs, False, *PLANS)
+            for ask in questions(module, costs):
+                ask()
 
     def test_references(self):
         """No object is kept or let go once too often."""
@@ -452,7 +562,8 @@ class Kept(unittest.TestCase):
                 call(costs)
                 call(costs, maximize=False)
                 module.found(costs, True)
-                module.found(costs, True, *PLANS)
+                for ask in questions(module, costs):
+                    ask()
             after = [sys.getrefcount(value) for value in watched]
             self.assertLess(max(abs(last - first) for first, last in zip(before, after)), 25, costs)
 
@@ -493,7 +604,7 @@ class Kept(unittest.TestCase):
 
 REFUSED = """
 import sys
-from lap.test_extension import PLANS, another, forms
+from lap.test_extension import another, forms, questions
 import _testcapi
 module, call = another()
 held = forms()
@@ -502,9 +613,9 @@ for costs in held:
 refused = 0
 for costs in held:
     for run in (lambda: call(costs), lambda: call(costs, maximize=True), lambda: module.found(costs, False),
-                lambda: module.found(costs, False, *PLANS)):
+                *questions(module, costs)):
         wanted = run()
-        for number in range(200):
+        for number in range(320):
             _testcapi.set_nomemory(number, number + 1)
             try:
                 answer = run()
