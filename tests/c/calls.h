@@ -36,6 +36,31 @@ extern __thread long growths, refuse_at, blocks;
         WANT(k > (fewest)); \
     } while (0)
 
+/* Puts back what an answer wrote: a plan's objects and prices, or the numbers of a Hall set and how many they are. */
+#define PUT_BACK(now, before, code) \
+    do { \
+        if ((code) == NUSHBARET_BEST) { \
+            memcpy((now)->objects, (before)->objects, sizeof (now)->objects); \
+            memcpy((now)->prices, (before)->prices, sizeof (now)->prices); \
+        } \
+        if ((code) == NUSHBARET_HALL) { \
+            memcpy((now)->objects, (before)->objects, (now)->info.objects * sizeof *(now)->objects); \
+            memcpy((now)->persons, (before)->persons, (now)->info.persons * sizeof *(now)->persons); \
+            (now)->info.persons = (before)->info.persons, (now)->info.objects = (before)->info.objects; \
+        } \
+    } while (0)
+
+/* A number of 128 bits in one and in two words. */
+__extension__ typedef __int128 wide;
+
+static inline wide value_of(struct nushbaret_wide_number number) { return (wide)number.high * ((wide)1 << 64) + number.low; }
+
+static inline struct nushbaret_wide_number number_of(wide value) {
+    struct nushbaret_wide_number number;
+    number.low = (uint64_t)value, number.high = (int64_t)(value >> 64);
+    return number;
+}
+
 enum { MOST = 64, PAIRS = 256 };
 
 /* What a call reads and writes. `is_by_struct` sends it through the functions of the header that take structs, and

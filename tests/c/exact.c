@@ -6,8 +6,6 @@
 
 enum { ROWS = 5, COLUMNS = 6, ROOM = 30 };
 
-__extension__ typedef __int128 wide;
-
 /* What the calls read and write. */
 struct asked {
     uint32_t sense;
@@ -18,8 +16,6 @@ struct asked {
     uint32_t objects[ROWS], persons[ROWS];
     struct nushbaret_info info;
 };
-
-static wide value_of(struct nushbaret_wide_number number) { return (wide)number.high * ((wide)1 << 64) + number.low; }
 
 static int32_t ask(struct asked *a) {
     int32_t code = nushbaret_exact_doubles(a->sense, a->n, a->m, a->costs, a->n * a->m, a->objects, a->n, a->persons, a->n,
@@ -122,16 +118,8 @@ static wide sum_of(const struct asked *a, int unit) {
 static int stays(const struct asked *a, const struct asked *before, int32_t code) {
     struct asked now = *a;
     now.unit = code == NUSHBARET_BEST || code == NUSHBARET_HALL ? before->unit : now.unit;
-    if (code == NUSHBARET_BEST) {
-        memcpy(now.objects, before->objects, sizeof now.objects);
-        memcpy(now.prices, before->prices, sizeof now.prices);
-        now.total = before->total;
-    }
-    if (code == NUSHBARET_HALL) {
-        memcpy(now.objects, before->objects, a->info.objects * sizeof *now.objects);
-        memcpy(now.persons, before->persons, a->info.persons * sizeof *now.persons);
-        now.info.persons = before->info.persons, now.info.objects = before->info.objects;
-    }
+    PUT_BACK(&now, before, code);
+    if (code == NUSHBARET_BEST) now.total = before->total;
     if (code == NUSHBARET_COST) now.info.place = before->info.place;
     return memcmp(&now, before, sizeof now) == 0;
 }

@@ -58,16 +58,8 @@ static size_t changes_of(const struct asked *a) {
 /* Whether what the call left alone is as it was. */
 static int stays(const struct asked *a, const struct asked *before, int32_t code) {
     struct asked now = *a;
-    if (code == NUSHBARET_BEST) {
-        memcpy(now.objects, before->objects, sizeof now.objects);
-        memcpy(now.prices, before->prices, sizeof now.prices);
-        now.changed = before->changed, now.info.total = before->info.total;
-    }
-    if (code == NUSHBARET_HALL) {
-        memcpy(now.objects, before->objects, a->info.objects * sizeof *now.objects);
-        memcpy(now.persons, before->persons, a->info.persons * sizeof *now.persons);
-        now.info.persons = before->info.persons, now.info.objects = before->info.objects;
-    }
+    PUT_BACK(&now, before, code);
+    if (code == NUSHBARET_BEST) now.changed = before->changed, now.info.total = before->info.total;
     return memcmp(&now, before, sizeof now) == 0;
 }
 
@@ -79,7 +71,7 @@ static int is_proved(struct asked *a) {
     for (k = 0; k < a->pairs; k++) {
         const int64_t change = a->of_objects[k] != a->kept[a->of_persons[k] - 1];
         const int64_t cost = (int64_t)(a->n + 1) * a->costs[k] + (a->sense == NUSHBARET_MIN ? change : -change);
-        combined[k].low = (uint64_t)cost, combined[k].high = cost < 0 ? -1 : 0;
+        combined[k] = number_of(cost);
     }
     return nushbaret_check_wide(a->sense, a->n, a->m, a->of_persons, pairs, a->of_objects, pairs, combined, a->pairs, a->objects,
         a->n, a->prices, a->m, &a->info) == NUSHBARET_BEST;

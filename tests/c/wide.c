@@ -4,8 +4,6 @@
 
 enum { ROWS = 6, COLUMNS = 7, ROOM = 60 };
 
-__extension__ typedef __int128 wide;
-
 /* What the calls read and write. */
 struct asked {
     uint32_t sense;
@@ -15,14 +13,6 @@ struct asked {
     uint32_t of_persons[ROOM], of_objects[ROOM], objects[ROWS], persons[ROWS];
     struct nushbaret_info info;
 };
-
-static struct nushbaret_wide_number number_of(wide value) {
-    struct nushbaret_wide_number number;
-    number.low = (uint64_t)value, number.high = (int64_t)(value >> 64);
-    return number;
-}
-
-static wide value_of(struct nushbaret_wide_number number) { return (wide)number.high * ((wide)1 << 64) + number.low; }
 
 static int32_t ask(struct asked *a) {
     const size_t pairs = a->is_sparse ? a->pairs : 0;
@@ -57,16 +47,8 @@ static wide least_sum(const struct asked *a, size_t i, unsigned used) {
 /* Whether what the call left alone is as it was. */
 static int stays(const struct asked *a, const struct asked *before, int32_t code) {
     struct asked now = *a;
-    if (code == NUSHBARET_BEST) {
-        memcpy(now.objects, before->objects, sizeof now.objects);
-        memcpy(now.prices, before->prices, sizeof now.prices);
-        now.total = before->total;
-    }
-    if (code == NUSHBARET_HALL) {
-        memcpy(now.objects, before->objects, a->info.objects * sizeof *now.objects);
-        memcpy(now.persons, before->persons, a->info.persons * sizeof *now.persons);
-        now.info.persons = before->info.persons, now.info.objects = before->info.objects;
-    }
+    PUT_BACK(&now, before, code);
+    if (code == NUSHBARET_BEST) now.total = before->total;
     return memcmp(&now, before, sizeof now) == 0;
 }
 
