@@ -5,6 +5,7 @@
 
 mod auction;
 mod bids;
+mod capped;
 mod cheapest;
 mod copied;
 mod cores;
@@ -24,6 +25,7 @@ mod record;
 mod rows;
 mod settling;
 mod shortest;
+mod sorted;
 mod stages;
 mod tree;
 

@@ -7,6 +7,7 @@ use super::super::prices::{begin, begin_at_zero, cut};
 use super::super::reading::Reading;
 use super::super::record::Stage;
 use super::super::settling::settle_up_to;
+use super::super::sorted::take_in_order;
 use super::copying::is_middle;
 use super::{Step, Work};
 use std::alloc::{AllocError, Global};
@@ -16,6 +17,12 @@ const MIDDLE: usize = 1 << 19;
 
 // From first prices so many persons are assigned by searches alone.
 const FEW_UNASSIGNED: usize = 8;
+
+// Problems with fewer pairs aren't sorted: that is seldom of use, and takes a share of their time.
+const LEAST_SORTED: usize = 1 << 14;
+
+// Of nearly all persons one in so many has a better object than that at its place in an order.
+const NEARLY_ALL: usize = 32;
 
 // The first bids of a person. A core's are cheaper, and only large problems come to one.
 fn first_bids<R: Reading<i64>>(matrix: &Matrix<'_, i64, R>) -> usize {
@@ -55,6 +62,9 @@ impl<'a> Work<'a> {
                 return Ok(step);
             }
         }
+        if self.is_in_order(alloc, matrix)? {
+            return Ok(self.begin_paths());
+        }
         self.market.release_all();
         let arc_scans = begin(matrix, self.market.prices);
         self.arc_scans.add(arc_scans);
@@ -64,6 +74,24 @@ impl<'a> Work<'a> {
             self.arc_scans.add(take_cheapest(matrix, &mut self.market));
         }
         Ok(self.begin_paths())
+    }
+
+    // Lets sorted persons take sorted objects. Returns whether that is right for nearly all of them.
+    fn is_in_order<R: Reading<i64>>(
+        &mut self,
+        alloc: Global,
+        matrix: &Matrix<'_, i64, R>,
+    ) -> Result<bool, AllocError> {
+        let may_sort = matrix.persons == matrix.objects && matrix.pairs() >= LEAST_SORTED;
+        if !may_sort || !take_in_order(alloc, matrix, &mut self.market)? {
+            return Ok(false);
+        }
+        begin_at_zero(self.market.prices);
+        cut(self.market.prices);
+        let most = matrix.persons / NEARLY_ALL;
+        let (arc_scans, is_settled) = settle_up_to(matrix, &mut self.market, most);
+        self.arc_scans.add(arc_scans);
+        Ok(is_settled)
     }
 
     fn begin_paths(&mut self) -> Step {

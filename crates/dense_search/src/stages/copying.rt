@@ -1,4 +1,5 @@
 // Searches over a copy of the costs in 32 bits.
+use super::super::capped::capped_costs;
 use super::super::copied::{search_copy, search_market};
 use super::super::matrix::Matrix;
 use super::super::narrow::{narrow_costs, narrow_prices, widen};
@@ -41,7 +42,11 @@ impl<'a> Work<'a> {
         match ended {
             Ended::Assigned => Ok(Some(self.lower(alloc, matrix)?)),
             Ended::Stopped => Ok(Some(Step::End(Outcome::Stopped))),
-            Ended::Long | Ended::Near | Ended::Blocked => {
+            Ended::Near => {
+                self.record.passes = 0;
+                Ok(Some(Step::To(Stage::Retry)))
+            }
+            Ended::Long | Ended::Blocked => {
                 self.record = before;
                 Ok(None)
             }
@@ -65,8 +70,28 @@ impl<'a> Work<'a> {
                 let copy = matrix.over(costs.as_slice());
                 Ok(Some(self.search_narrow(alloc, &copy)?))
             }
-            None => Ok(None),
+            None => self.search_capped(alloc, matrix),
         }
+    }
+
+    // Searches over a copy in which costs far above all others are cut. If a person's own is one of
+    // these, searches over all costs follow.
+    fn search_capped<R: Reading<i64>>(
+        &mut self,
+        alloc: Global,
+        matrix: &Matrix<'_, i64, R>,
+    ) -> Result<Option<Ended>, AllocError> {
+        let Some(capped) = capped_costs(alloc, matrix)? else {
+            return Ok(None);
+        };
+        let copy = matrix.over(capped.costs.as_slice());
+        let ended = self.search_narrow(alloc, &copy)?;
+        if let Ended::Assigned = ended {
+            if capped.is_cut(matrix, &self.market) {
+                return Ok(Some(Ended::Near));
+            }
+        }
+        Ok(Some(ended))
     }
 
     fn search_narrow(

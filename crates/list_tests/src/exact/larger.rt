@@ -122,6 +122,45 @@ fn larger_dense_problems_are_solved(rt: HostRuntime) -> Result<(), Fail> {
     Ok(())
 }
 
+fn drawn_factors(alloc: Global, seed: &mut u64, n: u32) -> Result<Vec<Cost>, AllocError> {
+    let mut factors = Vec::new(alloc);
+    for _ in 0..n {
+        factors.push(Cost::from(draw(seed, 1_000_000)))?;
+    }
+    Ok(factors)
+}
+
+// Products of a person's number and an object's, cut to multiples of `unit`.
+fn products(alloc: Global, seed: &mut u64, turn: u32, n: u32) -> Result<Problem, AllocError> {
+    let mut problem = empty_problem(alloc, sense_of(turn), n, n, true);
+    let (rows, columns) = (
+        drawn_factors(alloc, seed, n)?,
+        drawn_factors(alloc, seed, n)?,
+    );
+    let unit = Cost::from(turn % 3).wrapping_mul(1_000_000);
+    for row in rows.as_slice() {
+        for column in columns.as_slice() {
+            let product = row.wrapping_mul(*column);
+            let above = product.checked_rem(unit).unwrap_or(0);
+            problem.costs.push(product.wrapping_sub(above))?;
+        }
+    }
+    Ok(problem)
+}
+
+// Persons and objects of these can be sorted, as the search tries.
+#[test]
+fn products_of_drawn_numbers_are_solved(rt: HostRuntime) -> Result<(), Fail> {
+    let mut seed = 70;
+    for turn in 0..9 {
+        let n = draw(&mut seed, 60).wrapping_add(130);
+        let problem = products(rt.alloc(), &mut seed, turn, n)?;
+        let found = solve_twice(&rt, &problem, 100_000)?;
+        assert!(rt; matches!(found, Finding::Best(_)), "problem {turn}");
+    }
+    Ok(())
+}
+
 #[test]
 fn larger_sparse_problems_are_solved(rt: HostRuntime) -> Result<(), Fail> {
     let mut seed = 66;
