@@ -1,2 +1,3 @@
 mod Answering
 pub mod Fitting
+mod MendedPlans

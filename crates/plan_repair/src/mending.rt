@@ -16,7 +16,7 @@ fn assign(
         return Ok(false);
     };
     let mut search = Search::new(alloc, plan, ends.len() < persons_left)?;
-    let is_found = search.run(plan, person, ends.as_slice(), rows_left)?;
+    let is_found = search.run(alloc, plan, person, ends.as_slice(), rows_left)?;
     if is_found {
         search.change(plan);
     }

@@ -49,6 +49,9 @@ struct Tree {
     best: i64,
     // The distance up to which all objects are passed.
     level: i64,
+    // One end, and how far it is from the object of each person.
+    ahead: u32,
+    steps: Vec<i64>,
     // Whether any object without an owner is an end.
     takes_any: bool,
     // The distance of dummies, once they are reached, and the object at which they were.
@@ -73,6 +76,19 @@ impl Tree {
         known == Some(next.distance) && (self.dummies.is_none() || !plan.is_unowned(next.object))
     }
 
+    // The end ahead of a person whose object is reached bounds the search.
+    fn look_ahead(&mut self, person: u32, distance: i64) {
+        let Some(step) = self.steps.get(person as usize) else {
+            return;
+        };
+        let there = distance.wrapping_add(*step);
+        if there < self.best {
+            self.best = there;
+            self.end = self.ahead;
+            put(self.before.as_mut_slice(), self.ahead, person);
+        }
+    }
+
     // Reaches an object, if it is nearer than before.
     fn reach(
         &mut self,
@@ -89,6 +105,7 @@ impl Tree {
             _ => return Ok(()),
         }
         put(self.before.as_mut_slice(), object, from);
+        self.look_ahead(plan.owner(object), distance);
         if self.is_end(plan, object) {
             self.best = distance;
             self.end = object;
@@ -194,6 +211,8 @@ impl Search {
             end: NOBODY,
             best: FAR,
             level: i64::MIN,
+            ahead: NOBODY,
+            steps: Vec::new(alloc),
             takes_any,
             dummies: None,
             spare: NOBODY,
@@ -224,10 +243,20 @@ impl Search {
     }
 
     // Reads the row of the person where the path begins, or of the dummies.
-    fn begin(&mut self, plan: &Plan<'_>, person: u32, ends: &[u32]) -> Result<(), AllocError> {
+    fn begin(
+        &mut self,
+        alloc: Global,
+        plan: &Plan<'_>,
+        person: u32,
+        ends: &[u32],
+    ) -> Result<(), AllocError> {
         let keys = self.keys.as_slice();
         if person == DUMMY {
             return self.tree.scan_dummies(plan, keys, NOBODY, 0);
+        }
+        if let Some(end) = ends.first() {
+            self.tree.ahead = *end;
+            self.tree.steps = plan.steps_to(alloc, *end)?;
         }
         self.tree.look_at_ends(plan, person, ends)?;
         self.tree.scan_row(plan, keys, Scanned { person, base: 0 })
@@ -237,12 +266,13 @@ impl Search {
     /// whether one is found before so many rows are read, and counts these.
     pub fn run(
         &mut self,
+        alloc: Global,
         plan: &Plan<'_>,
         person: u32,
         ends: &[u32],
         left: &mut usize,
     ) -> Result<bool, AllocError> {
-        self.begin(plan, person, ends)?;
+        self.begin(alloc, plan, person, ends)?;
         let most = self.keys.len().saturating_mul(MOST_PUSHED);
         for taken in 0..most {
             let Some(next) = self.tree.heap.pop() else {

@@ -154,6 +154,17 @@ impl<'a> Plan<'a> {
         (greatest, count)
     }
 
+    // How far an object is from the own one of each person.
+    pub fn steps_to(&self, alloc: Global, object: u32) -> Result<Vec<Price>, AllocError> {
+        let mut steps = self.values(alloc)?;
+        let price = self.price(object);
+        for (person, step) in steps.iter_mut().enumerate() {
+            let sum = self.rows.cost(place_at(person), object).wrapping_add(price);
+            *step = sum.wrapping_sub(*step);
+        }
+        Ok(steps)
+    }
+
     // The price at which nobody leaves its object for one that lacks an owner, and somebody nearly does.
     pub fn settle_price(&mut self, object: u32) {
         let (bid, _) = self.greatest_bid(object);

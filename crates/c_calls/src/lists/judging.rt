@@ -28,8 +28,8 @@ fn first_fault(shape: Shape, input: &Input<'_>) -> Option<Fault>
     }
 }
 
-// The sense and the size if each list has its length, or else the first fault.
-fn shape_of(input: &Input<'_>) -> Result<Shape, Fault>
+/// The sense and the size if each list has its length, or else the first fault.
+pub fn shape_of(input: &Input<'_>) -> Result<Shape, Fault>
     ensures shape { IfOk result (IsShape input.now) }
     ensures fault { IfErr result (HasFault input.now) }
 {
