@@ -108,7 +108,7 @@
 extern "C" {
 #endif
 
-#define NUSHBARET_VERSION "5.9.0"
+#define NUSHBARET_VERSION "5.10.0"
 
 /* The sense: the least sum of costs, or the greatest. */
 #define NUSHBARET_MIN 0u
@@ -267,6 +267,30 @@ int32_t nushbaret_unique(uint32_t sense, size_t n, size_t m,
     const int64_t *prices, size_t prices_count,
     uint32_t *other, size_t other_count,
     int32_t *ranks, size_t ranks_count,
+    struct nushbaret_info *info);
+
+/* Who can change places at no cost: the groups of a best assignment's objects. The problem, its objects and their prices are
+   given as for nushbaret_check.
+
+   code                  written
+   NUSHBARET_BEST        groups: the number of each object's group
+   NUSHBARET_UNDECIDED   nothing: it is a best one, no more is shown (never seen)
+   any other             as in nushbaret_check
+
+   groups has m values; a person's group is that of its object. In some best assignment a person has a listed object exactly
+   where that is as good for it, at these prices, as its own, and both have the same number. An object whose number no other
+   has stays with its person, or with nobody, in each best assignment.
+   Two objects have the same number exactly where each reaches the other: from the object of a person to each other one that
+   is as good for the person; from each that nobody has to each whose price is 0.
+   The time is that of nushbaret_check, two to four times, and linear in the pairs that are as good as the own ones, for
+   which it takes 48 bytes each. */
+int32_t nushbaret_groups(uint32_t sense, size_t n, size_t m,
+    const uint32_t *of_persons, size_t of_persons_count,
+    const uint32_t *of_objects, size_t of_objects_count,
+    const int64_t *costs, size_t costs_count,
+    const uint32_t *objects, size_t objects_count,
+    const int64_t *prices, size_t prices_count,
+    uint32_t *groups, size_t groups_count,
     struct nushbaret_info *info);
 
 /* The next best assignment after a best one: of all others, one of the least cost (under NUSHBARET_MAX of the greatest).

@@ -164,6 +164,7 @@ int main(void) {
     test_blocks();
     test_double_blocks();
     test_plans();
+    test_groups();
     test_bottleneck();
     test_wide();
     test_exact();

@@ -113,6 +113,7 @@ void test_verdicts(void);
 void test_blocks(void);
 void test_double_blocks(void);
 void test_plans(void);
+void test_groups(void);
 void test_bottleneck(void);
 void test_wide(void);
 void test_exact(void);

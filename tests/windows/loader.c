@@ -153,6 +153,8 @@ CALL(int32_t, bottleneck, (uint32_t s, size_t n, size_t m, PAIRS, COSTS, uint32_
     (s, n, m, a, ac, b, bc, c, cc, o, oc, p, pc, q, qc, budget, record, info))
 CALL(int32_t, unique, (uint32_t s, size_t n, size_t m, PAIRS, COSTS, PLAN, uint32_t *other, size_t count, int32_t *r, size_t rc, INFO),
     (s, n, m, a, ac, b, bc, c, cc, o, oc, q, qc, other, count, r, rc, info))
+CALL(int32_t, groups, (uint32_t s, size_t n, size_t m, PAIRS, COSTS, PLAN, uint32_t *g, size_t gc, INFO),
+    (s, n, m, a, ac, b, bc, c, cc, o, oc, q, qc, g, gc, info))
 CALL(int32_t, next, (uint32_t s, size_t n, size_t m, PAIRS, COSTS, PLAN, uint64_t arc_scans, uint32_t *other, size_t count,
     int64_t *margin, INFO), (s, n, m, a, ac, b, bc, c, cc, o, oc, q, qc, arc_scans, other, count, margin, info))
 CALL(int32_t, ranked, (uint32_t s, size_t n, size_t m, PAIRS, COSTS, PLAN, uint64_t arc_scans, uint32_t *plans, size_t count,
@@ -161,9 +163,9 @@ CALL(int32_t, ranked, (uint32_t s, size_t n, size_t m, PAIRS, COSTS, PLAN, uint6
 CALL(int32_t, wide, (uint32_t s, size_t n, size_t m, PAIRS, const struct nushbaret_wide_number *c, size_t cc, uint32_t *o, size_t oc,
     uint32_t *p, size_t pc, struct nushbaret_wide_number *q, size_t qc, struct nushbaret_wide_number *total, INFO),
     (s, n, m, a, ac, b, bc, c, cc, o, oc, p, pc, q, qc, total, info))
-CALL(int32_t, block, (uint32_t s, size_t n, size_t m, PAIRS, COSTS, const uint32_t *o, size_t oc, const int64_t *k, size_t kc,
-    const int64_t *q, size_t qc, size_t most, int64_t *l, size_t lc, uint8_t *w, size_t wc, uint32_t *x, size_t xc, uint32_t *y, size_t yc,
-    int64_t *z, size_t zc, INFO), (s, n, m, a, ac, b, bc, c, cc, o, oc, k, kc, q, qc, most, l, lc, w, wc, x, xc, y, yc, z, zc, info))
+CALL(int32_t, fewest_changes, (uint32_t s, size_t n, size_t m, PAIRS, COSTS, const uint32_t *k, size_t kc, uint32_t *o, size_t oc,
+    uint32_t *p, size_t pc, struct nushbaret_wide_number *q, size_t qc, size_t *changed, INFO),
+    (s, n, m, a, ac, b, bc, c, cc, k, kc, o, oc, p, pc, q, qc, changed, info))
 CALL(int32_t, rows, (size_t n, const size_t *s, size_t sc, const uint32_t *v, size_t vc, COSTS, const int64_t *l, size_t lc,
     const int64_t *u, size_t uc, const uint8_t *p, size_t pc, const int64_t *t, size_t tc, struct nushbaret_rows_info *info),
     (n, s, sc, v, vc, c, cc, l, lc, u, uc, p, pc, t, tc, info))
@@ -183,7 +185,7 @@ __attribute__((constructor)) static void start(void) {
     relocate();
     protect();
     FOUND(dense), FOUND(dense_from), FOUND(sparse), FOUND(sparse_from);
-    FOUND(check), FOUND(check_hall), FOUND(bottleneck), FOUND(unique), FOUND(next), FOUND(ranked), FOUND(wide), FOUND(block), FOUND(rows);
-    FOUND(counts_from);
+    FOUND(check), FOUND(check_hall), FOUND(bottleneck), FOUND(unique), FOUND(groups), FOUND(next), FOUND(ranked), FOUND(wide), FOUND(rows);
+    FOUND(fewest_changes), FOUND(counts_from);
     FOUND(version);
 }

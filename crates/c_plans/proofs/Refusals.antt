@@ -3,6 +3,7 @@ use Rattle.std.proofs.Common.{◌≡◌, ℤ, pos, refl}
 use Rattle.c_calls.specs.declared.fault.Fault.TheVariants.{Memory}
 use Rattle.c_calls.specs.lists.Faults.{IsWhole}
 use Rattle.c_calls.specs.lists.Input.{InputLists}
+use Rattle.c_plans.specs.Groups.{AreGroupsRefused, GroupBuffers}
 use Rattle.c_plans.specs.Next.{IsNextRefused, NextBuffers}
 use Rattle.c_plans.specs.Ranked.{IsRankedRefused, RankedBuffers}
 use Rattle.c_plans.specs.Unique.{IsUniqueRefused, UniqueBuffers}
@@ -42,4 +43,16 @@ ranked_refused g before after code whole is plans totals found info = record {
   is = is;
   first = whole;
   stays = same_ranked after before plans totals found info;
+}
+
+same_groups : (a b : GroupBuffers) → a.groups ≡ b.groups → a.info ≡ b.info → a ≡ b
+same_groups a b groups info = rw (groups, info) refl
+
+pub groups_refused : (g : InputLists) (before after : GroupBuffers) (code : ℤ) → IsWhole g → code ≡ pos 9 →
+    after.groups ≡ before.groups → after.info ≡ before.info → AreGroupsRefused g before after code
+groups_refused g before after code whole is groups info = record {
+  fault = Memory;
+  is = is;
+  first = whole;
+  stays = same_groups after before groups info;
 }

@@ -4,3 +4,5 @@ pub mod NextAnswers
 pub mod Unique
 pub mod Ranked
 pub mod RankedAnswers
+pub mod Groups
+pub mod GroupAnswers

@@ -3,12 +3,15 @@
 #![tactic(auto)]
 
 mod answer;
+mod group_plan;
+mod groups;
 mod next;
 mod next_plan;
 mod ranked;
 mod ranked_plans;
 mod unique;
 
+pub use group_plan::groups_on;
 pub use next_plan::next_on;
 pub use ranked_plans::{length_of_each, ranked_on};
 pub use unique::unique_on;

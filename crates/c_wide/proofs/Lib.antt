@@ -8,5 +8,6 @@ mod ExactEnds
 mod CombinedRows
 mod CombinedPlaces
 mod CombinedLists
+mod CombinedKept
 mod FewestLaws
 mod FewestEnds

@@ -3,6 +3,7 @@ mod answer;
 mod combine;
 mod kept;
 mod law;
+mod narrow;
 mod solve;
 
 pub use law::combined_means_fewest;

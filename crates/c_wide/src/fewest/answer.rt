@@ -11,6 +11,7 @@ ghost use Rattle.c_wide.specs.fewest.Combined.{AreCombined};
 
 use super::combine::{combined_costs, lists_combined};
 use super::kept::changes_of;
+use super::narrow::narrow_answer;
 use crate::answer::{Answer, answer_of};
 use assign_core::Cost;
 use c_calls::Shape;
@@ -101,6 +102,9 @@ pub fn fewest_of(
     requires kept { length kept.now ≡ input.now.n }
     ensures { IfOk result (IsFewestAnswer (lists_in shape.sense input.now) kept.now) }
 {
+    if let Some(found) = narrow_answer(alloc, shape, input, kept)? {
+        return Ok(found);
+    }
     let costs = combined_costs(alloc, shape, input, kept)?;
     let answer = combined_answer(alloc, shape, input, costs.as_slice())?;
     let lists = lists_of(shape, input);

@@ -18,7 +18,7 @@ use std::alloc::{AllocError, Global};
 use wide_checker::{Wide, WideLists, WidePairs};
 
 // A cost that counts before all changes of n persons.
-fn scaled(n: Person, cost: Cost) -> i64
+pub fn scaled(n: Person, cost: Cost) -> i64
     requires persons { IsCount n }
     requires cost { IsCost cost }
     ensures value { result ≡ pos (n + 1) *ℤ cost }
@@ -29,7 +29,7 @@ fn scaled(n: Person, cost: Cost) -> i64
 }
 
 // A cost of 64 bits that is worse by a change.
-fn changed(sense: Sense, scaled: i64, by: u32) -> i64
+pub fn changed(sense: Sense, scaled: i64, by: u32) -> i64
     requires least { neg_ℤ (pos (2 ^ 62)) ≤ℤ scaled }
     requires greatest { scaled ≤ℤ pos (2 ^ 62) }
     requires few { by ≤ 1 }
@@ -43,7 +43,7 @@ fn changed(sense: Sense, scaled: i64, by: u32) -> i64
 }
 
 // The combined cost of a pair.
-fn combined(sense: Sense, n: Person, cost: Cost, kept: Object, object: Object) -> i64
+pub fn combined(sense: Sense, n: Person, cost: Cost, kept: Object, object: Object) -> i64
     requires persons { IsCount n }
     requires cost { IsCost cost }
     ensures value { result ≡ with_change sense n cost (change kept object) }
@@ -88,7 +88,7 @@ fn object_of(input: &Input<'_>, place: usize) -> Object
 }
 
 // Its cost.
-fn cost_at(costs: &[Cost], place: usize) -> Cost
+pub fn cost_at(costs: &[Cost], place: usize) -> Cost
     requires place { place < length costs.now }
     requires costs { All IsCost costs.now }
     ensures value { result ≡ slice_index_or costs.now place (pos 0) }

@@ -1,0 +1,6 @@
+pub mod Changes
+pub mod Cycles
+pub mod Kept
+pub mod Reading
+pub mod Sums
+pub mod Trees

@@ -1,0 +1,66 @@
+// The search for the groups of an optimal assignment.
+ghost use Rattle.std.specs.Prelude.{◌≡◌, length};
+
+use super::arrows::{Best, arrows_of};
+use super::components::components_of;
+use super::graph::Graph;
+use super::trees::{FoundTree, trees_of};
+use super::values::{place_of, value_at};
+use cost_lists::{CostLists, Object, Price};
+use std::alloc::{AllocError, Global};
+
+/// What a search found of an optimal assignment.
+#[derive(Drop)]
+pub struct FoundGroups {
+    /// The number of each object's group, and of that of 0.
+    pub groups: Vec<u32>,
+    pub out: u32,
+    /// The root of each group.
+    pub roots: Vec<u32>,
+    /// Trees of arrows towards the roots, and of arrows from them.
+    pub towards: FoundTree,
+    pub from: FoundTree,
+}
+
+/// The groups of objects of an optimal assignment that reach each other along arrows. Lists may hold
+/// any numbers.
+///
+/// The time and memory are linear in the costs and the arrows.
+///
+/// # Errors
+/// `AllocError` if memory is refused.
+pub fn find_groups(
+    alloc: Global,
+    lists: &CostLists<'_>,
+    objects: &[Object],
+    prices: &[Price],
+) -> Result<FoundGroups, AllocError>
+    requires { length objects.now ≡ length lists.now.rows }
+{
+    let mut sums = lists.own_costs(alloc, objects)?;
+    for (sum, object) in sums.as_mut_slice().iter_mut().zip(objects.iter()) {
+        *sum = sum.wrapping_add(value_at(prices, place_of(*object), 0));
+    }
+    let best = Best {
+        sense: lists.sense(),
+        sums: sums.as_slice(),
+        objects,
+        prices,
+    };
+    let arrows = arrows_of(alloc, lists.source(), best)?;
+    let vertices = prices.len().saturating_add(1);
+    let graph = Graph::new(alloc, arrows.as_slice(), vertices, true)?;
+    let components = components_of(alloc, &graph)?;
+    let from = trees_of(alloc, &graph, &components)?;
+    let back = Graph::new(alloc, arrows.as_slice(), vertices, false)?;
+    let towards = trees_of(alloc, &back, &components)?;
+    let all = components.groups.as_slice();
+    let groups = Vec::from_slice(alloc, all.get(1..).unwrap_or(&[]))?;
+    Ok(FoundGroups {
+        groups,
+        out: value_at(all, 0, 0),
+        roots: Vec::from_slice(alloc, components.roots.as_slice())?,
+        towards,
+        from,
+    })
+}
