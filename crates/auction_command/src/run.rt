@@ -16,14 +16,14 @@ use crate::progress::{CountedReader, Unwatched, Watch, WatchedGate, WatchedOffer
 use assign_core::{MOST_PERSONS, Outcome, Person, Price, Prices, Problem, Sense, SolveFault};
 use async_workers::{Gate, solve_workers_from};
 use command_line::{Method, Mode, SolveOpts};
-use dual_checker::confirms;
 use exact_paths::solve_paths;
 use orlib_reader::{InputFault, read_dense, read_sparse};
+use parallel_checker::{LEAST_PAIRS, confirms_in_parts};
 use report::{
     Report, ReportFault, StartFault, WriteFault, read_report, start_prices, write_report,
 };
 use rounds::solve_rounds_by;
-use scaled_values::{Scaled, scale};
+use scaled_values::{LEAST_PAIRS_IN_PARTS, Scaled, scale_in_parts};
 use std::alloc::{AllocError, Global};
 use std::fmt;
 use std::io::{Read, Write};
@@ -203,10 +203,15 @@ fn read_watched<R: Read, V: Watch>(
 }
 
 // The problem with its benefits under a sense.
-fn shared(alloc: Global, problem: Problem, sense: Sense) -> Result<Arc<Scaled>, AllocError>
+fn shared(
+    rt: &(impl Threads + Sync),
+    alloc: Global,
+    problem: Problem,
+    sense: Sense,
+) -> Result<Arc<Scaled>, AllocError>
     ensures { IfOk result (λ scaled. arc_value scaled ≡ problem_under sense problem) }
 {
-    let scaled = scale(alloc, problem, sense)?;
+    let scaled = scale_in_parts(rt, LEAST_PAIRS_IN_PARTS, alloc, problem, sense)?;
     Ok(Arc::new(alloc, scaled)?)
 }
 
@@ -260,7 +265,15 @@ fn solve_by_auction<T: Threads + Wait + Sync, G: Gate + Sync, V: Watch + Sync>(
     ensures proof { IfOk result (IsProof (arc_value scaled.now)) }
 {
     let outcome = solve_in_mode(context, scaled.clone()?, prices, options)?;
-    if !confirms(context.alloc, scaled.problem(), scaled.sense(), &outcome)? {
+    let (problem, sense) = (scaled.problem(), scaled.sense());
+    if !confirms_in_parts(
+        context.rt,
+        LEAST_PAIRS,
+        context.alloc,
+        problem,
+        sense,
+        &outcome,
+    )? {
         unreachable!();
     }
     Ok(outcome)
@@ -340,7 +353,7 @@ fn report_auction<T: Threads + Wait + Sync, G: Gate + Sync, V: Watch + Sync, W: 
     ensures { Reports (solver_of Method.Auction options) problem prices (W.contents w.old)
         (W.contents w.new) result }
 {
-    let scaled = shared(context.alloc, problem, options.sense)?;
+    let scaled = shared(context.rt, context.alloc, problem, options.sense)?;
     match solve_by_auction(context, &scaled, prices, options) {
         Ok(outcome) => put_report(context.watch, scaled.problem(), w, options, &outcome),
         Err(_) => Err(CliFault::Memory),

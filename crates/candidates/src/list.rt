@@ -25,12 +25,8 @@ use std::marker::Model;
 /// A value that no benefit is above.
 const TOP_VALUE: i64 = i64::MAX;
 
-/// A list of a shorter row that gave at most so many answers isn't made again at once.
+/// A list that gave at most so many answers isn't made again at once.
 const FEW_ANSWERS: u8 = 2;
-
-/// A row of so many pairs is long: a scan of it waits for memory, so a list of it is made again at once
-/// if it gave an answer.
-const LONG_ROW: usize = 3000;
 
 /// The longest pause of a list that answers nothing.
 const LONGEST_PAUSE: u8 = 15;
@@ -299,18 +295,16 @@ impl Candidates {
         self.answers = self.answers.saturating_add(1);
     }
 
-    /// Whether to make a list again that doesn't answer, of a row of so many pairs. One that gave
-    /// `FEW_ANSWERS` or fewer, of a long row none, waits twice as many bids and one more than before,
-    /// up to `LONGEST_PAUSE`.
-    pub fn is_due(&mut self, pairs: usize) -> bool
+    /// Whether to make a list again that doesn't answer. One that gave `FEW_ANSWERS` or fewer waits
+    /// twice as many bids and one more than before, up to `LONGEST_PAUSE`.
+    pub fn is_due(&mut self) -> bool
         ensures { self.new ≡ self.old }
     {
         if self.waiting > 0 {
             self.waiting -= 1;
             return self.waiting == 0;
         }
-        let few = if pairs < LONG_ROW { FEW_ANSWERS } else { 0 };
-        self.pause = if self.answers > few {
+        self.pause = if self.answers > FEW_ANSWERS {
             0
         } else {
             self.pause.min(LONGEST_PAUSE / 2) * 2 + 1

@@ -77,7 +77,7 @@ fn best_with(
             return Some(best);
         }
     }
-    if list.is_due(scaled.problem().row(person).len()) {
+    if list.is_due() {
         return refill(list, scaled, prices, person);
     }
     best_of(scaled, prices, person)

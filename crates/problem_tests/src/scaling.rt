@@ -4,9 +4,10 @@ ghost use Rattle.assign_core.specs.Prices.{IsPrice};
 ghost use Rattle.scaled_values.specs.Scaled.{IsEps};
 
 use assign_core::{Cost, GREATEST_COST, MOST_PERSONS, Object, Person, Price, Problem, Sense};
-use scaled_values::{Row, Scaled, next_eps, scale};
+use scaled_values::{Row, Scaled, next_eps, scale, scale_in_parts};
 use std::alloc::{AllocError, Global};
 use std::test::Fail;
+use std::thread::Threads;
 
 // A wide problem with two listed pairs, with this cost and its negation.
 fn two_pairs(alloc: Global, cost: Cost) -> Result<Scaled, AllocError>
@@ -238,5 +239,47 @@ fn nothing_listed(rt: HostRuntime) -> Result<(), Fail> {
     assert_eq!(rt; row.as_str(), "pairs []");
     assert_eq!(rt; range_told(&scaled), ([0, 0, 0, 1], None));
     assert_eq!(rt; first_bounds(&scaled, 5), (-5, 6));
+    Ok(())
+}
+
+// Three persons: one who lists an object, one who lists all, and one who lists none.
+fn three_persons(alloc: Global) -> Result<Problem, AllocError> {
+    let triples = [
+        (Person(1), Object(2), 4),
+        (Person(2), Object(1), -7),
+        (Person(2), Object(2), 6),
+        (Person(2), Object(3), 9),
+    ];
+    Problem::sparse(alloc, 3, &triples)
+}
+
+// Whether two problems have the same benefits.
+fn have_same_rows(first: &Scaled, second: &Scaled) -> bool {
+    let mut same = first.n() == second.n() && first.least_benefit() == second.least_benefit();
+    same = same && first.greatest_benefit() == second.greatest_benefit();
+    for i in 0..first.n().min(second.n()) {
+        same = same && first.row(Person(i + 1)) == second.row(Person(i + 1));
+    }
+    same
+}
+
+// Whether threads, if the persons list so many pairs, make the benefits that one makes.
+fn same_in_parts(
+    rt: &(impl Threads + Sync),
+    least: usize,
+    alloc: Global,
+    sense: Sense,
+) -> Result<bool, AllocError> {
+    let alone = scale(alloc, three_persons(alloc)?, sense)?;
+    let parts = scale_in_parts(rt, least, alloc, three_persons(alloc)?, sense)?;
+    Ok(have_same_rows(&alone, &parts))
+}
+
+#[test]
+fn rows_in_parts(rt: HostRuntime) -> Result<(), Fail> {
+    for least in [0, 4, 5] {
+        assert!(rt; same_in_parts(&rt, least, rt.alloc(), Sense::Min)?);
+        assert!(rt; same_in_parts(&rt, least, rt.alloc(), Sense::Max)?);
+    }
     Ok(())
 }

@@ -12,7 +12,7 @@ use Rattle.assign_core.specs.Benefits.{benefit, benefit_row, IsBenefit}
 use Rattle.assign_core.proofs.RowLemmas.{row_of-index}
 use Rattle.scaled_values.specs.declared.range.Range.{Range}
 use Rattle.scaled_values.specs.declared.range.TheConstants.{FAR}
-use Rattle.scaled_values.specs.inside.Range.{no_range, widened, range_with}
+use Rattle.scaled_values.specs.inside.Range.{joined, no_range, widened, range_with}
 use Rattle.scaled_values.specs.Scaled.{values_in, least_of, greatest_of}
 use Rattle.scaled_values.proofs.BenefitRange.{least-le-greatest}
 
@@ -52,6 +52,45 @@ range_row sense n rows i range wider lt h =
     ap (λ r. range_with r rest) h
     ∙ sym (fold-append widened range front rest)
     ∙ ap (λ l. range_with range (values_in l)) (sym (rows_next sense n rows i lt))
+
+-- a range joined with one that is widened
+joined_one : (r q : Range) (x : ℤ) → joined r (widened q x) ≡ widened (joined r q) x
+joined_one r q x =
+    let R : ℤ → ℤ → Range = λ a b. record { least = a; greatest = b } in
+    let low : int_min r.least (int_min q.least x) ≡ int_min (int_min r.least q.least) x = omega (arith, ints, clamps) in
+    let high : int_max r.greatest (int_max q.greatest x) ≡ int_max (int_max r.greatest q.greatest) x = omega (arith, ints, clamps) in
+    ap (λ a. R a (int_max r.greatest (int_max q.greatest x))) low ∙ ap (R (int_min (int_min r.least q.least) x)) high
+
+joined_all : (r q : Range) (xs : List ℤ) → joined r (range_with q xs) ≡ range_with (joined r q) xs
+joined_all r q [] = refl
+joined_all r q (x ∷ xs) = joined_all r (widened q x) xs ∙ ap (λ p. range_with p xs) (joined_one r q x)
+
+-- no wider than the range of no benefits
+pub record IsWide (r : Range) : Type 0 where
+  pub least : r.least ≤ℤ FAR
+  pub greatest : neg_ℤ FAR ≤ℤ r.greatest
+
+joined_none : (r : Range) → IsWide r → joined r no_range ≡ r
+joined_none r h =
+    let R : ℤ → ℤ → Range = λ a b. record { least = a; greatest = b } in
+    let l = h.least in
+    let g = h.greatest in
+    let low : int_min r.least FAR ≡ r.least = omega (arith, ints, clamps) in
+    let high : int_max r.greatest (neg_ℤ FAR) ≡ r.greatest = omega (arith, ints, clamps) in
+    ap (λ a. R a (int_max r.greatest (neg_ℤ FAR))) low ∙ ap (R r.least) high
+
+-- a range joined with the range of some benefits is widened by these
+pub range_joined : (r : Range) (xs : List ℤ) → IsWide r → joined r (range_with no_range xs) ≡ range_with r xs
+range_joined r xs h = joined_all r no_range xs ∙ ap (λ p. range_with p xs) (joined_none r h)
+
+pub IsWide-none : IsWide no_range
+IsWide-none = record { least = omega (arith, ints); greatest = omega (arith, ints) }
+
+pub IsWide-joined : (r q : Range) → IsWide r → IsWide (joined r q)
+IsWide-joined r q h =
+    let l = h.least in
+    let g = h.greatest in
+    record { least = omega (arith, ints, clamps); greatest = omega (arith, ints, clamps) }
 
 -- a range holds the least and the greatest
 range_from : (a b : ℤ) (xs : List ℤ) → range_with (record { least = a; greatest = b }) xs ≡ record { least = fold int_min a xs; greatest = fold int_max b xs }

@@ -1,2 +1,3 @@
 pub mod Range
 pub mod Stored
+pub mod Made

@@ -1,6 +1,6 @@
 // The least and the greatest benefit of a problem, found while benefits are made.
 ghost use Rattle.std.specs.Prelude.{◌≡◌, pos, ◌≤ℤ◌, ◌<ℤ◌};
-ghost use Rattle.scaled_values.specs.inside.Range.{no_range, widened};
+ghost use Rattle.scaled_values.specs.inside.Range.{joined, no_range, widened};
 
 use assign_core::Benefit;
 
@@ -33,6 +33,16 @@ impl Range {
         Range {
             least: self.least.min(benefit),
             greatest: self.greatest.max(benefit),
+        }
+    }
+
+    // The range of the benefits of both.
+    pub fn joined(self, other: Range) -> Range
+        ensures { result ≡ joined self other }
+    {
+        Range {
+            least: self.least.min(other.least),
+            greatest: self.greatest.max(other.greatest),
         }
     }
 

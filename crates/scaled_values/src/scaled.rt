@@ -76,14 +76,32 @@ pub fn scale(alloc: Global, problem: Problem, sense: Sense) -> Result<Scaled, Al
     ensures sense { IfOk result (λ s. s.sense ≡ sense) }
 {
     let (rows, found) = stored_rows(alloc, &problem, sense)?;
+    Ok(with_rows(problem, sense, rows, found))
+}
+
+// The problem with the benefits of all rows, and the range of all benefits.
+pub(super) fn with_rows(
+    problem: Problem,
+    sense: Sense,
+    rows: Vec<StoredRow>,
+    found: Range,
+) -> Scaled
+    requires entries { map stored_entries rows.items ≡ benefit_rows sense problem }
+    requires form { All (HasStoredForm (length problem)) rows.items }
+    requires range { found ≡ range_with no_range (values_in (benefit_rows sense problem)) }
+    ensures problem { result.problem ≡ problem }
+    ensures sense { result.sense ≡ sense }
+{
+    // This call shows the prover that the rows are those of a problem.
+    let _persons = problem.n();
     let range = found.or_zeros();
-    Ok(Scaled {
+    Scaled {
         problem,
         sense,
         rows,
         least: range.least,
         greatest: range.greatest,
-    })
+    }
 }
 
 impl Scaled {

@@ -1,5 +1,5 @@
 // The candidates of the claimed person, which come to the desk with the claim.
-ghost use Rattle.std.specs.Prelude.{◌≡◌, ℤ, List, None, length};
+ghost use Rattle.std.specs.Prelude.{◌≡◌, ℤ, List, length};
 ghost use Rattle.assign_core.specs.Numbered.{IsNumber};
 ghost use Rattle.assign_core.specs.Prices.{IsBelow};
 ghost use Rattle.bidder.specs.Offers.{IsAsk, offer_of};
@@ -20,17 +20,6 @@ use scaled_values::Scaled;
 pub struct Listed {
     pub person: Person,
     pub list: Candidates,
-}
-
-// Takes candidates away, and writes nothing where there are none.
-pub(super) fn unlist(listed: &mut Option<Listed>) -> Option<Listed>
-    ensures value { result ≡ listed.old }
-    ensures left { listed.new ≡ None }
-{
-    if listed.is_none() {
-        return None;
-    }
-    listed.take()
 }
 
 // Puts candidates back into the book. They may be those at lower prices than the book's.
@@ -65,10 +54,7 @@ pub(super) fn fetch_list(held: &mut Held, desk: &mut Desk)
     ensures held { held.new ≡ held.old }
     ensures desk { desk.new ≡ desk.old }
 {
-    let listed = take_listed(held.book_mut(), desk.known.number, desk.known.version);
-    if listed.is_some() {
-        desk.listed = listed;
-    }
+    desk.listed = take_listed(held.book_mut(), desk.known.number, desk.known.version);
 }
 
 // The offer of a person, with its candidates if these are they.

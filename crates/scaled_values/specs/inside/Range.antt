@@ -15,3 +15,7 @@ widened range x = record { least = int_min range.least x; greatest = int_max ran
 -- the range with more benefits
 abbrev pub range_with : Range → List ℤ → Range
 range_with range xs = fold widened range xs
+
+-- the range of the benefits of both
+abbrev pub joined : Range → Range → Range
+joined first second = record { least = int_min first.least second.least; greatest = int_max first.greatest second.greatest }

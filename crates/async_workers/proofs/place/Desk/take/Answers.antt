@@ -16,7 +16,7 @@ put_listed-requires g c =
     let is = c.self.view_is in
     let told = (c.take_book-book.ensures.took (session_by c.args.self.now a.0 a.1) (ap (λ (d : DeskData). d.view) is ∙ a.2)).told in
     let s = c.self.inside in
-    handed (arc_value s.scaled) s.known.table c.take_book-book.result c.book_mut.result.now s.listed c.unlist.result
+    handed (arc_value s.scaled) s.known.table c.take_book-book.result c.book_mut.result.now s.listed c.take.result
     c.self.invariant.1 (ap (λ (d : DeskData). d.base) is ∙ told.base)
     (subst (λ t. IsBelow t (prices_of c.take_book-book.result)) (sym (ap (λ (d : DeskData). d.known.table) is)) told.below)
-    c.book_mut.ensures.value c.unlist.ensures.value
+    c.book_mut.ensures.value c.take.ensures.value

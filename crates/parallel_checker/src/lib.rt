@@ -1,0 +1,7 @@
+//! Checks outcomes of many pairs by several threads.
+#![tactic(auto)]
+
+mod confirm;
+mod slack;
+
+pub use confirm::{LEAST_PAIRS, confirms_in_parts};
