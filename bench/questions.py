@@ -16,8 +16,8 @@ from array import array
 
 import numpy
 import nushbaret
-from nushbaret.lap import library, proved
-from nushbaret.lap.solving import best_plan, duals_of_whole
+from nushbaret.lap import fewest, library
+from nushbaret.lap.solving import best_plan, rents_of
 from nushbaret.roster import single_nodes
 
 SECONDS, MOST = 1.5, 9
@@ -71,22 +71,15 @@ def questions(costs):
 
     nodes = single_nodes.RosterNodes(
         [*range(n)], [*range(m)], array("I", numpy.repeat(numpy.arange(n), m).tolist()),
-        array("I", [*range(m)] * n), flat, None, True, True)
-    nodes = nodes._replace(edges=single_nodes.Edges(nodes.rows, nodes.columns))
+        array("I", [*range(m)] * n), flat, True)
     before = set(nushbaret.solve(costs[:, ::-1]).pairs)
 
-    def best_ones():
-        """All best plans, as --keep and --others of the command ask for them."""
-        best = best_plan(single_nodes.problem_of(nodes, flat))
-        return best, single_nodes.face_of(nodes, flat, best, proved.rents(duals_of_whole(best)))
-
     def groups():
-        best, face = best_ones()
-        single_nodes.swaps_of(nodes, face, nodes.pairs(best.rows, best.columns))
+        single_nodes.swaps_of(nodes, best_plan(single_nodes.problem_of(nodes, flat)))
 
     def fewest_changes():
-        best, face = best_ones()
-        single_nodes.fewest_changes(nodes, face, len(best.rows), before)
+        best = fewest.fewest_changes(single_nodes.problem_of(nodes, flat), nodes.numbered(before))
+        rents_of(best)
 
     def dense():
         library.call("dense", False, *sizes, flat, objects, persons, prices)

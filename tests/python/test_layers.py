@@ -27,6 +27,7 @@ OF_OTHER_FOLDERS = {
     "api.test_refusals": "costs.limits lap.library lap.proved",
     # They make what the tested folder takes, or check what it makes.
     "counts.test_count_rows": "rows.certificate_check",
+    "lap.test_fewest": "costs.kinds costs.problem",
     "lap.test_levels": "costs.kinds costs.problem",
     "lap.test_wide": "costs.kinds costs.limits",
     "roster.rules.test_stages": "rows.certificate_check rows.finding rows.model",

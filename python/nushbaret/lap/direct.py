@@ -10,6 +10,7 @@ import math
 import sys
 import time
 from array import array
+from fractions import Fraction
 from typing import Any, List, Optional, Tuple
 
 from ..costs import kinds, printing, reading
@@ -124,7 +125,7 @@ def first_plans(costs: Any, maximize: bool, count: int) -> Optional[Tuple[Any, .
     labels = None if is_list else labels_of(costs)
     if len(answer) == 4:
         rows, columns, totals, decimals = answer
-        return rows, columns, [*map(of_decimals(decimals).shown, totals)], labels
+        return rows, columns, [*map(of_decimals(decimals).shown, totals)] if decimals else totals, labels
     found = None if is_list and not _is_long(answer[1][2][0]) else plans_of_doubles(answer, maximize, count)
     if found is None:
         return None
@@ -139,7 +140,7 @@ def plans_of_doubles(answer: Any, maximize: bool, count: int) -> Optional[List[T
     (_, columns, totals, _), (is_all, shift, own) = answer
     held = columns if type(columns) is list else columns.tolist()
     plans = in_exact_order(held, own, *of_floats(set(own)), maximize, count)
-    first = sure(plans, totals, is_all, shift, maximize, count)
+    first = sure(plans, totals, is_all, Fraction(2)**shift, maximize, count)
     sign = -1 if maximize else 1
     return None if first is None else [(plan.columns, plan.unit.shown(sign * plan.cost)) for plan in first]
 

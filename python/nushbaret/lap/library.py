@@ -11,7 +11,7 @@ from typing import Any, Callable, Dict, Iterator, List, NamedTuple, Optional, Se
 
 from ..costs.limits import FEW, BorrowedNumbers, Numbers
 
-VERSION = "5.9.0"
+VERSION = "5.10.0"
 
 CODES = (
     "BEST", "HALL",
@@ -58,14 +58,14 @@ class Record(ctypes.Structure):
 
 # How many lists each call takes.
 _LISTS = {"dense": 4, "dense_from": 5, "sparse": 6, "sparse_from": 7, "check": 5, "check_hall": 5, "bottleneck": 6,
-          "next": 5, "ranked": 5, "unique": 7, "wide": 6, "block": 6}
+          "groups": 6, "next": 5, "ranked": 5, "unique": 7, "wide": 6, "fewest_changes": 7}
 # What some take after these: a budget and a record; how many arc scans, one or two further lists, and where a number is
 # written.
 _IN_PIECES = [ctypes.c_uint64, ctypes.c_void_p]
 _MORE: Dict[str, List[Any]] = {"dense_from": _IN_PIECES, "sparse_from": _IN_PIECES, "bottleneck": _IN_PIECES,
          "next": [ctypes.c_uint64, ctypes.c_void_p, ctypes.c_size_t, ctypes.c_void_p],
          "ranked": [ctypes.c_uint64, *[ctypes.c_void_p, ctypes.c_size_t] * 2, ctypes.c_void_p],
-         "wide": [ctypes.c_void_p], "block": [ctypes.c_size_t, *[ctypes.c_void_p, ctypes.c_size_t] * 5]}
+         "wide": [ctypes.c_void_p], "fewest_changes": [ctypes.c_void_p]}
 _loading = threading.Lock()
 _calls: Dict[str, Any] = {}
 
@@ -103,9 +103,7 @@ def _load() -> None:
     _calls.update(calls)
 
 
-_SPARE, _NONE = array("Q", [0]), array("I")
-# Below all sums of a cost and a price.
-_FAR = 2**62
+_SPARE = array("Q", [0])
 # A block of this size, which nobody writes to, makes the C library of GNU keep up to twice as much for later calls once
 # it is freed. Otherwise each call on a large problem takes all its pages from the system again, which takes about as
 # long as to solve it.
@@ -222,23 +220,6 @@ def first_objects(count: int, sense: bool, n: int, m: int, lists: Sequence[Any],
         now, end = time.monotonic(), _end()
         arc_scans = int(arc_scans * (4 if end is None else max(min(4, (end - now) / max(now - began, 1e-9)), 0.1)))
     return code, plans[:n * found.value], totals[:found.value]
-
-
-def tight_pairs(n: int, m: int, costs: Numbers, prices: Numbers) -> Optional[Tuple[Numbers, Numbers, Numbers]]:
-    """The least sum of a cost and its object's price for each person of a matrix, and the persons and objects, from 1
-    on, of the pairs that have it, by `nushbaret_block`. None where a number is beyond its range."""
-    least, numbers, own = array("q", bytes(8 * n)), array("q", [-_FAR]) * n, array("B", bytes(n))
-    nobody = array("I", [1]) * n
-    for room in (0, 4 * (n + m), n * m):
-        pairs = array("I", bytes(4 * room)), array("I", bytes(4 * room)), array("q", bytes(8 * room))
-        code, info = call("block", False, n, m, _NONE, _NONE, costs, nobody, numbers, prices, piece=(m, *(
-            word for values in (least, own, *pairs) for word in address_and_count(values))))
-        if code not in ("BEST", "SLACK"):
-            return None
-        if room and (info.persons < room or room == n * m):
-            return least, pairs[0][:info.persons], pairs[1][:info.persons]
-        numbers = array("q", [number + 1 for number in least])
-    return None
 
 
 def progress_asked() -> Optional[Callable[[int, int], Any]]:

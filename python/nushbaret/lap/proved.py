@@ -150,6 +150,18 @@ def is_only(problem: AssignmentProblem, best: Assignment) -> Optional[bool]:
     return {"BEST": True, "TIED": False}.get(code)
 
 
+def groups(problem: AssignmentProblem, best: Assignment) -> Optional[Numbers]:
+    """The number of each object's group, by `nushbaret_groups`: the same for two that can change places without another
+    cost. None where it can't be asked."""
+    about = _asked_about(problem, best)
+    if about is None:
+        return None
+    sense, n, m, lists, objects, prices = about
+    found = array("I", bytes(4 * m))
+    code, info = library.call("groups", sense, n, m, *lists, objects, prices, found)
+    return found if code == "BEST" else refuse(code, info)
+
+
 def next_objects(problem: AssignmentProblem, best: Assignment) -> Tuple[str, Any]:
     """What `nushbaret_next` says of an answer, and the objects of a next best plan; nothing where it can't be asked."""
     about = _asked_about(problem, best)

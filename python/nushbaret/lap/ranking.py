@@ -297,16 +297,17 @@ def first_by_rounded(problem: AssignmentProblem, wanted: int) -> Optional[List[R
     if code not in ("BEST", "ALONE"):
         return None
     plans = [_columns_of(problem, objects[at:at + answer.n]) for at in range(0, len(objects), answer.n)]
-    return sure(_by_exact_costs(problem, plans, wanted), totals, code == "ALONE", shift, problem.maximize, wanted)
+    scale = Fraction(2)**shift * problem.unit.denominator
+    return sure(_by_exact_costs(problem, plans, wanted), totals, code == "ALONE", scale, problem.maximize, wanted)
 
 
-def sure(plans: List[RankedPlan], totals: Sequence[int], is_all: bool, shift: int, maximize: bool,
+def sure(plans: List[RankedPlan], totals: Sequence[int], is_all: bool, scale: Fraction, maximize: bool,
          wanted: int) -> Optional[List[RankedPlan]]:
-    """The first of some plans in order, so many or all, which were listed by costs times 2**shift that are rounded, at
+    """The first of some plans in order, so many or all, which were listed by costs times a scale that are rounded, at
     these totals; None where those that aren't listed may be before one of these."""
     # Each rounded cost is less than one off.
     least = (-totals[-1] if maximize else totals[-1]) - len(plans[0].columns)
-    if not is_all and Fraction(plans[wanted - 1].cost, plans[0].unit.denominator) * Fraction(2)**shift >= least:
+    if not is_all and Fraction(plans[wanted - 1].cost, plans[0].unit.denominator) * scale >= least:
         return None
     return plans[:wanted]
 

@@ -81,13 +81,12 @@ def _ranks(problem: AssignmentProblem) -> Tuple[Any, Any]:
 
 
 class BestPlan(NamedTuple):
-    """A best plan of a problem whose costs are whole: the library's answer, the pairs, rows rising, and their sum."""
+    """A best plan of a problem whose costs are whole: the library's answer, and the pairs, rows rising."""
 
     problem: AssignmentProblem
     answer: proved.Assignment
     rows: List[int]
     columns: List[int]
-    cost: int
 
 
 def best_plan(problem: AssignmentProblem, fullest: bool = False) -> Optional[BestPlan]:
@@ -98,12 +97,26 @@ def best_plan(problem: AssignmentProblem, fullest: bool = False) -> Optional[Bes
         if not fullest:
             return None
         answer = most(problem, None)
-    rows, columns = proved.pairs_of(problem, answer)
-    return BestPlan(problem, answer, rows, columns, sum(costs_of_pairs(problem, rows, columns)))
+    return plan_of(problem, answer)
+
+
+def plan_of(problem: AssignmentProblem, answer: proved.Assignment) -> BestPlan:
+    """The plan of an answer."""
+    return BestPlan(problem, answer, *proved.pairs_of(problem, answer))
 
 
 def duals_of_whole(best: BestPlan) -> proved.Duals:
     """Whole duals of a best plan."""
-    problem, answer, rows, columns, _ = best
+    problem, answer, rows, columns = best
     prices = proved.whole_prices(answer) if rows else []
     return proved.duals_of(problem, answer, prices, list(zip(rows, columns)), costs_of_pairs(problem, rows, columns))
+
+
+def rents_of(best: BestPlan) -> List[int]:
+    """What columns cost in addition to their pairs; the least is 0."""
+    n_rows, n_columns = best.problem.n_rows, best.problem.n_columns
+    if n_rows > n_columns:
+        return proved.rents(duals_of_whole(best))
+    prices = list(best.answer.prices[:n_columns])
+    lowest = min(prices, default=0)
+    return [price - lowest for price in prices] if lowest else prices

@@ -1,4 +1,4 @@
-"""The library's call for whole costs of 128 bits, and the numbers as it takes them."""
+"""The library's calls for whole costs of 128 bits, and the numbers as it takes them."""
 import math
 from array import array
 from typing import Any, List, NamedTuple, Sequence, Union
@@ -42,13 +42,17 @@ class WidePlan(NamedTuple):
     prices: Any
 
 
-def solved(maximize: bool, asked: proved.Instance) -> Union[WidePlan, proved.HallSet]:
-    """The library's answer to a problem whose costs are `WideNumbers` of at most `WIDE_BITS` bits."""
+def solved(maximize: bool, asked: proved.Instance, kept: Any = None) -> Union[WidePlan, proved.HallSet]:
+    """The library's answer to a problem whose costs are `WideNumbers` of at most `WIDE_BITS` bits. Where an object of
+    each person is `kept`, or 0, the costs have 64 bits: of all best plans one that changes fewest persons, at prices of
+    the combined costs."""
     n, m = asked.n, asked.m
     objects, persons, total = array("I", bytes(4 * n)), array("I", bytes(4 * n)), array("q", bytes(16))
     prices = WideNumbers(array("q", bytes(16 * m)))
+    name, lists = ("wide", asked[2:]) if kept is None else ("fewest_changes", (*asked[2:], kept))
     with library.one_piece(n):
-        code, info = library.call("wide", maximize, *asked, objects, persons, prices, piece=(total.buffer_info()[0],))
+        code, info = library.call(name, maximize, n, m, *lists, objects, persons, prices,
+                                  piece=(total.buffer_info()[0],))
     if code == "HALL":
         return proved.HallSet(persons[:info.persons], objects[:info.objects])
     if code != "BEST":

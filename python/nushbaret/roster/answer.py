@@ -5,18 +5,16 @@ from collections import Counter
 from itertools import compress, islice
 from typing import Callable, Dict, Iterable, List, Mapping, NamedTuple, Optional, Sequence, Set, Tuple, Union
 
-from ..costs.limits import Numbers
 from ..counts.counted import Bounds
 from ..counts.lack import Lack
+from ..lap.fewest import fewest_changes
 from ..lap.matching import short_groups
-from ..lap.proved import rents
 from ..lap.ranking import plans_in_order
-from ..lap.solving import BestPlan, best_plan, duals_of_whole
+from ..lap.solving import BestPlan, best_plan, rents_of
 from .groups import Paired, missing_of, order_of
 from .names import SHARED, NamesShown, joined, numbered, said
 from .roster import OldPlan, PlanLine, Roster
-from .single_nodes import (Edges, RosterNodes, Swap, changed, face_of, fewest_changes, is_only_one, least_costs,
-    nodes_without, problem_of, swaps_of)
+from .single_nodes import RosterNodes, Swap, changed, kept_most, least_costs, nodes_without, problem_of, swaps_of
 
 MOST_NAMES_SHOWN = 20
 # A person and an object, by number.
@@ -97,8 +95,7 @@ class Request(NamedTuple):
 def nodes_around(roster: Roster, fixed: Sequence[PlanLine]) -> RosterNodes:
     """What is left to solve around the fixed pairs."""
     nodes = RosterNodes(list(range(len(roster.persons))), list(range(len(roster.objects))), roster.of_persons,
-                        roster.of_objects, roster.costs, Edges(roster.of_persons, roster.of_objects), roster.by_persons,
-                        roster.is_full)
+                        roster.of_objects, roster.costs, roster.is_full)
     return nodes_without(nodes, [(pair.person, pair.object) for pair in fixed]) if fixed else nodes
 
 
@@ -107,30 +104,33 @@ def answer_of(roster: Roster, request: Request) -> Answer:
     nodes = nodes_around(roster, request.fixed)
     costs = least_costs(nodes, request.maximize)
     if request.kept is not None and request.change:
-        costs = changed(costs, nodes.edges, request.kept, request.change)
+        costs = changed(nodes, costs, request.kept, request.change)
     problem = problem_of(nodes, costs)
+    if request.kept is not None and request.change is None:
+        best = fewest_changes(problem, nodes.numbered(request.kept))
+        if best is not None:
+            return Answer(_plan(roster, request._replace(kept=None), nodes, best), [])
     best = best_plan(problem)
     groups: List[ShortGroup] = []
     if best is None:
         groups = shortages(nodes, short_groups(problem))
         best = best_plan(problem, True) if request.fullest else None
-    return Answer(None if best is None else _plan(roster, request, nodes, costs, best), groups)
+    return Answer(None if best is None else _plan(roster, request, nodes, best), groups)
 
 
-def _plan(roster: Roster, request: Request, nodes: RosterNodes, costs: Numbers, best: BestPlan) -> NamedPlan:
-    prices = rents(duals_of_whole(best))
+def _plan(roster: Roster, request: Request, nodes: RosterNodes, best: BestPlan) -> NamedPlan:
+    prices = rents_of(best)
     of_objects, chosen = dict(zip(nodes.of_columns, prices)), nodes.pairs(best.rows, best.columns)
     plan = plan_of(roster, request.fixed, chosen, of_objects)
     if request.kept is not None and request.change is not None:
         return plan
-    face = face_of(nodes, costs, best, prices)
-    if request.kept is not None:
-        first, chosen = plan, fewest_changes(nodes, face, len(best.rows), request.kept)
+    swaps = swaps_of(nodes, best)
+    if request.kept is not None and chosen:
+        first, chosen = plan, kept_most(nodes, best, request.kept)
         plan = plan_of(roster, request.fixed, chosen, of_objects)
         if (len(plan.pairs), plan.cost) != (len(first.pairs), first.cost):
             raise RuntimeError("a plan with fewest changes was found to be as good as the best, and isn't")
-    swaps = swaps_of(nodes, face, chosen) if request.others else []
-    plan = plan._replace(swaps=swaps, is_only_one=not swaps if request.others else is_only_one(nodes, face, chosen))
+    plan = plan._replace(swaps=swaps if request.others else [], is_only_one=not swaps)
     is_next_shown = request.others and plan.is_only_one
     count = max(request.plans - 1, int(is_next_shown))
     # The library's first plan may be another one than that with the fewest changes.

@@ -206,6 +206,16 @@ class Plans(unittest.TestCase):
             ties += not is_unique
         self.assertGreater(ties, 20)
 
+    def test_great_numbers_of_a_decimal_unit(self):
+        draw = drawing(43)
+        for turn in range(120):
+            n_rows, n_columns, k = draw.randint(2, 4), draw.randint(2, 4), draw.choice([1, 2, 4, 6])
+            costs = [[draw.randint(0, 2) * 10**22 + draw.randint(0, 3) + Decimal(draw.randint(0, 99)) / 100
+                      for _ in range(n_columns)] for _ in range(n_rows)]
+            wanted = ordered(costs, turn % 2 == 1, min(n_rows, n_columns))
+            plans = list(nushbaret.k_best(costs, k, turn % 2 == 1, decimals=2))
+            self.assertEqual([pairs_of(plan, n_rows, n_columns) for plan in plans], wanted[:k])
+
     @unittest.skipUnless(extension(), "the extension isn't there")
     def test_the_extension_and_the_longer_way(self):
         """The same plans in the same form, as many as are asked for, of each form of costs."""

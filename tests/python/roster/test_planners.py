@@ -88,14 +88,20 @@ class Others(unittest.TestCase):
         every = [those for those in every if len(those) == len(pairs)]
         best = [those for those in every if value(those, costs, maximize) == value(pairs, costs, maximize)]
         free = set().union(*best) - set.intersection(*map(set, best))
-        swapped = [pair for swap in answer.plan.swaps for pair in swap.pairs]
-        self.assertEqual((set(swapped), len(swapped)), (free, len(free)))
+        self.judge_swaps(answer.plan.swaps, free)
         worse = [value(those, costs, maximize) for those in every if those not in best]
         if free or not worse:
             self.assertIsNone(answer.plan.next_cost)
         elif answer.plan.next_cost is not None:
             self.assertEqual(answer.plan.next_cost * (-1 if maximize else 1), min(worse))
         return answer.plan.next_cost, bool(free)
+
+    def judge_swaps(self, swaps, free):
+        """Whether swaps have all persons and objects of the pairs that are free, and no others."""
+        for side in range(2):
+            self.assertEqual({name for swap in swaps for name in swap[side]}, {pair[side] for pair in free})
+        for person, object_ in free:
+            self.assertTrue(any(person in swap.persons and object_ in swap.objects for swap in swaps))
 
     def test_beside_all_plans(self):
         draw, found = random.Random(4), 0
