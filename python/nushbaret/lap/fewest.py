@@ -12,7 +12,10 @@ from .solving import BestPlan, plan_of
 
 def fewest_changes(problem: AssignmentProblem, kept: Collection[Tuple[int, int]]) -> Optional[BestPlan]:
     """A best plan of whole costs in the library's range with as many kept pairs of a row and a column as one has. None
-    where the fewer of rows and columns can't all be paired, or one of these has two kept pairs."""
+    where the fewer of rows and columns can't all be paired, or one of these has two kept pairs.
+
+    Rows and columns of `kept` count from 0. The plan's prices are whole, and prove it for the costs alone; the library
+    proves at combined ones that no best plan changes fewer."""
     asked = proved.instance_of(problem)
     items = dict(zip(*oriented(problem, [row for row, _ in kept], [column for _, column in kept])))
     if not asked.n or len(items) < len(kept):
