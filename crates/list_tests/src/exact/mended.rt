@@ -4,9 +4,8 @@ use super::drawn::draw;
 use super::given::{costs_of, is_count, pairs_of};
 use super::larger::dense_problem;
 use super::problem::Problem;
-use assign_core::{GREATEST_COST, Sense};
-use c_calls::lists::{Form, Info, Input, solve_from};
-use list_solver::{Record, SearchState};
+use assign_core::GREATEST_COST;
+use list_solver::SearchState;
 use plan_repair::mend_dense;
 use std::alloc::{AllocError, Global};
 use std::process::Abort;
@@ -56,53 +55,6 @@ fn mended(alloc: Global, problem: &Problem, plan: &SearchState) -> Result<Option
     let (objects, prices) = (plan.objects.as_slice(), plan.prices.as_slice());
     let mended = mend_dense(alloc, problem.sense, n, m, costs, objects, prices)?;
     Ok(mended.map(|plan| plan.total))
-}
-
-// What a call finds from a plan: its code and its record.
-fn call_from(
-    alloc: Global,
-    problem: &Problem,
-    plan: &SearchState,
-) -> Result<(i32, Info), AllocError> {
-    let mut objects = plan.objects.as_slice().to_vec(alloc)?;
-    let mut prices = plan.prices.as_slice().to_vec(alloc)?;
-    let mut persons = vec![in alloc; 0u32; objects.len()]?;
-    let mut progress = Record::cold();
-    let mut info = Info {
-        total: 0,
-        place: 0,
-        persons: 0,
-        objects: 0,
-        person: 0,
-        object: 0,
-    };
-    let by_person = [objects.len(), persons.len()];
-    let by_object = [prices.len()];
-    let input = Input {
-        form: Form::Dense,
-        sense: matches!(problem.sense, Sense::Max) as u32,
-        n: problem.n as usize,
-        m: problem.m as usize,
-        by_person: &by_person,
-        by_object: &by_object,
-        persons: &[],
-        objects: &[],
-        costs: problem.costs.as_slice(),
-        first: plan.prices.as_slice(),
-    };
-    let (objects, prices) = (objects.as_mut_slice(), prices.as_mut_slice());
-    let persons = persons.as_mut_slice();
-    let code = solve_from(
-        alloc,
-        &input,
-        0,
-        objects,
-        persons,
-        prices,
-        &mut progress,
-        &mut info,
-    );
-    Ok((code, info))
 }
 
 // How many of 90 problems are mended after a change.
@@ -163,27 +115,6 @@ fn costs_out_of_range_are_refused(rt: HostRuntime) -> Result<(), Fail> {
             *cost = beyond;
         }
         assert_eq!(rt; mended(rt.alloc(), &problem, &plan)?, None, "{beyond}");
-    }
-    Ok(())
-}
-
-// A call after a changed row has the total of a fresh search; it names a cost out of range.
-#[test]
-fn calls_mend_changed_rows(rt: HostRuntime) -> Result<(), Fail> {
-    let (alloc, mut seed) = (rt.alloc(), 95);
-    for turn in 0..18u32 {
-        let mut problem = dense_problem(alloc, &mut seed, turn, 12, 14)?;
-        let (plan, _) = solved(alloc, &problem)?;
-        let other = dense_problem(alloc, &mut seed, turn, 12, 14)?;
-        redraw(&mut problem, &other, Change::Row, 5, 0);
-        let (_, total) = solved(alloc, &problem)?;
-        let (code, info) = call_from(alloc, &problem, &plan)?;
-        assert_eq!(rt; (code, info.total), (0, total), "{turn}");
-        if let Some(cost) = problem.costs.get_mut(73) {
-            *cost = GREATEST_COST + 1;
-        }
-        let (code, info) = call_from(alloc, &problem, &plan)?;
-        assert_eq!(rt; (code, info.place), (7, 73), "{turn}");
     }
     Ok(())
 }
