@@ -4,6 +4,5 @@ pub mod Desk
 pub mod Lending
 pub mod Session
 pub mod Turns
-pub mod Pauses
 pub mod Solving
 pub mod inside

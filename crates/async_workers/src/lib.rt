@@ -14,7 +14,6 @@ mod working;
 pub use alone::go_alone;
 pub use auction_book::Note;
 pub use gate::{Gate, OpenGate, Standing, Turn, TurnFault};
-pub use pause::{FIRST_PAUSE, Pause, SLEEP, YIELDS};
 pub use place::{BookPlace, Claimed, Desk, Held, ask_stop, close_place, leave, open_place, turn};
 pub use solving::{Tally, solve_workers, solve_workers_from};
 pub use working::take_turns;

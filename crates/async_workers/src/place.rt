@@ -24,12 +24,33 @@ pub use opening::open_place;
 use scaled_values::Scaled;
 use std::marker::Model;
 use std::sync::Arc;
+use std::sync::atomic::{AtomicBool, Ordering};
 pub use turning::turn;
 
 /// Where the book is while no desk has it.
 #[derive(Drop)]
 pub struct BookPlace {
     queue: Queue,
+    // Whether a worker without a claim had something to do with the book when it was last put back.
+    // It may be late, so that no worker relies on it.
+    calling: AtomicBool,
+}
+
+impl BookPlace {
+    // Whether it is worth while to take the book without a claim.
+    pub fn calls(&self) -> bool {
+        self.calling.load(Ordering::SeqCst)
+    }
+
+    // Notes whether it is worth while, before the book is put back.
+    fn note(&self, book: &Book) {
+        self.calling.store(has_work(book), Ordering::SeqCst);
+    }
+}
+
+// Whether a claim would be answered by anything but `Wait`.
+fn has_work(book: &Book) -> bool {
+    !book.waiting().is_empty() || book.is_done() || book.stopped() || book.refuted().is_some()
 }
 
 impl Model for BookPlace {

@@ -5,7 +5,7 @@ ghost use Rattle.async_workers.specs.Turns.{CanTurn, IsLastTurn, IsMemory, Works
 ghost use Rattle.async_workers.specs.inside.Working.{HasWorked, HaveWorked, desk_in, fault_in};
 
 use crate::gate::{Gate, Turn, TurnFault};
-use crate::pause::FIRST_PAUSE;
+use crate::pause::pause;
 use crate::place::{BookPlace, Desk, ask_stop, turn};
 use crossbeam_utils::CachePadded;
 use std::alloc::{AllocError, Global};
@@ -50,14 +50,10 @@ pub fn take_turns<G: Gate, R: Wait>(
     ensures last { (before : DeskData) × CanTurn place.now before × WorksOn desk.old before
         × IsLastTurn refresh before desk.new result }
 {
-    let mut pause = FIRST_PAUSE;
     for _ in rt.forever() {
         match turn(rt, alloc, place, desk, refresh, gate) {
-            Ok(Turn::Claimed) => pause = FIRST_PAUSE,
-            Ok(Turn::Idle) => {
-                pause.wait(rt, parker);
-                pause = pause.next();
-            }
+            Ok(Turn::Claimed) => {}
+            Ok(Turn::Idle) => pause(rt, place, parker),
             Ok(Turn::Done) => return None,
             Ok(Turn::Refuted) => return None,
             Ok(Turn::Stopped) => return None,

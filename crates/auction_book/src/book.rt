@@ -115,8 +115,8 @@ impl Book {
         self.owned == self.scaled.n()
     }
 
-    // Whether everybody is assigned in the last phase.
-    fn is_done(&self) -> bool
+    /// Whether everybody is assigned in the last phase.
+    pub fn is_done(&self) -> bool
         ensures done { result ≡ is_done self.now }
     {
         self.is_assigned() && self.ask.eps == 1

@@ -29,7 +29,7 @@ const TOP_VALUE: i64 = i64::MAX;
 const FEW_ANSWERS: u8 = 2;
 
 /// The longest pause of a list that answers nothing.
-const LONGEST_PAUSE: u8 = 15;
+const LONGEST_PAUSE: u8 = 127;
 
 /// A reading starts from the old list if it has at least so many candidates.
 const ENOUGH_TO_START: usize = 12;

@@ -6,7 +6,6 @@ mod beside;
 #[cfg(test)]
 mod drawn;
 #[cfg(test)]
-mod pauses;
 #[cfg(test)]
 mod scripts;
 #[cfg(test)]

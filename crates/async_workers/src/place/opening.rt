@@ -14,6 +14,7 @@ use assign_core::Prices;
 use auction_book::Book;
 use std::alloc::{AllocError, Global};
 use std::marker::Brand;
+use std::sync::atomic::AtomicBool;
 use std::sync::{Arc, Wait};
 
 /// Opens a place with a book in which no worker has a claim and no bid was accepted, and makes a
@@ -51,7 +52,8 @@ fn open_with<O: Opening, R: Wait>(
         Ok(()) => {}
         Err(_) => unreachable!(),
     }
-    Ok((BookPlace { queue }, desks))
+    let calling = AtomicBool::new(true);
+    Ok((BookPlace { queue, calling }, desks))
 }
 
 // What a new desk knows.

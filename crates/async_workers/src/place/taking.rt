@@ -148,6 +148,7 @@ impl Held {
         desk.known.claim = claim_in(book.book(), desk.known.number);
         desk.sessions = desk.sessions.saturating_add(1);
         desk.since = since_after(desk.since, caught_up);
+        place.note(book.book());
         put_back::<Brand, R>(rt, &place.queue, &mut desk.pass, &desk.known, book);
     }
 }
