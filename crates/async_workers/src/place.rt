@@ -42,9 +42,12 @@ impl BookPlace {
         self.calling.load(Ordering::SeqCst)
     }
 
-    // Notes whether it is worth while, before the book is put back.
+    // Notes whether it is worth while, before the book is put back. A write costs more than a look.
     fn note(&self, book: &Book) {
-        self.calling.store(has_work(book), Ordering::SeqCst);
+        let calling = has_work(book);
+        if self.calls() != calling {
+            self.calling.store(calling, Ordering::SeqCst);
+        }
     }
 }
 

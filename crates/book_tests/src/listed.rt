@@ -23,7 +23,7 @@ fn seen_lists(alloc: Global, n: u16) -> Result<[bool; 4], AllocError> {
 
 #[test]
 fn long_rows_have_lists(rt: HostRuntime) -> Result<(), Fail> {
-    assert_eq!(rt; seen_lists(rt.alloc(), 49)?, [false, true, false, true]);
-    assert_eq!(rt; seen_lists(rt.alloc(), 48)?, [false, false, false, false]);
+    assert_eq!(rt; seen_lists(rt.alloc(), 97)?, [false, true, false, true]);
+    assert_eq!(rt; seen_lists(rt.alloc(), 96)?, [false, false, false, false]);
     Ok(())
 }

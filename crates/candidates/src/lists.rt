@@ -16,7 +16,7 @@ use std::alloc::Global;
 use std::marker::Model;
 
 /// Rows of at most as many pairs have no list, and are read whole each time.
-pub const SHORT_ROW: usize = 48;
+pub const SHORT_ROW: usize = 96;
 
 /// The candidates of persons 1, 2, .., while nobody has taken them.
 #[derive(Drop)]
