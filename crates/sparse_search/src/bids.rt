@@ -24,21 +24,21 @@ fn greatest_below_far(prices: &[i64]) -> i64 {
     greatest
 }
 
-/// Prices at which the least value of each listed object is the same.
-pub fn set_first_prices(problem: SparseProblem<'_>, market: &mut Market) {
+/// Prices at which the least value of each listed object is the same. Returns whether each object is
+/// listed.
+pub fn set_first_prices(problem: SparseProblem<'_>, market: &mut Market) -> bool {
     let prices = market.prices.as_mut_slice();
     for price in prices.iter_mut() {
         *price = FAR;
     }
     lower_to_costs(problem.pairs, prices);
     let greatest = greatest_below_far(prices);
+    let mut are_listed = true;
     for price in prices.iter_mut() {
-        *price = if *price == FAR {
-            0
-        } else {
-            greatest.wrapping_sub(*price)
-        };
+        are_listed = are_listed && *price < FAR;
+        *price = greatest.wrapping_sub(*price).max(0);
     }
+    are_listed
 }
 
 // One bid: the price rises until the second best is as good. Returns the person who lost the object;

@@ -123,7 +123,7 @@ impl<'a> Run<'a> {
 
     fn step(&mut self) -> Result<Option<RunEnd>, AllocError> {
         match self.record.stage {
-            Stage::Cold => self.begin_cold(),
+            Stage::Cold => return self.begin_cold(),
             Stage::Warm => self.begin_warm()?,
             Stage::Bids => self.first_bids(),
             Stage::WarmTight => self.match_warm()?,

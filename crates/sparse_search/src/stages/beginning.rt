@@ -4,7 +4,7 @@ use super::super::problem::Scaled;
 use super::super::record::Stage;
 use super::super::tight::{count_slack, match_tight, settle};
 use super::super::unowned::lower_unowned;
-use super::Run;
+use super::{Run, RunEnd};
 use std::alloc::AllocError;
 
 // The numbers come from measurements; no answer depends on them.
@@ -26,17 +26,21 @@ const MOST_LEFT: usize = 32;
 const FEW_DEAR: usize = 4;
 
 impl<'a> Run<'a> {
-    pub fn begin_cold(&mut self) {
+    // In a square in which nobody lists some object all persons together list too few.
+    pub fn begin_cold(&mut self) -> Result<Option<RunEnd>, AllocError> {
         self.market.release_all();
         self.market.clear_prices();
         if self.problem.is_square() {
-            set_first_prices(self.problem, &mut self.market);
             self.arc_scans.add(self.problem.pairs.len());
+            if !set_first_prices(self.problem, &mut self.market) {
+                return Ok(Some(RunEnd::Hall(self.market.unassigned(self.alloc)?)));
+            }
         }
         self.record.shift = 0;
         self.record.slackness = 0;
         self.record = self.record.with_stage(Stage::Bids);
         self.record.bids = self.most_first_bids();
+        Ok(None)
     }
 
     fn most_first_bids(&self) -> u64 {
@@ -59,9 +63,9 @@ impl<'a> Run<'a> {
         }
     }
 
-    // An assignment is known to exist after an auction that was left.
+    // With a limit an assignment is known to exist after an auction that was left.
     fn after_bids(&self) -> Stage {
-        if self.record.has_assignment {
+        if self.record.has_assignment && self.arc_scans.limit < u64::MAX {
             Stage::LastTight
         } else {
             Stage::FirstTight

@@ -210,7 +210,6 @@ impl<'a> Run<'a> {
         if self.arc_scans.limit == u64::MAX || kept == self.problem.persons() {
             return Ok(Some(RunEnd::Drops(components)));
         }
-        self.begin_cold();
-        Ok(None)
+        self.begin_cold()
     }
 }
