@@ -1,9 +1,18 @@
 // A dense problem: each person lists each object.
 use super::gather::scatter;
 use super::market::Market;
-use super::number::Number;
+use super::number::{Number, greater, lesser};
 use super::reading::{AsCosts, Magnified, Reading};
 use assign_core::Sense;
+use search_base::place_at;
+
+// So many persons show whether nearly all pairs are far, where there are at least so many pairs. If they
+// are, values are first reduced by persons. Else an object without a near pair is priced far below the
+// others, and each search scans the owners of all of these: 1,000 rows with one near pair in a thousand
+// took 34 times as long, bands of 2,000 rows 5 times.
+const SAMPLE: usize = 8;
+
+const LEAST_SAMPLED: usize = 1 << 14;
 
 /// Persons and objects are given by their places from 0. The costs of a person stand side by side,
 /// one for each object, and they are read where they lie.
@@ -63,6 +72,47 @@ impl<'a, K: Number, R: Reading<K>> Matrix<'a, K, R> {
     // The number of pairs.
     pub fn pairs(&self) -> usize {
         self.costs.len()
+    }
+
+    // A person's least and greatest value.
+    fn ends_of(&self, person: u32) -> (K, K) {
+        let first = self.value(person, 0);
+        let mut ends = (first, first);
+        for cost in self.row(person) {
+            let value = self.reading.value(*cost);
+            ends = (lesser(ends.0, value), greater(ends.1, value));
+        }
+        ends
+    }
+
+    // How many objects have the greatest value for a person.
+    fn count_farthest(&self, person: u32) -> usize {
+        let farthest = self.ends_of(person).1;
+        let row = self.row(person).iter();
+        row.filter(|cost| !self.reading.value(**cost).is_below(farthest))
+            .count()
+    }
+
+    // Whether nearly all pairs are as bad as any, like forbidden ones, as some persons show.
+    pub fn is_mostly_far(&self) -> bool {
+        if self.pairs() < LEAST_SAMPLED {
+            return false;
+        }
+        let mut far = 0usize;
+        for k in 0..SAMPLE {
+            let person = place_at(self.persons.saturating_mul(k) / SAMPLE);
+            far = far.saturating_add(self.count_farthest(person));
+        }
+        far > self.objects.saturating_mul(SAMPLE) / 8 * 7
+    }
+
+    // What a person's values are reduced by before those of objects: its least one, or nothing.
+    pub fn first_value(&self, person: u32, are_rows_first: bool) -> K {
+        if are_rows_first {
+            self.ends_of(person).0
+        } else {
+            K::zero()
+        }
     }
 }
 

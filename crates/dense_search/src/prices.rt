@@ -7,9 +7,9 @@ use search_base::place_at;
 // Greater prices of a caller, and lower ones than its negative, are cut.
 const GREATEST_PRICE: i64 = 1 << 60;
 
-fn lower<K: Number, R: Reading<K>>(reading: &R, row: &[K], least: &mut [K]) {
+fn lower<K: Number, R: Reading<K>>(reading: &R, row: &[K], own: K, least: &mut [K]) {
     for (cost, least) in row.iter().zip(least.iter_mut()) {
-        *least = lesser(*least, reading.value(*cost));
+        *least = lesser(*least, reading.value(*cost).minus(own));
     }
 }
 
@@ -25,11 +25,14 @@ fn fill<K: Number>(prices: &mut [K], value: K) {
     }
 }
 
-// The negated least cost of each object.
+// The negated least cost of each object, less what each person's least value is.
 fn least_of_columns<K: Number, R: Reading<K>>(matrix: &Matrix<'_, K, R>, prices: &mut [K]) {
+    let are_rows_first = matrix.is_mostly_far();
     fill(prices, K::far());
     for k in 0..matrix.persons {
-        lower(&matrix.reading, matrix.row(place_at(k)), prices);
+        let person = place_at(k);
+        let own = matrix.first_value(person, are_rows_first);
+        lower(&matrix.reading, matrix.row(person), own, prices);
     }
     negate(prices);
 }
