@@ -11,6 +11,10 @@ use std::alloc::AllocError;
 // Bids without slackness, for each person.
 const FIRST_BIDS: u64 = 2;
 
+// From so many pairs on a Hall set of all persons does: 100,000 persons of three pairs each took 25 times as
+// long to show one of fewer.
+const MANY_PAIRS: usize = 1 << 14;
+
 // With more objects than persons by this part, and prices below this part of the costs' spread, a
 // search without first prices is short.
 const WIDE: usize = 8;
@@ -26,13 +30,15 @@ const MOST_LEFT: usize = 32;
 const FEW_DEAR: usize = 4;
 
 impl<'a> Run<'a> {
-    // In a square in which nobody lists some object all persons together list too few.
+    // In a square in which nobody lists some object all persons together list too few. Where there are few
+    // pairs a search finds fewer persons who do.
     pub fn begin_cold(&mut self) -> Result<Option<RunEnd>, AllocError> {
         self.market.release_all();
         self.market.clear_prices();
         if self.problem.is_square() {
             self.arc_scans.add(self.problem.pairs.len());
-            if !set_first_prices(self.problem, &mut self.market) {
+            let are_listed = set_first_prices(self.problem, &mut self.market);
+            if !are_listed && self.problem.pairs.len() >= MANY_PAIRS {
                 return Ok(Some(RunEnd::Hall(self.market.unassigned(self.alloc)?)));
             }
         }
