@@ -12,8 +12,8 @@ use std::alloc::AllocError;
 const FIRST_BIDS: u64 = 2;
 
 // From so many pairs on a Hall set of all persons does: 100,000 persons of three pairs each took 25 times as
-// long to show one of fewer.
-const MANY_PAIRS: usize = 1 << 14;
+// long to show one of fewer. People read those of smaller problems, and few names help them more.
+const MANY_PAIRS: usize = 1 << 18;
 
 // With more objects than persons by this part, and prices below this part of the costs' spread, a
 // search without first prices is short.
