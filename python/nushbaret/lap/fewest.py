@@ -17,10 +17,12 @@ def fewest_changes(problem: AssignmentProblem, kept: Collection[Tuple[int, int]]
     Rows and columns of `kept` count from 0. The plan's prices are whole, and prove it for the costs alone; the library
     proves at combined ones that no best plan changes fewer."""
     asked = proved.instance_of(problem)
-    items = dict(zip(*oriented(problem, [row for row, _ in kept], [column for _, column in kept])))
-    if not asked.n or len(items) < len(kept):
+    persons, items = oriented(problem, [row for row, _ in kept], [column for _, column in kept])
+    if not asked.n or len(set(persons)) < len(kept):
         return None
-    own = array("I", [items.get(person, -1) + 1 for person in range(asked.n)])
+    own = array("I", bytes(4 * asked.n))
+    for person, item in zip(persons, items):
+        own[person] = item + 1
     found = wide.solved(problem.maximize, asked, own)
     if isinstance(found, proved.HallSet):
         return None

@@ -2,6 +2,7 @@
 which the library says where the fewer of persons and objects all have a pair; and where they haven't, a plan with the
 fewest changes from an earlier one."""
 from array import array
+from collections import Counter
 from itertools import compress
 from math import inf
 from operator import add
@@ -105,13 +106,13 @@ def swaps_of(nodes: RosterNodes, best: BestPlan) -> List[Swap]:
     numbers = groups(best.problem, best.answer)
     if numbers is None:
         return sorted(swaps_of_pairs(map(nodes.named, _free_pairs(nodes, best))))
-    persons: Dict[int, List[int]] = {}
-    for person, item in enumerate(best.answer.objects):
-        persons.setdefault(numbers[item - 1], []).append(person)
-    items: Dict[int, List[int]] = {number: [] for number in persons}
-    for item, number in enumerate(numbers):
-        items.get(number, []).append(item)
-    sides = (oriented(best.problem, persons[number], those) for number, those in items.items() if len(those) > 1)
+    counts, own = Counter(numbers), [numbers[item - 1] for item in best.answer.objects]
+    joined: Dict[int, Tuple[List[int], List[int]]] = {number: ([], []) for number in own if counts[number] > 1}
+    for side, of_side in enumerate((own, numbers) if joined else ()):
+        for place, number in enumerate(of_side):
+            if number in joined:
+                joined[number][side].append(place)
+    sides = (oriented(best.problem, *both) for both in joined.values())
     return sorted(Swap([nodes.of_rows[row] for row in rows], [nodes.of_columns[column] for column in columns])
                   for rows, columns in sides)
 
