@@ -1,17 +1,10 @@
 // The arrows of an optimal assignment, from objects to objects that are as good for their persons;
-// 0 stands for no person.
+// 0 stands for no person. Arrows to the object where they begin are among them.
+use super::graph::Graph;
 use super::values::{place_of, set_value, value_at};
 use assign_core::{Cost, Sense};
 use cost_lists::{Object, Pairs, Price, Source};
 use std::alloc::{AllocError, Global};
-
-/// An arrow, and the place of the pair that shows it: of a person's row, or of a listed pair.
-#[derive(Clone, Copy)]
-pub struct Arrow {
-    pub from: u32,
-    pub to: u32,
-    pub place: usize,
-}
 
 /// An optimal assignment: its persons' objects with their sums of cost and price, and the prices.
 #[derive(Clone, Copy)]
@@ -42,111 +35,146 @@ fn least_sum(sense: Sense, costs: &[Cost], prices: &[Price]) -> Cost {
     least
 }
 
-// Adds the arrows of a person to objects after some first ones.
-fn add_block(
-    arrows: &mut Vec<Arrow>,
+// Writes the objects whose sums are at most this one, after so many that are written and after the
+// object `first`. Returns how many are written then. No branch depends on a cost, as many may be
+// equal.
+fn write_block(
+    found: &mut [Object],
+    written: usize,
     best: Best<'_>,
     costs: &[Cost],
     prices: &[Price],
-    place: usize,
+    sum: Cost,
     first: Object,
-) -> Result<(), AllocError> {
-    let sum = value_at(best.sums, place, 0);
-    let from = value_at(best.objects, place, 0);
+) -> usize {
+    let mut count = written;
     let mut to = first;
     for (cost, price) in costs.iter().zip(prices.iter()) {
         to = to.wrapping_add(1);
-        if sum_of(best.sense, *cost, *price) <= sum && to != from {
-            arrows.push(Arrow { from, to, place })?;
-        }
+        set_value(found, count, to);
+        count = count.wrapping_add(usize::from(sum_of(best.sense, *cost, *price) <= sum));
     }
-    Ok(())
+    count
 }
 
-// Adds the arrows of a person, of its row of costs.
-fn add_row(
-    arrows: &mut Vec<Arrow>,
-    best: Best<'_>,
-    row: &[Cost],
-    place: usize,
-) -> Result<(), AllocError> {
+// Writes the objects of a row that are as good for its person as the own one, and counts them.
+fn write_row(found: &mut [Object], best: Best<'_>, row: &[Cost], place: usize) -> usize {
     let sum = value_at(best.sums, place, 0);
+    let mut count = 0usize;
     let mut first: Object = 0;
     for (costs, prices) in row
         .chunks(BLOCK as usize)
         .zip(best.prices.chunks(BLOCK as usize))
     {
         if least_sum(best.sense, costs, prices) <= sum {
-            add_block(arrows, best, costs, prices, place, first)?;
+            count = write_block(found, count, best, costs, prices, sum, first);
         }
         first = first.wrapping_add(BLOCK);
     }
-    Ok(())
+    count
 }
 
 // The arrows of all persons, of rows of costs.
-fn add_rows(arrows: &mut Vec<Arrow>, best: Best<'_>, costs: &[Cost]) -> Result<(), AllocError> {
+fn add_rows(
+    alloc: Global,
+    graph: &mut Graph,
+    best: Best<'_>,
+    costs: &[Cost],
+) -> Result<(), AllocError> {
+    let mut found = vec![in alloc; 0u32; best.prices.len().saturating_add(1)]?;
     let mut rest = costs;
-    for place in 0..best.objects.len() {
+    for (place, object) in best.objects.iter().enumerate() {
         let (row, others) = rest.split_at(best.prices.len().min(rest.len()));
         rest = others;
-        add_row(arrows, best, row, place)?;
+        let count = write_row(found.as_mut_slice(), best, row, place);
+        let ends = found.as_slice().get(..count).unwrap_or(&[]);
+        graph.add(*object as usize, place, ends)?;
     }
     Ok(())
 }
 
-// The arrows of all persons, of listed pairs.
-fn add_pairs(arrows: &mut Vec<Arrow>, best: Best<'_>, pairs: Pairs<'_>) -> Result<(), AllocError> {
+// The places of the listed pairs that are as good for their persons as the own ones.
+fn places_of(alloc: Global, best: Best<'_>, pairs: Pairs<'_>) -> Result<Vec<usize>, AllocError> {
+    let mut places = Vec::with_capacity(alloc, best.prices.len())?;
     for (place, cost) in pairs.costs.iter().enumerate() {
         let person = place_of(value_at(pairs.persons, place, 0));
         let to = value_at(pairs.objects, place, 0);
-        let from = value_at(best.objects, person, 0);
         let price = value_at(best.prices, place_of(to), 0);
-        if sum_of(best.sense, *cost, price) <= value_at(best.sums, person, 0) && to != from {
-            arrows.push(Arrow { from, to, place })?;
+        if sum_of(best.sense, *cost, price) <= value_at(best.sums, person, 0) {
+            places.push(place)?;
         }
     }
-    Ok(())
+    Ok(places)
 }
 
-// The arrows from objects that nobody has to 0, and from 0 to those that may be left.
-fn add_out(arrows: &mut Vec<Arrow>, owned: &[bool], prices: &[Price]) -> Result<(), AllocError> {
+// The objects where the arrows of listed pairs begin, and those to which they lead.
+fn ends_of(
+    alloc: Global,
+    best: Best<'_>,
+    pairs: Pairs<'_>,
+    places: &[usize],
+) -> Result<(Vec<u32>, Vec<u32>), AllocError> {
+    let mut from = Vec::with_capacity(alloc, places.len())?;
+    let mut to = Vec::with_capacity(alloc, places.len())?;
+    for place in places {
+        let person = place_of(value_at(pairs.persons, *place, 0));
+        from.push(value_at(best.objects, person, 0))?;
+        to.push(value_at(pairs.objects, *place, 0))?;
+    }
+    Ok((from, to))
+}
+
+// The arrows of all persons, of listed pairs.
+fn add_pairs(
+    alloc: Global,
+    graph: &mut Graph,
+    best: Best<'_>,
+    pairs: Pairs<'_>,
+) -> Result<(), AllocError> {
+    let places = places_of(alloc, best, pairs)?;
+    let (from, to) = ends_of(alloc, best, pairs, places.as_slice())?;
+    graph.add_all(alloc, from.as_slice(), to.as_slice(), places.as_slice())
+}
+
+// The objects that somebody has and may leave.
+fn leavable(alloc: Global, owned: &[bool], prices: &[Price]) -> Result<Vec<u32>, AllocError> {
+    let mut found = Vec::new(alloc);
     let mut object: Object = 0;
     for (is_owned, price) in owned.iter().zip(prices.iter()) {
         object = object.wrapping_add(1);
+        if *is_owned && *price == 0 {
+            found.push(object)?;
+        }
+    }
+    Ok(found)
+}
+
+// The arrows from objects that nobody has to 0.
+fn add_unowned(graph: &mut Graph, owned: &[bool]) -> Result<(), AllocError> {
+    let mut object = 0usize;
+    for is_owned in owned {
+        object = object.wrapping_add(1);
         if !*is_owned {
-            arrows.push(Arrow {
-                from: object,
-                to: 0,
-                place: 0,
-            })?;
-        } else if *price == 0 {
-            arrows.push(Arrow {
-                from: 0,
-                to: object,
-                place: 0,
-            })?;
+            graph.add(object, 0, &[0])?;
         }
     }
     Ok(())
 }
 
 /// All arrows.
-pub fn arrows_of(
-    alloc: Global,
-    source: Source<'_>,
-    best: Best<'_>,
-) -> Result<Vec<Arrow>, AllocError> {
+pub fn arrows_of(alloc: Global, source: Source<'_>, best: Best<'_>) -> Result<Graph, AllocError> {
     let m = best.prices.len();
     let mut owned = vec![in alloc; false; m]?;
     for object in best.objects {
         set_value(owned.as_mut_slice(), place_of(*object), true);
     }
-    let mut arrows = Vec::with_capacity(alloc, m)?;
+    let mut graph = Graph::new(alloc, m.saturating_add(1))?;
     match source {
-        Source::Dense(costs) => add_rows(&mut arrows, best, costs)?,
-        Source::Listed(pairs) => add_pairs(&mut arrows, best, pairs)?,
+        Source::Dense(costs) => add_rows(alloc, &mut graph, best, costs)?,
+        Source::Listed(pairs) => add_pairs(alloc, &mut graph, best, pairs)?,
     }
-    add_out(&mut arrows, owned.as_slice(), best.prices)?;
-    Ok(arrows)
+    let ends = leavable(alloc, owned.as_slice(), best.prices)?;
+    graph.add(0, 0, ends.as_slice())?;
+    add_unowned(&mut graph, owned.as_slice())?;
+    Ok(graph)
 }

@@ -10,8 +10,14 @@ pub struct Components {
     /// The number of each vertex, or `NONE` yet, and the vertex at which each number was found.
     pub groups: Vec<u32>,
     pub roots: Vec<u32>,
-    /// How many vertices were entered when each was, and the least of these numbers that it reaches.
-    orders: Vec<u32>,
+    /// How many vertices were entered when each was.
+    pub orders: Vec<u32>,
+    /// The vertex from which each was entered, and the arrow.
+    pub parents: Vec<u32>,
+    pub entries: Vec<usize>,
+    /// The arrow of each vertex on the way to the first one entered that it reaches.
+    pub ways: Vec<usize>,
+    /// The order of the first vertex entered that each reaches.
     lowest: Vec<u32>,
     /// The next arrow of each vertex.
     next: Vec<usize>,
@@ -33,6 +39,9 @@ impl Components {
             groups: vec![in alloc; NONE; vertices]?,
             roots: Vec::with_capacity(alloc, vertices)?,
             orders: vec![in alloc; 0u32; vertices]?,
+            parents: vec![in alloc; 0u32; vertices]?,
+            entries: vec![in alloc; 0usize; vertices]?,
+            ways: vec![in alloc; 0usize; vertices]?,
             lowest: vec![in alloc; 0u32; vertices]?,
             next: vec![in alloc; 0usize; vertices]?,
             path: Vec::with_capacity(alloc, vertices)?,
@@ -42,26 +51,19 @@ impl Components {
         })
     }
 
-    fn order(&self, vertex: u32) -> u32 {
-        value_at(self.orders.as_slice(), vertex as usize, 0)
-    }
-
-    // Puts a vertex at the end of the path.
-    fn enter(&mut self, graph: &Graph, vertex: u32) -> Result<(), AllocError> {
+    // Enters a vertex from another one, by its next arrow.
+    fn enter(&mut self, graph: &Graph, vertex: u32, parent: u32) -> Result<(), AllocError> {
+        let at = vertex as usize;
         self.count = self.count.wrapping_add(1);
-        set_value(self.orders.as_mut_slice(), vertex as usize, self.count);
-        set_value(self.lowest.as_mut_slice(), vertex as usize, self.count);
-        let start = graph.start(vertex as usize);
-        set_value(self.next.as_mut_slice(), vertex as usize, start);
+        set_value(self.orders.as_mut_slice(), at, self.count);
+        set_value(self.lowest.as_mut_slice(), at, self.count);
+        set_value(self.next.as_mut_slice(), at, graph.start(vertex));
+        let entry = value_at(self.next.as_slice(), parent as usize, 0);
+        set_value(self.parents.as_mut_slice(), at, parent);
+        set_value(self.entries.as_mut_slice(), at, entry);
         self.path.push(vertex)?;
         self.open.push(vertex)?;
         Ok(())
-    }
-
-    // A vertex reaches one that was entered as this one.
-    fn lower(&mut self, vertex: u32, order: u32) {
-        let lowest = value_at(self.lowest.as_slice(), vertex as usize, 0).min(order);
-        set_value(self.lowest.as_mut_slice(), vertex as usize, lowest);
     }
 
     // Makes a component of the vertices that were entered since this one.
@@ -81,11 +83,21 @@ impl Components {
         Ok(())
     }
 
+    // A vertex reaches one that was entered earlier, by its next arrow.
+    fn lower(&mut self, vertex: u32, lowest: u32) {
+        let at = vertex as usize;
+        if lowest < value_at(self.lowest.as_slice(), at, 0) {
+            let arrow = value_at(self.next.as_slice(), at, 0);
+            set_value(self.lowest.as_mut_slice(), at, lowest);
+            set_value(self.ways.as_mut_slice(), at, arrow);
+        }
+    }
+
     // Takes the last vertex off the path.
     fn leave(&mut self, vertex: u32) -> Result<(), AllocError> {
         let _last = self.path.pop();
         let lowest = value_at(self.lowest.as_slice(), vertex as usize, 0);
-        if lowest == self.order(vertex) {
+        if lowest == value_at(self.orders.as_slice(), vertex as usize, 0) {
             self.close(vertex)?;
         }
         if let Some(before) = self.path.last().copied() {
@@ -94,32 +106,46 @@ impl Components {
         Ok(())
     }
 
-    // Goes along an arrow from one vertex to another.
-    fn meet(&mut self, graph: &Graph, vertex: u32, other: u32) -> Result<(), AllocError> {
-        if self.order(other) == 0 {
-            return self.enter(graph, other);
-        }
-        if value_at(self.groups.as_slice(), other as usize, 0) == NONE {
-            self.lower(vertex, self.order(other));
-        }
-        Ok(())
+    // Whether a vertex that was entered has no number yet.
+    fn is_open(&self, vertex: u32) -> bool {
+        value_at(self.groups.as_slice(), vertex as usize, 0) == NONE
     }
 
-    // Walks along all arrows that a vertex reaches.
+    // Goes along the arrows of a vertex up to one to a vertex that wasn't entered.
+    fn go_on(&mut self, graph: &Graph, vertex: u32) -> Option<u32> {
+        let at = vertex as usize;
+        let mut arrow = value_at(self.next.as_slice(), at, 0);
+        let mut lowest = value_at(self.lowest.as_slice(), at, 0);
+        let mut way = value_at(self.ways.as_slice(), at, 0);
+        let mut fresh = None;
+        for other in graph.ends_from(vertex, arrow) {
+            let order = value_at(self.orders.as_slice(), *other as usize, 0);
+            if order == 0 {
+                fresh = Some(*other);
+                break;
+            }
+            if order < lowest && self.is_open(*other) {
+                lowest = order;
+                way = arrow;
+            }
+            arrow = arrow.wrapping_add(1);
+        }
+        set_value(self.next.as_mut_slice(), at, arrow);
+        set_value(self.lowest.as_mut_slice(), at, lowest);
+        set_value(self.ways.as_mut_slice(), at, way);
+        fresh
+    }
+
+    // Walks along all arrows that a vertex reaches: each turn enters a vertex or leaves one.
     fn walk(&mut self, graph: &Graph, first: u32) -> Result<(), AllocError> {
-        self.enter(graph, first)?;
-        for _ in 0..graph.size().wrapping_add(1) {
+        self.enter(graph, first, first)?;
+        for _ in 0..graph.vertices().saturating_mul(2) {
             let Some(vertex) = self.path.last().copied() else {
                 return Ok(());
             };
-            let arrow = value_at(self.next.as_slice(), vertex as usize, 0);
-            match graph.end(vertex, arrow) {
+            match self.go_on(graph, vertex) {
                 None => self.leave(vertex)?,
-                Some(other) => {
-                    let next = arrow.wrapping_add(1);
-                    set_value(self.next.as_mut_slice(), vertex as usize, next);
-                    self.meet(graph, vertex, other)?;
-                }
+                Some(other) => self.enter(graph, other, vertex)?,
             }
         }
         Ok(())
@@ -130,8 +156,8 @@ impl Components {
 pub fn components_of(alloc: Global, graph: &Graph) -> Result<Components, AllocError> {
     let mut components = Components::new(alloc, graph.vertices())?;
     let mut vertex: u32 = 0;
-    for _ in 0..graph.vertices() {
-        if components.order(vertex) == 0 {
+    for place in 0..graph.vertices() {
+        if value_at(components.orders.as_slice(), place, 0) == 0 {
             components.walk(graph, vertex)?;
         }
         vertex = vertex.wrapping_add(1);

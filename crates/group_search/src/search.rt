@@ -3,8 +3,7 @@ ghost use Rattle.std.specs.Prelude.{◌≡◌, length};
 
 use super::arrows::{Best, arrows_of};
 use super::components::components_of;
-use super::graph::Graph;
-use super::trees::{FoundTree, trees_of};
+use super::trees::{FoundTree, tree_from, tree_towards};
 use super::values::{place_of, value_at};
 use cost_lists::{CostLists, Object, Price};
 use std::alloc::{AllocError, Global};
@@ -47,13 +46,10 @@ pub fn find_groups(
         objects,
         prices,
     };
-    let arrows = arrows_of(alloc, lists.source(), best)?;
-    let vertices = prices.len().saturating_add(1);
-    let graph = Graph::new(alloc, arrows.as_slice(), vertices, true)?;
+    let graph = arrows_of(alloc, lists.source(), best)?;
     let components = components_of(alloc, &graph)?;
-    let from = trees_of(alloc, &graph, &components)?;
-    let back = Graph::new(alloc, arrows.as_slice(), vertices, false)?;
-    let towards = trees_of(alloc, &back, &components)?;
+    let from = tree_from(alloc, &graph, &components)?;
+    let towards = tree_towards(alloc, &graph, &components)?;
     let all = components.groups.as_slice();
     let groups = Vec::from_slice(alloc, all.get(1..).unwrap_or(&[]))?;
     Ok(FoundGroups {
