@@ -1,6 +1,7 @@
-use Rattle.std.proofs.Common.{ℕ, pos, ◌<◌, ◌+◌, get_or}
-use Rattle.group_checker.specs.inside.Reading.{Falls}
+use Rattle.std.proofs.Common.{ℕ, pos, ◌<◌, ◌≤◌, ◌≤ℤ◌, ◌+◌, get_or}
+use Rattle.group_checker.specs.inside.Reading.{group_at, sum_to}
 use Rattle.group_checker.proofs.rows.row_falls.Given as goal
 
 abbrev pub invariant-loop-j : goal.invariant-loop-j
-invariant-loop-j l = (k : ℕ) → k < l.j → Falls l.plan l.person (k + 1) (get_or l.row k (pos 0))
+invariant-loop-j l =
+    (k : ℕ) → k < l.j → sum_to l.plan (k + 1) (get_or l.row k (pos 0)) ≤ℤ l.sum → group_at l.plan (k + 1) ≤ l.group
