@@ -51,9 +51,8 @@ class WideNumbers(BorrowedNumbers):
         self.count = held // 2
 
     def listed(self) -> List[int]:
-        """The numbers as a list of Python's; they are those of an `array`."""
-        low = self.words[::2]
-        if not any(self.words[1::2]) and min(low, default=0) >= 0:
-            return list(low)
+        """The numbers as a list of Python's."""
+        if isinstance(self.words, array) and not any(self.words[1::2]) and min(self.words[::2], default=0) >= 0:
+            return self.words[::2].tolist()
         data = self.words.tobytes()
         return [int.from_bytes(data[begin:begin + 16], "little", signed=True) for begin in range(0, len(data), 16)]
