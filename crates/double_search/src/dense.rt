@@ -9,7 +9,7 @@ use dense_search::{DenseProblem, Outcome, Record, search};
 use std::alloc::{AllocError, Global};
 
 // From so many persons on that search is faster.
-const LEAST: usize = 300;
+const LEAST: usize = 160;
 
 // So many costs are looked at for equal ones.
 const LOOKED_AT: usize = 4096;
