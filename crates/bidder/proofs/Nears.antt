@@ -75,7 +75,7 @@ pub near_with : (row : Listing) (q : List ℤ) (near : Near) (j : ℕ) (v a : �
     All (λ e. e.0 < j) row → v +ℤ price_of q j ≡ a → MatchBool above (near.best <ℤ v) (v ≤ℤ near.best) →
     MatchBool next (near.second <ℤ v) (v ≤ℤ near.second) →
     IsNear (row ++ (j, a) ∷ []) q (cond above (record { object = j; best = v; other = near.object; second = near.best })
-        (cond next (record { object = near.object; best = near.best; other = j; second = v }) near))
+    (cond next (record { object = near.object; best = near.best; other = j; second = v }) near))
 near_with row q near j v a true next is up worth more _ = near_best row q near j v a is up worth more
 near_with row q near j v a false true is up worth no_more more = near_second row q near j v a is up worth more no_more
 near_with row q near j v a false false is up worth _ no_more = near_kept row q near j v a is up worth no_more

@@ -179,6 +179,11 @@ impl CandidateLists {
         CandidateLists { lists }
     }
 
+    /// Whether there is room for any lists: not where all rows are short.
+    pub fn has_room(&self) -> bool {
+        !self.lists.is_empty()
+    }
+
     /// Takes a person's candidates, if they are there.
     pub fn take(&mut self, person: Person) -> Option<Candidates>
         requires { 0 < person }

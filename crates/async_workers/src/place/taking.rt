@@ -13,7 +13,7 @@ ghost use Rattle.async_workers.specs.Session.{counted, one_more, with_table};
 ghost use Rattle.async_workers.specs.declared.rule.LastSession.{LastSession};
 ghost use Rattle.async_workers.specs.declared.rule.View.TheVariants.{Away, Holding};
 
-use super::listing::put_listed;
+use super::listing::{drop_listed, put_listed};
 use super::{BookPlace, Claimed, Desk, Held};
 use crate::boxed::BoxedBook;
 use crate::rule::{DeskPass, Give, Giver, Known, Queue, Take};
@@ -88,7 +88,7 @@ impl Desk {
         ensures same { self.new ≡ record self.old { view = self.new.view; offer = None } }
     {
         let mut book = take_book(rt, &place.queue, &mut self.pass);
-        put_listed(book.book_mut(), self.listed.take());
+        put_listed(book.book_mut(), &mut self.listed);
         Held {
             book,
             offer: self.offer.take(),
@@ -118,7 +118,7 @@ impl Held {
         ensures desk { desk.new ≡ record desk.old { known = with_table true self.old.book desk.old.known } }
         ensures free { IsFree self.new.book }
     {
-        desk.listed = None;
+        drop_listed(&mut desk.listed);
         let Known {
             number,
             table,
