@@ -18,9 +18,21 @@ use super::{BookPlace, Claimed, Desk, Held};
 use crate::boxed::BoxedBook;
 use crate::rule::{DeskPass, Give, Giver, Known, Queue, Take};
 use auction_book::Book;
+use std::hint;
 use std::marker::Brand;
 use std::sync::Wait;
 use std::thread;
+
+// After so many looks for the book the time between two of them doubles no more.
+const MOST_DOUBLED: u32 = 10;
+
+// Waits the longer, the more often the book wasn't there: each look slows the worker who has it.
+fn back_off(looks: u32) {
+    for _ in 0..1u32 << looks.min(MOST_DOUBLED) {
+        hint::spin_loop();
+    }
+    thread::yield_now();
+}
 
 // Tries until the book is in the place.
 pub(super) fn take_book<R: Wait>(rt: &R, queue: &Queue, pass: &mut DeskPass) -> BoxedBook
@@ -29,11 +41,13 @@ pub(super) fn take_book<R: Wait>(rt: &R, queue: &Queue, pass: &mut DeskPass) -> 
     ensures queue { IsSamePass pass.old pass.new }
     ensures took { Took (view pass.old) result (view pass.new) }
 {
+    let mut looks: u32 = 0;
     for _ in rt.forever() {
         if let Some(book) = queue.try_pop_as::<Take>(pass) {
             return book;
         }
-        thread::yield_now();
+        back_off(looks);
+        looks = looks.saturating_add(1);
     }
     unreachable!()
 }
