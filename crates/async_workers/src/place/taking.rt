@@ -18,10 +18,9 @@ use super::{BookPlace, Claimed, Desk, Held};
 use crate::boxed::BoxedBook;
 use crate::rule::{DeskPass, Give, Giver, Known, Queue, Take};
 use auction_book::Book;
-use std::hint;
 use std::marker::Brand;
 use std::sync::Wait;
-use std::thread;
+use std::{hint, thread};
 
 // After so many looks for the book the time between two of them doubles no more.
 const MOST_DOUBLED: u32 = 10;
