@@ -1,5 +1,3 @@
-use Rattle.std.proofs.Common.{rules, SFits}
-use Rattle.std.specs.Int.{w64}
 use Rattle.std.proofs.lemmas.Int.{to_z-of_z}
 use Rattle.bidder.proofs.Nears.{near_with}
 use Rattle.bidder.proofs.near.Near.with.Goals as goal
