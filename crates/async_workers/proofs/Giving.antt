@@ -1,5 +1,5 @@
 -- A pass gives the book back.
-use Rattle.std.proofs.Common.{◌≡◌, ◌≢◌, ℕ, ◌+◌, ◌≤◌, [], ◌∷◌, ◌++◌, length}
+use Rattle.std.proofs.Common.{◌≡◌, ◌≢◌, ℕ, ◌≤◌, [], ◌∷◌, ◌++◌, length}
 use Rattle.std.proofs.Common.{true, refl, sym, ap, ◌∙◌, subst, inr}
 use mathlib.Core.Option.{Option as Maybe, some, none, some-ne-none}
 use Rattle.crossbeam_queue.specs.Fifo.{Pushes}

@@ -44,16 +44,11 @@ impl BookPlace {
 
     // Notes whether it is worth while, before the book is put back. A write costs more than a look.
     fn note(&self, book: &Book) {
-        let calling = has_work(book);
+        let calling = book.has_work();
         if self.calls() != calling {
             self.calling.store(calling, Ordering::SeqCst);
         }
     }
-}
-
-// Whether a claim would be answered by anything but `Wait`.
-fn has_work(book: &Book) -> bool {
-    !book.waiting().is_empty() || book.is_done() || book.stopped() || book.refuted().is_some()
 }
 
 impl Model for BookPlace {

@@ -1,5 +1,5 @@
 -- Each event keeps what holds of the core.
-use Rattle.std.proofs.Common.{◌≡◌, ℕ, ℤ, zero, suc, ◌+◌, ◌<◌, ◌≤◌, ◌≤ℤ◌, List, [], ◌∷◌, ◌++◌, length}
+use Rattle.std.proofs.Common.{◌≡◌, ℕ, ℤ, zero, suc, ◌<◌, ◌≤◌, ◌≤ℤ◌, List, [], ◌∷◌, ◌++◌, length}
 use Rattle.std.proofs.Common.{replicate, nat_le, Bool, true, false, ◌&&◌, MatchBool, refl, ap}
 use Rattle.std.proofs.Common.{arith, sym, ◌∙◌, subst, Option, None, inl, inr}
 use Rattle.std.proofs.lemmas.List.{get_or-replicate, length-replicate}

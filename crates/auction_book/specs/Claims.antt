@@ -1,5 +1,5 @@
 -- The answers to a claim.
-use Rattle.std.specs.Prelude.{◌≡◌, ℕ, List, [], ◌∷◌, length, cond, is_some}
+use Rattle.std.specs.Prelude.{◌≡◌, ℕ, List, [], ◌∷◌, length, Bool, true, false, cond, is_some}
 use Rattle.assign_core.specs.Numbered.{IsNumber}
 use Rattle.scaled_values.specs.Scaled.{ScaledProblem}
 use Rattle.bidder.specs.Offers.{IsAsk}
@@ -17,6 +17,14 @@ claim_front b (person ∷ queue) = claim.Person person b.ask
 -- the first of the answers that applies
 abbrev pub claim_of : BookData → Claim
 claim_of b = cond (is_some b.refuted) claim.Refuted (cond (is_done b) claim.Done (cond b.stopped claim.Stopped (claim_front b b.queue)))
+
+-- no person waits
+abbrev pub is_wait : Claim → Bool
+is_wait claim.Refuted = false
+is_wait claim.Done = false
+is_wait claim.Stopped = false
+is_wait (claim.Person person ask) = false
+is_wait claim.Wait = true
 
 -- the book after that answer
 abbrev pub after_claim : BookData → ℕ → Claim → BookData

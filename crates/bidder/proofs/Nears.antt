@@ -1,5 +1,5 @@
 -- Rows of pairs read from the left at 64-bit prices.
-use Rattle.std.proofs.Common.{◌≡◌, ℕ, ℤ, ◌+ℤ◌, ◌≤ℤ◌, ◌<ℤ◌, ◌<◌, ◌≤◌, ◌+◌, List, [], ◌∷◌, ◌++◌, length, take, get_or, refl, ap, sym, ◌∙◌, subst, arith, None, Some}
+use Rattle.std.proofs.Common.{◌≡◌, ℕ, ℤ, ◌+ℤ◌, ◌≤ℤ◌, ◌<ℤ◌, ◌<◌, ◌≤◌, ◌+◌, List, [], ◌∷◌, ◌++◌, length, take, get_or, refl, ap, sym, ◌∙◌, subst, arith, None, Some, Bool, true, false, cond, MatchBool}
 use Rattle.std.specs.List.{All}
 use Rattle.std.specs.Int.{int_max}
 use Rattle.std.proofs.lemmas.Int.{ints, clamps}
@@ -69,6 +69,16 @@ near_second row q near j v a is up worth more no_more =
     } where
       taken : (v w : ℤ) → w <ℤ v → int_max v w ≡ v
       taken v w lt = omega (arith, ints, clamps)
+
+-- which of these it is
+pub near_with : (row : Listing) (q : List ℤ) (near : Near) (j : ℕ) (v a : ℤ) (above next : Bool) → IsNear row q near →
+    All (λ e. e.0 < j) row → v +ℤ price_of q j ≡ a → MatchBool above (near.best <ℤ v) (v ≤ℤ near.best) →
+    MatchBool next (near.second <ℤ v) (v ≤ℤ near.second) →
+    IsNear (row ++ (j, a) ∷ []) q (cond above (record { object = j; best = v; other = near.object; second = near.best })
+    (cond next (record { object = near.object; best = near.best; other = j; second = v }) near))
+near_with row q near j v a true next is up worth more _ = near_best row q near j v a is up worth more
+near_with row q near j v a false true is up worth no_more more = near_second row q near j v a is up worth more no_more
+near_with row q near j v a false false is up worth _ no_more = near_kept row q near j v a is up worth no_more
 
 -- the first two entries of a row
 pub near_start : (row : Listing) (q : List ℤ) (near : Near) (d e f g : ℕ × ℤ) → 1 < length row →

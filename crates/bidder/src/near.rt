@@ -1,5 +1,5 @@
 // The best two of a row of pairs, in 64 bits.
-ghost use Rattle.std.specs.Prelude.{◌≡◌, ℤ, ◌+ℤ◌, ◌<ℤ◌, ◌<◌, List, [], ◌∷◌, ◌++◌, length, take, All, IfSome, IsTrue};
+ghost use Rattle.std.specs.Prelude.{◌≡◌, ℤ, ◌+ℤ◌, ◌<ℤ◌, ◌<◌, List, [], ◌∷◌, ◌++◌, length, take, All, IfSome, IsTrue, MatchBool, cond, ◌≤◌, ◌≤ℤ◌};
 ghost use Rattle.assign_core.specs.Numbered.{IsNumber};
 ghost use Rattle.assign_core.specs.Rows.{Listing};
 ghost use Rattle.assign_core.specs.Benefits.{IsBenefit};
@@ -10,6 +10,9 @@ ghost use Rattle.bidder.specs.inside.Near.{IsNear};
 
 use super::scan::BestTwo;
 use assign_core::{Benefit, Object, Prices};
+
+// The first objects of a row, which change the best two more often than a processor foresees.
+const FEW: usize = 32;
 
 // The best two so far at the narrow prices, and an object of the second value.
 #[derive(Clone, Copy)]
@@ -73,28 +76,66 @@ impl Near {
         }
     }
 
-    // The best two with one more object, whose number is above those of the row and whose value is
-    // above the second.
+    // The first or else the other, field by field, so that no processor has to foresee which.
+    fn one_of(is_first: bool, first: Near, other: Near) -> Near
+        ensures { result ≡ cond is_first first other }
+    {
+        Near {
+            object: object_of(is_first, first.object, other.object),
+            best: number_of(is_first, first.best, other.best),
+            other: object_of(is_first, first.other, other.other),
+            second: number_of(is_first, first.second, other.second),
+        }
+    }
+
+    fn best_is_below(&self, value: i64) -> bool
+        ensures { MatchBool result (self.now.best <ℤ value) (value ≤ℤ self.now.best) }
+    {
+        self.best < value
+    }
+
+    fn second_is_below(&self, value: i64) -> bool
+        ensures { MatchBool result (self.now.second <ℤ value) (value ≤ℤ self.now.second) }
+    {
+        self.second < value
+    }
+
+    // The best two if an object is above the best.
+    fn with_best(&self, object: Object, value: i64) -> Near
+        ensures { result ≡ record { object = object; best = value; other = self.now.object; second = self.now.best } }
+    {
+        Near {
+            object,
+            best: value,
+            other: self.object,
+            second: self.best,
+        }
+    }
+
+    // The best two if an object is above the second alone.
+    fn with_second(&self, object: Object, value: i64) -> Near
+        ensures { result ≡ record { object = self.now.object; best = self.now.best; other = object; second = value } }
+    {
+        Near {
+            object: self.object,
+            best: self.best,
+            other: object,
+            second: value,
+        }
+    }
+
+    // The best two with one more object, whose number is above those of the row.
     fn with(self, object: Object, value: i64) -> Near
-        requires { self.second <ℤ value }
         ensures { (row : Listing) (narrow : List ℤ) (benefit : ℤ) → IsNear row narrow self
             → All (λ e. e.0 < object) row → value +ℤ price_of narrow object ≡ benefit
             → IsNear (row ++ (object, benefit) ∷ []) narrow result }
     {
-        if value > self.best {
-            Near {
-                object,
-                best: value,
-                other: self.object,
-                second: self.best,
-            }
-        } else {
-            Near {
-                other: object,
-                second: value,
-                ..self
-            }
-        }
+        let is_best = self.best_is_below(value);
+        let is_second = self.second_is_below(value);
+        let best = self.with_best(object, value);
+        let second = self.with_second(object, value);
+        let lower = Near::one_of(is_second, second, self);
+        Near::one_of(is_best, best, lower)
     }
 
     // Reads one more object, whose number is above those of the row.
@@ -135,6 +176,20 @@ impl Near {
     }
 }
 
+// The first of two objects, or else the other.
+fn object_of(is_first: bool, first: Object, other: Object) -> Object
+    ensures { result ≡ cond is_first first other }
+{
+    if is_first { first } else { other }
+}
+
+// The first of two numbers, or else the other.
+fn number_of(is_first: bool, first: i64, other: i64) -> i64
+    ensures { result ≡ cond is_first first other }
+{
+    if is_first { first } else { other }
+}
+
 // The first two objects of a row of pairs.
 fn first_two(row: &[(Object, Benefit)], narrow: &[i64]) -> Near
     requires row { IsBenefitRow (length narrow.now) row.now }
@@ -149,6 +204,22 @@ fn first_two(row: &[(Object, Benefit)], narrow: &[i64]) -> Near
     Near::of_two(first, value, next, second)
 }
 
+// The best two of the first objects of a row of pairs, without branches on their values.
+fn first_few(row: &[(Object, Benefit)], narrow: &[i64], few: usize) -> Near
+    requires row { IsBenefitRow (length narrow.now) row.now }
+    requires least { 2 ≤ few }
+    requires most { few ≤ length row.now }
+    requires narrow { All IsNarrow narrow.now }
+    ensures { IsNear (take few row.now) narrow.now result }
+{
+    let mut near = first_two(row, narrow);
+    for i in 2..few {
+        let (object, benefit) = row[i];
+        near = near.with(object, value_of(object, benefit, narrow));
+    }
+    near
+}
+
 // The best two of a row of pairs, if it has two or more, and the narrow prices of the best two are
 // their prices.
 pub fn narrow_best_two(row: &[(Object, Benefit)], prices: &Prices) -> Option<BestTwo>
@@ -159,8 +230,9 @@ pub fn narrow_best_two(row: &[(Object, Benefit)], prices: &Prices) -> Option<Bes
         return None;
     }
     let narrow = prices.narrow();
-    let mut near = first_two(row, narrow);
-    for i in 2..row.len() {
+    let few = row.len().min(FEW);
+    let mut near = first_few(row, narrow, few);
+    for i in few..row.len() {
         let (object, benefit) = row[i];
         near = near.read(object, benefit, narrow);
     }

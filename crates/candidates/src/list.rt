@@ -288,6 +288,17 @@ impl Candidates {
         self.waiting > 0
     }
 
+    /// Whether it waits for more than one bid. It then waits for one less.
+    pub fn rests(&mut self) -> bool
+        ensures { self.new ≡ self.old }
+    {
+        if self.waiting < 2 {
+            return false;
+        }
+        self.waiting -= 1;
+        true
+    }
+
     /// Counts an answer.
     pub fn count_answer(&mut self)
         ensures { self.new ≡ self.old }

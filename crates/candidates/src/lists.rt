@@ -157,6 +157,16 @@ fn fill(alloc: Global, scaled: &Scaled, lists: &mut Vec<Option<Candidates>>)
     }
 }
 
+// Whether candidates wait for further bids. They then stay where they are.
+fn rests(list: &mut Option<Candidates>) -> bool
+    ensures { list.new ≡ list.old }
+{
+    match list {
+        Some(list) => list.rests(),
+        None => false,
+    }
+}
+
 impl CandidateLists {
     /// No lists.
     pub fn none(alloc: Global) -> CandidateLists
@@ -179,7 +189,12 @@ impl CandidateLists {
         CandidateLists { lists }
     }
 
-    /// Takes a person's candidates, if they are there.
+    /// Whether there is room for any lists: not where all rows are short.
+    pub fn has_room(&self) -> bool {
+        !self.lists.is_empty()
+    }
+
+    /// Takes a person's candidates, if they are there and don't wait for further bids.
     pub fn take(&mut self, person: Person) -> Option<Candidates>
         requires { 0 < person }
         ensures taken { (s : ScaledProblem) (prices : List ℤ) → HaveCandidates s prices self.old
@@ -189,6 +204,9 @@ impl CandidateLists {
     {
         let place = person.place();
         if place >= self.lists.len() {
+            return None;
+        }
+        if rests(&mut self.lists[place]) {
             return None;
         }
         self.lists[place].take()

@@ -83,9 +83,6 @@ joined_none r h =
 pub range_joined : (r : Range) (xs : List ℤ) → IsWide r → joined r (range_with no_range xs) ≡ range_with r xs
 range_joined r xs h = joined_all r no_range xs ∙ ap (λ p. range_with p xs) (joined_none r h)
 
-pub IsWide-none : IsWide no_range
-IsWide-none = record { least = omega (arith, ints); greatest = omega (arith, ints) }
-
 pub IsWide-joined : (r q : Range) → IsWide r → IsWide (joined r q)
 IsWide-joined r q h =
     let l = h.least in

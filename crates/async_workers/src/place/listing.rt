@@ -1,5 +1,5 @@
 // The candidates of the claimed person, which come to the desk with the claim.
-ghost use Rattle.std.specs.Prelude.{◌≡◌, ℤ, List, length};
+ghost use Rattle.std.specs.Prelude.{◌≡◌, ℤ, List, None, length};
 ghost use Rattle.assign_core.specs.Numbered.{IsNumber};
 ghost use Rattle.assign_core.specs.Prices.{IsBelow};
 ghost use Rattle.bidder.specs.Offers.{IsAsk, offer_of};
@@ -22,13 +22,27 @@ pub struct Listed {
     pub list: Candidates,
 }
 
-// Puts candidates back into the book. They may be those at lower prices than the book's.
-pub(super) fn put_listed(book: &mut Book, listed: Option<Listed>)
-    requires { (table : List ℤ) × IsBelow table (prices_of book.old) × IsListed book.old.base table listed }
-    ensures { book.new ≡ book.old }
+// Puts candidates back into the book. They may be those at lower prices than the book's. Most runs
+// on short rows have none, so that nothing is moved before it is seen.
+pub(super) fn put_listed(book: &mut Book, listed: &mut Option<Listed>)
+    requires { (table : List ℤ) × IsBelow table (prices_of book.old) × IsListed book.old.base table listed.old }
+    ensures book { book.new ≡ book.old }
+    ensures listed { listed.new ≡ None }
 {
-    if let Some(Listed { person, list }) = listed {
+    if listed.is_none() {
+        return;
+    }
+    if let Some(Listed { person, list }) = listed.take() {
         book.put_list(person, list);
+    }
+}
+
+// Drops candidates, if there are any.
+pub(super) fn drop_listed(listed: &mut Option<Listed>)
+    ensures { listed.new ≡ None }
+{
+    if listed.is_some() {
+        *listed = None;
     }
 }
 
@@ -54,7 +68,9 @@ pub(super) fn fetch_list(held: &mut Held, desk: &mut Desk)
     ensures held { held.new ≡ held.old }
     ensures desk { desk.new ≡ desk.old }
 {
-    desk.listed = take_listed(held.book_mut(), desk.known.number, desk.known.version);
+    if held.book().has_lists() {
+        desk.listed = take_listed(held.book_mut(), desk.known.number, desk.known.version);
+    }
 }
 
 // The offer of a person, with its candidates if these are they.
@@ -73,15 +89,13 @@ fn offer_with(
     ensures offer { result ≡ offer_of scaled.now table.now version ask person }
     ensures listed { IsListed scaled.now table.now listed.new }
 {
-    let Some(mut own) = listed.take() else {
+    let Some(own) = listed else {
         return make_bid(scaled, table, version, ask, person);
     };
     if own.person != person {
         return make_bid(scaled, table, version, ask, person);
     }
-    let offer = make_bid_with(&mut own.list, scaled, table, version, ask, person);
-    *listed = Some(own);
-    offer
+    make_bid_with(&mut own.list, scaled, table, version, ask, person)
 }
 
 // The offer of the claimed person, from the desk's table.

@@ -13,14 +13,25 @@ ghost use Rattle.async_workers.specs.Session.{counted, one_more, with_table};
 ghost use Rattle.async_workers.specs.declared.rule.LastSession.{LastSession};
 ghost use Rattle.async_workers.specs.declared.rule.View.TheVariants.{Away, Holding};
 
-use super::listing::put_listed;
+use super::listing::{drop_listed, put_listed};
 use super::{BookPlace, Claimed, Desk, Held};
 use crate::boxed::BoxedBook;
 use crate::rule::{DeskPass, Give, Giver, Known, Queue, Take};
 use auction_book::Book;
 use std::marker::Brand;
 use std::sync::Wait;
-use std::thread;
+use std::{hint, thread};
+
+// After so many looks for the book the time between two of them doubles no more.
+const MOST_DOUBLED: u32 = 10;
+
+// Waits the longer, the more often the book wasn't there: each look slows the worker who has it.
+fn back_off(looks: u32) {
+    for _ in 0..1u32 << looks.min(MOST_DOUBLED) {
+        hint::spin_loop();
+    }
+    thread::yield_now();
+}
 
 // Tries until the book is in the place.
 pub(super) fn take_book<R: Wait>(rt: &R, queue: &Queue, pass: &mut DeskPass) -> BoxedBook
@@ -29,11 +40,13 @@ pub(super) fn take_book<R: Wait>(rt: &R, queue: &Queue, pass: &mut DeskPass) -> 
     ensures queue { IsSamePass pass.old pass.new }
     ensures took { Took (view pass.old) result (view pass.new) }
 {
+    let mut looks: u32 = 0;
     for _ in rt.forever() {
         if let Some(book) = queue.try_pop_as::<Take>(pass) {
             return book;
         }
-        thread::yield_now();
+        back_off(looks);
+        looks = looks.saturating_add(1);
     }
     unreachable!()
 }
@@ -88,7 +101,7 @@ impl Desk {
         ensures same { self.new ≡ record self.old { view = self.new.view; offer = None } }
     {
         let mut book = take_book(rt, &place.queue, &mut self.pass);
-        put_listed(book.book_mut(), self.listed.take());
+        put_listed(book.book_mut(), &mut self.listed);
         Held {
             book,
             offer: self.offer.take(),
@@ -118,7 +131,7 @@ impl Held {
         ensures desk { desk.new ≡ record desk.old { known = with_table true self.old.book desk.old.known } }
         ensures free { IsFree self.new.book }
     {
-        desk.listed = None;
+        drop_listed(&mut desk.listed);
         let Known {
             number,
             table,

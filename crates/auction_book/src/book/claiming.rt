@@ -1,8 +1,8 @@
 // Claims, and how they end without a bid.
-ghost use Rattle.std.specs.Prelude.{◌≡◌, ℕ, List, [], ◌∷◌, None, false, true, IfNone, IfSome, length, is_some};
+ghost use Rattle.std.specs.Prelude.{◌≡◌, ℕ, List, [], ◌∷◌, None, false, not, true, IfNone, IfSome, length, is_some};
 ghost use Rattle.assign_core.specs.Numbered.{IsNumber, numbered};
 ghost use Rattle.auction_book.specs.Changes.{claimed, given_up};
-ghost use Rattle.auction_book.specs.Claims.{IsAsked, IsHeld, after_claim, claim_of};
+ghost use Rattle.auction_book.specs.Claims.{IsAsked, IsHeld, after_claim, claim_of, is_wait};
 ghost use Rattle.auction_book.specs.Free.{IsFree};
 
 use super::super::answers::Claim;
@@ -57,6 +57,22 @@ impl Book {
             Some(person) => Claim::Person(person, ask),
             None => Claim::Wait,
         }
+    }
+
+    /// Whether a claim would be answered by anything but `Wait`.
+    pub fn has_work(&self) -> bool
+        ensures { result ≡ not (is_wait (claim_of self.now)) }
+    {
+        if self.is_refuted() {
+            return true;
+        }
+        if self.is_done() {
+            return true;
+        }
+        if self.stopped() {
+            return true;
+        }
+        !self.queue.is_empty()
     }
 
     /// Ends a worker's claim, if it has one; its person waits at the back of the queue. It takes no

@@ -21,6 +21,11 @@ impl Book {
         self.lists = CandidateLists::new(alloc, &self.scaled);
     }
 
+    /// Whether the book has room for any lists.
+    pub fn has_lists(&self) -> bool {
+        self.lists.has_room()
+    }
+
     /// Takes a person's candidates at the book's prices, if they are here.
     pub fn take_list(&mut self, person: Person) -> Option<Candidates>
         requires { 0 < person }

@@ -1,10 +1,9 @@
-use Rattle.std.proofs.Common.{◌≤◌, get_or, length, take, subst, rules, SFits}
+use Rattle.std.proofs.Common.{get_or, length, take, rules, SFits}
 use Rattle.std.specs.Int.{w64}
 use Rattle.std.proofs.lemmas.Int.{to_z-of_z}
 use Rattle.std.proofs.lemmas.Option.{IfSome_then}
 use Rattle.assign_core.specs.Numbered.{IsNumber}
 use Rattle.assign_core.proofs.Listed.{entry_found}
-use Rattle.bidder.specs.inside.Near.{IsNear}
 use Rattle.bidder.proofs.Scans.{taken_below}
 use Rattle.bidder.proofs.Nears.{near_all, near_on}
 use Rattle.bidder.proofs.near.narrow_best_two.Goals as goal

@@ -8,7 +8,7 @@ use Rattle.async_workers.proofs.place.Desk.take.Goals as goal
 
 pub returns-clause-took : goal.returns-clause-took
 returns-clause-took g c t e =
-    rw (c.put_listed.ensures, c.book_mut.ensures.value) (c.take_book-book.ensures.took t (ap (λ (d : DeskData). d.view) c.self.view_is ∙ e))
+    rw (c.put_listed.ensures.book, c.book_mut.ensures.value) (c.take_book-book.ensures.took t (ap (λ (d : DeskData). d.view) c.self.view_is ∙ e))
 
 pub put_listed-requires : goal.put_listed-requires
 put_listed-requires g c =
@@ -16,7 +16,7 @@ put_listed-requires g c =
     let is = c.self.view_is in
     let told = (c.take_book-book.ensures.took (session_by c.args.self.now a.0 a.1) (ap (λ (d : DeskData). d.view) is ∙ a.2)).told in
     let s = c.self.inside in
-    handed (arc_value s.scaled) s.known.table c.take_book-book.result c.book_mut.result.now s.listed c.take.result
+    handed (arc_value s.scaled) s.known.table c.take_book-book.result c.book_mut.result.now s.listed
     c.self.invariant.1 (ap (λ (d : DeskData). d.base) is ∙ told.base)
     (subst (λ t. IsBelow t (prices_of c.take_book-book.result)) (sym (ap (λ (d : DeskData). d.known.table) is)) told.below)
-    c.book_mut.ensures.value c.take.ensures.value
+    c.book_mut.ensures.value

@@ -1,17 +1,13 @@
-use Rattle.std.proofs.Common.{arith, rules, SFits}
-use Rattle.std.specs.Int.{w64}
-use Rattle.std.proofs.lemmas.Int.{ints, to_z-of_z}
-use Rattle.bidder.proofs.Nears.{near_best, near_second}
+use Rattle.std.proofs.lemmas.Int.{to_z-of_z}
+use Rattle.bidder.proofs.Nears.{near_with}
 use Rattle.bidder.proofs.near.Near.with.Goals as goal
 
-pub returns-then-value-self : goal.returns-then-value-self
-returns-then-value-self c = λ row narrow benefit is up worth.
-    let f : SFits w64 c.args.self.best = search rules in
-    let g = c.ranges.value in
-    simp to_z-of_z (near_best row narrow c.args.self c.args.object c.args.value benefit is up worth (grind (arith, ints, c.if-value-self.true)))
-
-pub returns-else-value-self : goal.returns-else-value-self
-returns-else-value-self c = λ row narrow benefit is up worth.
-    let f : SFits w64 c.args.self.best = search rules in
-    let g = c.ranges.value in
-    simp to_z-of_z (near_second row narrow c.args.self c.args.object c.args.value benefit is up worth c.requires (grind (arith, ints, c.if-value-self.false)))
+pub returns : goal.returns
+returns c = λ row narrow benefit is up worth.
+    let v = c.ranges.value in
+    let above = simp to_z-of_z at c.best_is_below-is_best.ensures in
+    let next = simp to_z-of_z at c.second_is_below-is_second.ensures in
+    let best = simp to_z-of_z at c.with_best-best.ensures in
+    let second = simp to_z-of_z at c.with_second-second.ensures in
+    rw (c.one_of.ensures, c.one_of-lower.ensures, best, second) (near_with row narrow c.args.self c.args.object c.args.value benefit
+    c.best_is_below-is_best.result c.second_is_below-is_second.result is up worth above next)

@@ -1,4 +1,4 @@
-use Rattle.std.proofs.Common.{ℤ, List, [], Option, Some, sym, subst, rules, SFits}
+use Rattle.std.proofs.Common.{[], Option, Some, sym, subst, rules, SFits}
 use Rattle.std.specs.Int.{w64}
 use Rattle.std.proofs.lemmas.Int.{to_z-of_z}
 use Rattle.candidates.specs.declared.mark.Mark.{Mark}
