@@ -1,22 +1,19 @@
 -- Weak duality with exact prices of any size: no assignment is better than one whose persons have
 -- choices, if the unowned objects have the least price.
-use Rattle.std.proofs.Common.{◌≡◌, ℕ, ℤ, pos, ◌+ℤ◌, ◌-ℤ◌, ◌≤ℤ◌, ◌<◌, cond, true, false, zero, suc, List, [], ◌∷◌}
-use Rattle.std.proofs.Common.{Option, None, Some, IsSome, unwrap_or, length, nat_eq, ◌⊎◌, inl, inr, refl, arith}
-use Rattle.std.proofs.Common.{rules, ap, sym, ◌∙◌, subst}
-use Rattle.std.specs.List.{All, Contains, IsDistinct}
+use Rattle.std.proofs.Common.{◌≡◌, ℕ, ℤ, ◌+ℤ◌, ◌-ℤ◌, ◌≤ℤ◌, zero, suc, List, [], ◌∷◌}
+use Rattle.std.proofs.Common.{IsSome, length, nat_eq, inl, inr, refl, arith}
+use Rattle.std.proofs.Common.{sym, ◌∙◌, subst}
+use Rattle.std.specs.List.{All, IsDistinct}
 use Rattle.std.proofs.lemmas.Int.{ints, by_lt_z}
-use Rattle.std.proofs.lemmas.Bool.{cond-true, cond-false}
 use Rattle.std.proofs.lemmas.Bool.Decides.{eqb_tells}
 use Rattle.std.proofs.lemmas.Slice.Zip.{AllZip-long}
 use Rattle.assign_core.specs.declared.sense.Sense.{Sense}
-use Rattle.assign_core.specs.declared.sense.Sense.TheVariants.{Min, Max}
 use Rattle.assign_core.specs.Numbered.{IsNumber}
-use Rattle.assign_core.specs.Rows.{Listing, listed_in, listed_or_zero, IsWithin}
-use Rattle.assign_core.specs.Assignment.{AreListed, IsBest, IsNoWorse, total}
+use Rattle.assign_core.specs.Rows.{Listing, listed_in, IsWithin}
+use Rattle.assign_core.specs.Assignment.{IsBest}
 use Rattle.assign_core.specs.Prices.{price_of}
-use Rattle.assign_core.proofs.Distinct.{InRange, sum_z, at_most_all, up_to}
+use Rattle.assign_core.proofs.Distinct.{InRange, sum_z, at_most_all}
 use Rattle.assign_core.proofs.Listed.{objects_within}
-use Rattle.assign_core.proofs.Members.{first_or_later}
 use Rattle.cost_lists.proofs.ExactDuality.{all_at_most, ordered}
 use Rattle.double_costs.specs.Prices.{AreLeastUnowned, IsPricedBest}
 
