@@ -14,6 +14,6 @@ pub use check::check_input;
 pub use codes::refuse;
 pub use costs::judge_costs;
 pub use info::DoublesInfo;
-pub use input::Input;
+pub use input::{Input, input_of};
 pub use law::marked_plans_stay_best;
 pub use solve::{solve_from, solve_input};

@@ -16,7 +16,7 @@ pub use codes::refuse;
 pub use costs::lists_of;
 pub use form::{Form, form_of};
 pub use info::Info;
-pub use input::Input;
+pub use input::{Input, either_input};
 pub use judging::judge;
 pub use rule::{UpTo, first_wrong};
 pub use solve::{solve_from, solve_input};

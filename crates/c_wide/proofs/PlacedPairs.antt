@@ -16,15 +16,14 @@ use Rattle.assign_core.specs.Sparse.{Triple}
 use Rattle.assign_core.proofs.Listed.{object_within}
 use Rattle.cost_lists.specs.Given.{IsBestGiven, best_given, rows_given, triples_of}
 use Rattle.cost_lists.proofs.BestGiven.{best_given_is}
-use Rattle.cost_lists.proofs.GivenRows.{length-rows_given}
+use Rattle.cost_lists.proofs.GivenRows.{AreAmong, length-rows_given, pairs_listed, rows_within}
+use Rattle.cost_lists.proofs.Triples.{triple_numbers}
 use Rattle.double_costs.specs.DoubleRows.{cost_in, rows_of_doubles}
 use Rattle.double_costs.specs.Margins.{AreRowsBeside, IsRowBeside}
 use Rattle.double_costs.specs.Units.{is_number, units_of}
 use Rattle.double_costs.proofs.DoublePairs.{double_listed, doubles_within, length-rows_of_doubles}
 use Rattle.wide_checker.specs.declared.numbers.Wide.{Wide}
-use Rattle.wide_checker.specs.WideNumbers.{IsInCosts, IsWideCost, wide_value}
-use Rattle.wide_checker.proofs.PairRows.{IsWideTriple, wide_list, wide_triples, wide_within}
-use Rattle.wide_checker.proofs.Words.{all_values}
+use Rattle.wide_checker.specs.WideNumbers.{IsWideCost, wide_value}
 use Rattle.c_wide.specs.declared.exact.pairs.UnitPairs.{UnitPairs}
 use Rattle.c_wide.specs.exact.Given.{IsScaled}
 use Rattle.c_wide.specs.exact.Pairs.{HasPlaces, IsFromPlace, IsPushed, triples_in}
@@ -194,13 +193,12 @@ module _ (e n m : ℕ) (costs : List Float) (pairs : UnitPairs) (sense : Sense) 
   abbrev pub doubles : List Listing
   doubles = rows_of_doubles m n costs
 
-  among : All (IsWideTriple n m) (triples_in pairs)
-  among = wide_triples pairs.persons.items pairs.objects.items (map wide_value pairs.costs.items) n m has.objects_long
-      (length-map pairs.costs.items wide_value ∙ has.costs_long) has.persons_in has.objects_in
-      (all_values IsInCosts pairs.costs.items has.costs_in)
+  among : AreAmong n m (triples_in pairs)
+  among = triple_numbers pairs.persons.items pairs.objects.items (map wide_value pairs.costs.items) has.objects_long
+      (length-map pairs.costs.items wide_value ∙ has.costs_long) n m has.persons_in has.objects_in
 
   given_at : (i j : ℕ) → listed_in (row_of given i) j ≡ best_given sense (triples_in pairs) i j
-  given_at = wide_list sense (triples_in pairs) n m among
+  given_at = pairs_listed sense (triples_in pairs) n m among
 
   given_best : (i j : ℕ) → IsBestGiven sense (triples_in pairs) i j (listed_in (row_of given i) j)
   given_best i j = subst (IsBestGiven sense (triples_in pairs) i j) (sym (given_at i j)) (best_given_is sense (triples_in pairs) i j)
@@ -274,7 +272,7 @@ module _ (e n m : ℕ) (costs : List Float) (pairs : UnitPairs) (sense : Sense) 
       let lg : length given ≡ n = length-rows_given sense (triples_in pairs) m 1 n in
       let s : i + 1 ≡ suc i = omega arith in
       let wd : IsWithin m (row_of doubles (suc i)) = doubles_within m n costs i [] (omega arith) in
-      let wg : IsWithin m (row_of given (suc i)) = wide_within sense (triples_in pairs) n m among i [] (omega arith) in
+      let wg : IsWithin m (row_of given (suc i)) = rows_within sense (triples_in pairs) n m among i [] (omega arith) in
       subst (λ (a : ℕ). IsRowBeside (IsScaled e) (row_of doubles a) (row_of given a)) s
       (row_beside i h (subst (λ (a : ℕ). IsWithin m (row_of doubles a)) (sym s) wd)
       (subst (λ (a : ℕ). IsWithin m (row_of given a)) (sym s) wg))

@@ -12,7 +12,7 @@ use Rattle.assign_core.specs.Rows.{Listing, IsListed, listed_in, listed_or_zero}
 use Rattle.assign_core.proofs.Products.{distributes}
 use Rattle.double_costs.specs.Margins.{AreRowsBeside}
 use Rattle.double_costs.proofs.Multiples.{in_order}
-use Rattle.double_costs.proofs.PricedDuality.{some_cost}
+use Rattle.cost_lists.proofs.ExactDuality.{some_cost}
 use Rattle.c_wide.specs.exact.Given.{IsScaled}
 
 module _ (e : ℕ) where

@@ -1,7 +1,7 @@
 -- Why blocks prove a plan: each listed pair stands in a block, and so is bounded by its row's number.
-use Rattle.std.proofs.Common.{◌≡◌, ℕ, ℤ, pos, neg_ℤ, ◌+ℤ◌, ◌-ℤ◌, ◌≤ℤ◌, ◌<◌, ◌≤◌, ◌-◌, zero, suc, List, [], ◌∷◌, Option, None, Some}
-use Rattle.std.proofs.Common.{IsSome, unwrap_or, length, get_or, map, fold, refl, arith, rules, ap, sym, subst, ◌∙◌}
-use Rattle.std.specs.List.{All, AllZip, Contains}
+use Rattle.std.proofs.Common.{◌≡◌, ℕ, ℤ, pos, ◌+ℤ◌, ◌-ℤ◌, ◌≤ℤ◌, ◌<◌, ◌≤◌, ◌-◌, zero, suc, List, [], ◌∷◌, Some}
+use Rattle.std.proofs.Common.{IsSome, unwrap_or, length, get_or, map, fold, refl, arith, ap, sym, subst, ◌∙◌}
+use Rattle.std.specs.List.{All, AllZip}
 use Rattle.std.proofs.lemmas.Int.{ints}
 use Rattle.std.proofs.lemmas.List.{get_or-map, length-map}
 use Rattle.std.proofs.lemmas.List.Elements.{All-contains}
@@ -14,8 +14,8 @@ use Rattle.assign_core.specs.Prices.{price_of}
 use Rattle.assign_core.proofs.Distinct.{at_most_all, sum_z, up_to}
 use Rattle.assign_core.proofs.Listed.{objects_within}
 use Rattle.assign_core.proofs.NumberedLemmas.{numbered-index}
-use Rattle.assign_core.proofs.Zips.{pair_number, pairs_from}
-use Rattle.cost_lists.specs.Blocks.{AreBlocks, AreBounded, AreProved, Block, HasPair, IsBounded, SomeHas, numbers_of, reduced_sum}
+use Rattle.assign_core.proofs.Zips.{pairs_from}
+use Rattle.cost_lists.specs.Blocks.{AreBlocks, AreBounded, AreProved, Block, IsBounded, SomeHas, numbers_of, reduced_sum}
 use Rattle.cost_lists.specs.Exact.{AreChoices, IsChoice, with_price}
 use Rattle.cost_lists.specs.Own.{minimised}
 use Rattle.cost_lists.proofs.ExactDuality.{best_by_choices, some_cost}

@@ -5,11 +5,11 @@ use Rattle.std.specs.List.{All}
 use Rattle.std.proofs.Math.Nat.{mul-le-mul_right}
 use Rattle.std.proofs.lemmas.List.{length-drop, get_or-take, get_or-drop, get_or_default}
 use Rattle.std.proofs.lemmas.List.Elements.{All-drop, All-take}
-use Rattle.assign_core.specs.Rows.{Listing, HasCosts, IsCost, IsRow, IsWithin, listed_in, row_of}
+use Rattle.assign_core.specs.Rows.{Listing, IsCost, IsWithin, listed_in, row_of}
 use Rattle.assign_core.specs.Dense.{row_from, rows_cut}
 use Rattle.cost_lists.specs.Source.{part_of}
 use Rattle.assign_core.proofs.DensePairs.{row_cut, row_listed}
-use Rattle.assign_core.proofs.DenseRows.{IsRow-row_from, length-row_from, length-rows_cut, row_from-index}
+use Rattle.assign_core.proofs.DenseRows.{length-row_from, length-rows_cut, row_from-index}
 use Rattle.assign_core.proofs.Listed.{place_of}
 use Rattle.assign_core.specs.Numbered.{IsNumber}
 
@@ -19,8 +19,11 @@ part_fits n m i costs long lt = let most : suc i * m ≤ n * m = mul-le-mul_righ
 pub part_long : (m i : ℕ) (costs : List ℤ) → (i + 1) * m ≤ length costs → length (part_of m i costs) ≡ m
 part_long m i costs fits = let rest = length-drop (i * m) costs in length-take-le m (drop (i * m) costs) (omega arith)
 
+pub part_each : (IsIn : ℤ → Type 0) (m i : ℕ) (costs : List ℤ) → All IsIn costs → All IsIn (part_of m i costs)
+part_each IsIn m i costs each = All-take IsIn m (drop (i * m) costs) (All-drop IsIn (i * m) costs each)
+
 pub part_costs : (m i : ℕ) (costs : List ℤ) → All IsCost costs → All IsCost (part_of m i costs)
-part_costs m i costs each = All-take IsCost m (drop (i * m) costs) (All-drop IsCost (i * m) costs each)
+part_costs m i costs each = part_each IsCost m i costs each
 
 pub cut_row : (n m i : ℕ) (costs : List ℤ) → i < n → row_of (rows_cut m n costs) (i + 1) ≡ row_from 1 (part_of m i costs)
 cut_row n m i costs lt = rw add-one (row_cut m n i costs lt)
@@ -59,16 +62,24 @@ cost_read costs j number =
     let here : 1 + (j - 1) ≡ j = omega arith in
     sym (row_listed 1 (j - 1) costs (omega arith)) ∙ ap (listed_in (row_from 1 costs)) here
 
-module _ (n m : ℕ) (costs : List ℤ) (long : length costs ≡ n * m) (each : All IsCost costs) where
-  cut_at : (P : Listing → Type 0) → ((r : Listing) → IsRow m r → P r) → All P (rows_cut m n costs)
-  cut_at P of i d lt =
+-- what holds of each object of a row with its cost
+row_each : (P : ℕ × ℤ → Type 0) (costs : List ℤ) → ((k : ℕ) → k < length costs → P (1 + k, get_or costs k (pos 0))) → All P (row_from 1 costs)
+row_each P costs h k d lt =
+    let long = length-row_from 1 costs in
+    let below : k < length costs = omega arith in
+    subst P (sym (row_from-index 1 k costs d (pos 0) below)) (h k below)
+
+module _ (n m : ℕ) (costs : List ℤ) (long : length costs ≡ n * m) where
+  cut_each : (P : Listing → Type 0) → ((i : ℕ) → i < n → length (part_of m i costs) ≡ m → P (row_from 1 (part_of m i costs))) → All P (rows_cut m n costs)
+  cut_each P of i d lt =
       let below : i < n = let e = length-rows_cut m n costs in omega arith in
-      let whole = part_long m i costs (part_fits n m i costs long below) in
       subst P (sym (get_or_default (rows_cut m n costs) i d [] lt ∙ row_cut m n i costs below))
-      (of (row_from 1 (part_of m i costs)) (IsRow-row_from m (part_of m i costs) (omega arith) (part_costs m i costs each)))
+      (of i below (part_long m i costs (part_fits n m i costs long below)))
 
   pub cut_within : All (IsWithin m) (rows_cut m n costs)
-  cut_within = cut_at (IsWithin m) (λ r h. h.within)
+  cut_within = cut_each (IsWithin m) (λ i lt whole. row_each (λ e. IsNumber m e.0) (part_of m i costs)
+      (λ k below. record { first = omega arith; last = omega arith }))
 
-  pub cut_costs : All HasCosts (rows_cut m n costs)
-  cut_costs = cut_at HasCosts (λ r h. h.costs)
+  pub cut_costs : (IsIn : ℤ → Type 0) → All IsIn costs → All (All (λ e. IsIn e.1)) (rows_cut m n costs)
+  cut_costs IsIn each = cut_each (All (λ e. IsIn e.1)) (λ i lt whole. row_each (λ e. IsIn e.1) (part_of m i costs)
+      (λ k below. part_each IsIn m i costs each k (pos 0) below))

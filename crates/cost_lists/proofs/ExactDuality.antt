@@ -1,7 +1,7 @@
 -- Weak duality with exact prices: no assignment is better than one whose persons have choices, if
 -- the prices of unowned objects are 0.
 use Rattle.std.proofs.Common.{◌≡◌, ℕ, ℤ, pos, ◌+ℤ◌, ◌-ℤ◌, ◌≤ℤ◌, ◌<◌, zero, suc, List, [], ◌∷◌, Option, None, Some}
-use Rattle.std.proofs.Common.{IsSome, unwrap_or, length, nat_eq, cond, true, false, ◌⊎◌, inl, inr, refl, arith}
+use Rattle.std.proofs.Common.{IsSome, unwrap_or, length, get_or, nat_eq, cond, true, false, ◌⊎◌, inl, inr, refl, arith}
 use Rattle.std.proofs.Common.{rules, ap, sym, ◌∙◌}
 use Rattle.std.specs.List.{All, Contains}
 use Rattle.std.proofs.lemmas.Int.{ints}
@@ -14,7 +14,7 @@ use Rattle.assign_core.specs.Numbered.{IsNumber}
 use Rattle.assign_core.specs.Rows.{Listing, IsWithin, listed_in, listed_or_zero}
 use Rattle.assign_core.specs.Assignment.{AreListed, IsAssignment, IsBest, IsNoWorse, total}
 use Rattle.assign_core.specs.Prices.{price_of}
-use Rattle.assign_core.proofs.Distinct.{at_most_all, sum_z, up_to}
+use Rattle.assign_core.proofs.Distinct.{InRange, at_most_all, sum_z, up_to}
 use Rattle.assign_core.proofs.Listed.{objects_within}
 use Rattle.assign_core.proofs.Members.{first_or_later}
 use Rattle.cost_lists.specs.ListedCosts.{ListedCosts, AreInLimits}
@@ -55,22 +55,25 @@ cleared_least f x j p = elim (eqb_tells j x) [
   | inr e ↦ let h = cleared_other f x j e.0 in (omega (arith, ints), omega (arith, ints))
 ]
 
-cleared_sum : (f : ℕ → ℤ) (x : ℕ) (xs : List ℕ) → ((j : ℕ) → pos 0 ≤ℤ f j) → sum_z (cleared f x) xs ≤ℤ sum_z f xs
-cleared_sum f x [] p = omega (arith, ints)
-cleared_sum f x (y ∷ ys) p = let i = cleared_sum f x ys p in let h = (cleared_least f x y (p y)).1 in omega (arith, ints)
+cleared_sum : (f : ℕ → ℤ) (x m : ℕ) (xs : List ℕ) → InRange m xs → ((j : ℕ) → IsNumber m j → pos 0 ≤ℤ f j) →
+    sum_z (cleared f x) xs ≤ℤ sum_z f xs
+cleared_sum f x m [] r p = omega (arith, ints)
+cleared_sum f x m (y ∷ ys) r p = let i = cleared_sum f x m ys r.1 p in let h = (cleared_least f x y (p y r.0)).1 in
+    omega (arith, ints)
 
 -- if no value is below 0, and it is 0 at each number outside a list, the sum over all numbers is at
 -- most that over the list
-all_at_most : (f : ℕ → ℤ) (m : ℕ) (xs : List ℕ) → ((j : ℕ) → pos 0 ≤ℤ f j) → ((j : ℕ) → IsNumber m j → Contains xs j ⊎ (f j ≡ pos 0)) → up_to f m ≤ℤ sum_z f xs
-all_at_most f m [] p h = none m (λ j n. elim (h j n) [ inl c ↦ absurd (omega (arith, c.1)) | inr e ↦ e ]) where
+pub all_at_most : (f : ℕ → ℤ) (m : ℕ) (xs : List ℕ) → InRange m xs → ((j : ℕ) → IsNumber m j → pos 0 ≤ℤ f j) →
+    ((j : ℕ) → IsNumber m j → Contains xs j ⊎ (f j ≡ pos 0)) → up_to f m ≤ℤ sum_z f xs
+all_at_most f m [] r p h = none m (λ j n. elim (h j n) [ inl c ↦ absurd (omega (arith, c.1)) | inr e ↦ e ]) where
   none : (k : ℕ) → ((j : ℕ) → IsNumber k j → f j ≡ pos 0) → up_to f k ≤ℤ pos 0
   none zero e = omega (arith, ints)
   none (suc k) e =
       let i = none k (λ j n. e j (record { first = n.first; last = let a = n.last in omega arith })) in
       let top = e (suc k) (record { first = omega arith; last = omega arith }) in
       omega (arith, ints)
-all_at_most f m (x ∷ xs) p h =
-    let i = all_at_most (cleared f x) m xs (λ j. (cleared_least f x j (p j)).0)
+all_at_most f m (x ∷ xs) r p h =
+    let i = all_at_most (cleared f x) m xs r.1 (λ j n. (cleared_least f x j (p j n)).0)
     (λ j n. elim (eqb_tells j x) [
       | inl e ↦ inr (cleared_here f x j e.0)
       | inr e ↦ elim (h j n) [
@@ -78,8 +81,8 @@ all_at_most f m (x ∷ xs) p h =
         | inr z ↦ inr (cleared_other f x j e.0 ∙ z)
       ]
     ]) in
-    let one = cleared_one f x m (p x) in
-    let s = cleared_sum f x xs p in
+    let one = cleared_one f x m (p x r.0) in
+    let s = cleared_sum f x m xs r.1 p in
     omega (arith, ints)
 
 -- what stands where something stands
@@ -88,7 +91,7 @@ some_cost None s = absurd (search rules)
 some_cost (Some c) s = refl
 
 -- the sums over the rows
-weak_min : (prices : List ℤ) (rows : List Listing) (xs ys : List ℕ) → AreChoices Min prices rows xs → AreListed rows ys →
+pub weak_min : (prices : List ℤ) (rows : List Listing) (xs ys : List ℕ) → AreChoices Min prices rows xs → AreListed rows ys →
     (total rows xs +ℤ sum_z (price_of prices) xs) ≤ℤ (total rows ys +ℤ sum_z (price_of prices) ys)
 weak_min prices [] [] [] k g = omega (arith, ints)
 weak_min prices [] [] (y ∷ ys) k g = absurd g
@@ -101,7 +104,7 @@ weak_min prices (row ∷ rows) (x ∷ xs) (y ∷ ys) k g =
     let i = weak_min prices rows xs ys k.1 g.1 in
     omega (arith, ints)
 
-weak_max : (prices : List ℤ) (rows : List Listing) (xs ys : List ℕ) → AreChoices Max prices rows xs → AreListed rows ys →
+pub weak_max : (prices : List ℤ) (rows : List Listing) (xs ys : List ℕ) → AreChoices Max prices rows xs → AreListed rows ys →
     (total rows ys +ℤ sum_z (price_of prices) xs) ≤ℤ (total rows xs +ℤ sum_z (price_of prices) ys)
 weak_max prices [] [] [] k g = omega (arith, ints)
 weak_max prices [] [] (y ∷ ys) k g = absurd g
@@ -114,15 +117,15 @@ weak_max prices (row ∷ rows) (x ∷ xs) (y ∷ ys) k g =
     let i = weak_max prices rows xs ys k.1 g.1 in
     omega (arith, ints)
 
--- no price is below 0
-no_price_below : (prices : List ℤ) (j : ℕ) → All IsPriceInLimits prices → pos 0 ≤ℤ price_of prices j
-no_price_below prices zero h = omega (arith, ints)
-no_price_below prices (suc k) h = elim (cases_lt k (length prices)) [
-  | inl lt ↦ let p = h k (pos 0) lt in p.least
+-- prices in a range from 0 on
+pub no_price_below : (InLimits : ℤ → Type 0) → ((p : ℤ) → InLimits p → pos 0 ≤ℤ p) → (prices : List ℤ) (j : ℕ) → All InLimits prices → pos 0 ≤ℤ price_of prices j
+no_price_below InLimits least prices zero h = omega (arith, ints)
+no_price_below InLimits least prices (suc k) h = elim (cases_lt k (length prices)) [
+  | inl lt ↦ least (get_or prices k (pos 0)) (h k (pos 0) lt)
   | inr past ↦ let e = get_or_past prices k (pos 0) past in omega (arith, ints)
 ]
 
-ordered : (sense : Sense) (prices : List ℤ) (rows : List Listing) (xs ys : List ℕ) → AreChoices sense prices rows xs → AreListed rows ys →
+pub ordered : (sense : Sense) (prices : List ℤ) (rows : List Listing) (xs ys : List ℕ) → AreChoices sense prices rows xs → AreListed rows ys →
     sum_z (price_of prices) ys ≤ℤ sum_z (price_of prices) xs → IsNoWorse sense (total rows xs) (total rows ys)
 ordered Min prices rows xs ys k g s = let w = weak_min prices rows xs ys k g in omega (arith, ints)
 ordered Max prices rows xs ys k g s = let w = weak_max prices rows xs ys k g in omega (arith, ints)
@@ -135,9 +138,9 @@ best_by_choices sense m rows xs prices within none assigned choices free = recor
   best = λ ys g.
       let inside = objects_within m rows ys within g.listed in
       let most = at_most_all (price_of prices) m ys g.apart inside (λ j n. none j) in
-      let least = all_at_most (price_of prices) m xs none free in
+      let least = all_at_most (price_of prices) m xs (objects_within m rows xs within assigned.listed) (λ j n. none j) free in
       ordered sense prices rows xs ys choices g.listed (omega (arith, ints));
 }
 
 pub best_exact : (l : ListedCosts) (xs : List ℕ) (prices : List ℤ) → AreInLimits l → IsOptimum l xs prices → IsBest l.sense l.rows xs
-best_exact l xs prices limits o = best_by_choices l.sense l.m l.rows xs prices limits.within (λ j. no_price_below prices j o.in_range) o.assigned o.choices o.free
+best_exact l xs prices limits o = best_by_choices l.sense l.m l.rows xs prices limits.within (λ j. no_price_below IsPriceInLimits (λ p h. h.least) prices j o.in_range) o.assigned o.choices o.free

@@ -1,14 +1,14 @@
 -- Rows of listed pairs: what they list, and their limits.
 use Rattle.std.proofs.Common.{◌≡◌, ℕ, ℤ, ◌<◌, ◌≤◌, ◌+◌, zero, suc, List, [], Option, None, Some, length, get_or}
 use Rattle.std.proofs.Common.{refl, ap, arith, sym, subst, ◌∙◌, inl, inr, ◌⊎◌}
-use Rattle.std.specs.List.{All}
+use Rattle.std.specs.List.{All, Contains}
 use Rattle.std.proofs.lemmas.Bool.{cases_lt}
 use Rattle.std.proofs.lemmas.Bool.Decides.{eqb_tells}
 use Rattle.std.proofs.lemmas.List.{get_or_past}
 use Rattle.std.proofs.lemmas.List.Elements.{All-nil, All-cons, All-contains}
 use Rattle.assign_core.specs.declared.sense.Sense.{Sense}
 use Rattle.assign_core.specs.Numbered.{IsNumber}
-use Rattle.assign_core.specs.Rows.{Listing, HasCosts, IsCost, IsWithin, listed_in, row_of}
+use Rattle.assign_core.specs.Rows.{Listing, IsWithin, listed_in, row_of}
 use Rattle.assign_core.specs.Sparse.{Triple, IsTripleAmong}
 use Rattle.assign_core.proofs.Listed.{listed_here, listed_later}
 use Rattle.cost_lists.specs.Given.{IsBestGiven, best_given, row_given, rows_given, with_cost}
@@ -21,6 +21,10 @@ listed_with j (Some c) row k e none = elim (eqb_tells j k) [ inl t ↦ listed_he
 listed_beside : (j : ℕ) (o : Option ℤ) (row : Listing) (k : ℕ) → (j ≡ k → ⊥) → listed_in (with_cost j o row) k ≡ listed_in row k
 listed_beside j None row k other = refl
 listed_beside j (Some c) row k other = elim (eqb_tells j k) [ inl t ↦ absurd (other t.1) | inr t ↦ listed_later (j, c) row k t.0 ]
+
+-- each of the triples is of one of n persons and one of m objects
+abbrev pub AreAmong : ℕ → ℕ → List Triple → Type 0
+AreAmong n m triples = (i j : ℕ) (c : ℤ) → Contains triples (i, j, c) → IsNumber n i × IsNumber m j
 
 module _ (sense : Sense) (triples : List Triple) where
   -- no object outside those that are tried is listed
@@ -51,20 +55,18 @@ module _ (sense : Sense) (triples : List Triple) where
   rows_given-index m i (suc n) zero lt = ap (λ p. row_given sense triples p 1 m) (omega arith)
   rows_given-index m i (suc n) (suc k) lt = rows_given-index m (i + 1) n k (omega arith) ∙ ap (λ p. row_given sense triples p 1 m) (omega arith)
 
-  module _ (n m : ℕ) (among : All (IsTripleAmong n m) triples) where
-    -- a pair that is given is one of a person and an object
-    given_among : (i j : ℕ) (o : Option ℤ) (c : ℤ) → IsBestGiven sense triples i j o → o ≡ Some c → IsTripleAmong n m (i, j, c)
-    given_among i j o c is e =
-        let here : IsBestGiven sense triples i j (Some c) = subst (IsBestGiven sense triples i j) e is in
-        All-contains (IsTripleAmong n m) triples (i, j, c) among here.0
+  -- a pair that is given is among the triples
+  given_among : (i j : ℕ) (o : Option ℤ) (c : ℤ) → IsBestGiven sense triples i j o → o ≡ Some c → Contains triples (i, j, c)
+  given_among i j o c is e = let here : IsBestGiven sense triples i j (Some c) = subst (IsBestGiven sense triples i j) e is in here.0
 
-    none_or_some : (o : Option ℤ) → ((c : ℤ) → o ≡ Some c → ⊥) → o ≡ None
-    none_or_some None h = refl
-    none_or_some (Some c) h = absurd (h c refl)
+  none_or_some : (o : Option ℤ) → ((c : ℤ) → o ≡ Some c → ⊥) → o ≡ None
+  none_or_some None h = refl
+  none_or_some (Some c) h = absurd (h c refl)
 
+  module _ (n m : ℕ) (among : AreAmong n m triples) where
     none_given : (i j : ℕ) → (IsNumber n i → IsNumber m j → ⊥) → best_given sense triples i j ≡ None
     none_given i j out = none_or_some (best_given sense triples i j) (λ c e. let t =
-        given_among i j (best_given sense triples i j) c (best_given_is sense triples i j) e in out t.person t.object)
+        among i j c (given_among i j (best_given sense triples i j) c (best_given_is sense triples i j) e) in out t.0 t.1)
 
     in_row : (i j : ℕ) → listed_in (row_given sense triples i 1 m) j ≡ best_given sense triples i j
     in_row i j = elim (cases_lt j 1) [
@@ -76,9 +78,9 @@ module _ (sense : Sense) (triples : List Triple) where
     ]
 
     -- the rows list just the given pairs, each at its best cost
-    pub rows_list : (i j : ℕ) → listed_in (row_of (rows_given sense triples m 1 n) i) j ≡ best_given sense triples i j
-    rows_list zero j = sym (none_given zero j (λ p o. let a = p.first in omega arith))
-    rows_list (suc k) j = elim (cases_lt k n) [
+    pub pairs_listed : (i j : ℕ) → listed_in (row_of (rows_given sense triples m 1 n) i) j ≡ best_given sense triples i j
+    pairs_listed zero j = sym (none_given zero j (λ p o. let a = p.first in omega arith))
+    pairs_listed (suc k) j = elim (cases_lt k n) [
       | inl lt ↦
           let e : 1 + k ≡ suc k = omega arith in
           ap (λ r. listed_in r j) (rows_given-index m 1 n k lt ∙ ap (λ p. row_given sense triples p 1 m) e) ∙ in_row (suc k) j
@@ -88,23 +90,25 @@ module _ (sense : Sense) (triples : List Triple) where
           sym (none_given (suc k) j (λ p o. let a = p.last in omega arith))
     ]
 
-    all_with : (P : ℕ × ℤ → Type 0) (j : ℕ) (o : Option ℤ) (row : Listing) → ((c : ℤ) → o ≡ Some c → P (j, c)) → All P row → All P (with_cost j o row)
-    all_with P j None row here rest = rest
-    all_with P j (Some c) row here rest = All-cons P (j, c) row (here c refl) rest
+  pub rows_list : (n m : ℕ) → All (IsTripleAmong n m) triples → (i j : ℕ) → listed_in (row_of (rows_given sense triples m 1 n) i) j ≡ best_given sense triples i j
+  rows_list n m each = pairs_listed n m (λ i j c h. let t = All-contains (IsTripleAmong n m) triples (i, j, c) each h in (t.person, t.object))
 
-    row_limits : (P : ℕ × ℤ → Type 0) → ((i j : ℕ) (c : ℤ) → IsTripleAmong n m (i, j, c) → P (j, c)) → (i j k : ℕ) → All P (row_given sense triples i j k)
-    row_limits P of i j zero = All-nil P
-    row_limits P of i j (suc k) =
+  all_with : (P : ℕ × ℤ → Type 0) (j : ℕ) (o : Option ℤ) (row : Listing) → ((c : ℤ) → o ≡ Some c → P (j, c)) → All P row → All P (with_cost j o row)
+  all_with P j None row here rest = rest
+  all_with P j (Some c) row here rest = All-cons P (j, c) row (here c refl) rest
+
+  -- what holds of each object with a cost among the triples holds of those that the rows list
+  module _ (P : ℕ × ℤ → Type 0) (of : (i j : ℕ) (c : ℤ) → Contains triples (i, j, c) → P (j, c)) where
+    row_each : (i j k : ℕ) → All P (row_given sense triples i j k)
+    row_each i j zero = All-nil P
+    row_each i j (suc k) =
         all_with P j (best_given sense triples i j) (row_given sense triples i (j + 1) k)
-        (λ c e. of i j c (given_among i j (best_given sense triples i j) c (best_given_is sense triples i j) e)) (row_limits P of i (j + 1) k)
+        (λ c e. of i j c (given_among i j (best_given sense triples i j) c (best_given_is sense triples i j) e)) (row_each i (j + 1) k)
 
-    rows_limits : (P : ℕ × ℤ → Type 0) → ((i j : ℕ) (c : ℤ) → IsTripleAmong n m (i, j, c) → P (j, c)) → (i k : ℕ) → All (All P) (rows_given sense triples m i k)
-    rows_limits P of i zero = All-nil (All P)
-    rows_limits P of i (suc k) = All-cons (All P) (row_given sense triples i 1 m) (rows_given sense triples m
-        (i + 1) k) (row_limits P of i 1 m) (rows_limits P of (i + 1) k)
+    pub rows_each : (m i k : ℕ) → All (All P) (rows_given sense triples m i k)
+    rows_each m i zero = All-nil (All P)
+    rows_each m i (suc k) = All-cons (All P) (row_given sense triples i 1 m) (rows_given sense triples m
+        (i + 1) k) (row_each i 1 m) (rows_each m (i + 1) k)
 
-    pub rows_within : All (IsWithin m) (rows_given sense triples m 1 n)
-    rows_within = rows_limits (λ e. IsNumber m e.0) (λ i j c t. t.object) 1 n
-
-    pub rows_costs : All HasCosts (rows_given sense triples m 1 n)
-    rows_costs = rows_limits (λ e. IsCost e.1) (λ i j c t. t.cost) 1 n
+  pub rows_within : (n m : ℕ) → AreAmong n m triples → All (IsWithin m) (rows_given sense triples m 1 n)
+  rows_within n m among = rows_each (λ e. IsNumber m e.0) (λ i j c h. (among i j c h).1) m 1 n

@@ -8,3 +8,4 @@ pub mod BlockHall
 pub mod Owns
 pub mod Limits
 pub mod Rising
+pub mod SameHall

@@ -1,5 +1,5 @@
 -- Three lists as triples, by place.
-use Rattle.std.proofs.Common.{◌≡◌, ℕ, ℤ, pos, ◌<◌, zero, suc, List, [], ◌∷◌, length, get_or, refl, arith, ap, sym, ◌∙◌}
+use Rattle.std.proofs.Common.{◌≡◌, ℕ, ℤ, pos, ◌<◌, zero, suc, List, [], ◌∷◌, length, get_or, refl, arith, ap, sym, subst, ◌∙◌}
 use Rattle.std.specs.List.{All, Contains}
 use Rattle.assign_core.specs.Numbered.{IsNumber}
 use Rattle.assign_core.specs.Rows.{IsCost}
@@ -47,6 +47,19 @@ module _ (persons objects : List ℕ) (costs : List ℤ) (e : length objects ≡
   triple_contained q lt =
       let long = length-triples persons objects costs e f in
       (q, omega arith, triples-index persons objects costs q (triple_at persons objects costs q) e f lt)
+
+  pub triple_numbers : (n m : ℕ) → All (IsNumber n) persons → All (IsNumber m) objects → (i j : ℕ) (c : ℤ) →
+      Contains (triples_of persons objects costs) (i, j, c) → IsNumber n i × IsNumber m j
+  triple_numbers n m p o i j c h =
+      let t = place_of_triple i j c h in
+      let lt = t.below in
+      (subst (IsNumber n) t.person (p t.place 0 lt), subst (IsNumber m) t.object (o t.place 0 (omega (arith, e))))
+
+  pub triple_cost : (IsIn : ℤ → Type 0) → All IsIn costs → (i j : ℕ) (c : ℤ) → Contains (triples_of persons objects costs) (i, j, c) → IsIn c
+  triple_cost IsIn each i j c h =
+      let t = place_of_triple i j c h in
+      let lt = t.below in
+      subst IsIn t.cost (each t.place (pos 0) (omega (arith, f)))
 
   pub triples_among : (n m : ℕ) → All (IsNumber n) persons → All (IsNumber m) objects → All IsCost costs →
       All (IsTripleAmong n m) (triples_of persons objects costs)

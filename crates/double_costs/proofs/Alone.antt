@@ -14,7 +14,8 @@ use Rattle.assign_core.proofs.Distinct.{sum_z}
 use Rattle.assign_core.proofs.Listed.{objects_within}
 use Rattle.cost_lists.specs.Exact.{AreChoices}
 use Rattle.double_costs.specs.Prices.{AreChoicesBy, IsBetter, IsOnlyBest, IsPricedBest}
-use Rattle.double_costs.proofs.PricedDuality.{least_sums, some_cost, weak_max, weak_min}
+use Rattle.cost_lists.proofs.ExactDuality.{some_cost, weak_max, weak_min}
+use Rattle.double_costs.proofs.PricedDuality.{least_sums}
 
 -- the sums over the rows, of two assignments that aren't the same
 strict_min : (margin : ℤ) (prices : List ℤ) (rows : List Listing) (xs ys : List ℕ) → pos 0 ≤ℤ margin →

@@ -15,7 +15,8 @@ use Rattle.cost_lists.specs.Exact.{AreChoices, IsChoice, with_price}
 use Rattle.double_costs.specs.Prices.{AreChoicesBy, AreLeastUnowned, IsChoiceBy, IsPricedBest, IsWorseBy}
 use Rattle.double_costs.specs.Margins.{AreRowsBeside, IsRowBeside, IsWithinHalf}
 use Rattle.double_costs.proofs.Multiples.{at_least_size, at_most_size, in_order, in_parts, price_in_parts}
-use Rattle.double_costs.proofs.PricedDuality.{best_priced, some_cost}
+use Rattle.cost_lists.proofs.ExactDuality.{some_cost}
+use Rattle.double_costs.proofs.PricedDuality.{best_priced}
 use Rattle.assign_core.proofs.Products.{distributes}
 
 -- the own cost a, another cost b that is worse by the margin, and both in parts

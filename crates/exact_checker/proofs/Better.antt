@@ -15,7 +15,7 @@ use Rattle.dual_checker.specs.Faults.{IsFirst, own_object}
 use Rattle.dual_checker.proofs.HallFirsts.{first_same}
 use Rattle.cost_lists.specs.ListedCosts.{ListedCosts}
 use Rattle.cost_lists.specs.Exact.{AreChoices, IsChoice, with_price}
-use Rattle.cost_lists.specs.Own.{AreOwnCosts, minimised}
+use Rattle.cost_lists.specs.Own.{AreOwnOr, minimised}
 use Rattle.cost_lists.proofs.ExactDuality.{some_cost}
 use Rattle.cost_lists.proofs.Owns.{own_numbered_is}
 use Rattle.exact_checker.specs.Faults.{IsBetter, IsBetterFor, IsShort, paid}
@@ -47,7 +47,7 @@ AreValues l xs prices values =
     numbered values i (pos 0) ≡ minimised l.sense (listed_or_zero (row_of l.rows i) (own_object xs i)) +ℤ price_of prices (own_object xs i)
 
 -- own costs to which the prices were added
-pub values_are : (l : ListedCosts) (xs : List ℕ) (prices own values : List ℤ) → AreOwnCosts l.sense l.rows xs own →
+pub values_are : {mark : ℤ} (l : ListedCosts) (xs : List ℕ) (prices own values : List ℤ) → AreOwnOr mark l.sense l.rows xs own →
     AreListed l.rows xs → length values ≡ length own → length xs ≡ length l.rows →
     ((i : ℕ) → i < length values → get_or values i (pos 0) ≡ get_or own i (pos 0) +ℤ price_of prices (get_or xs i 0)) → AreValues l xs prices values
 values_are l xs prices own values are listed same long h i number =

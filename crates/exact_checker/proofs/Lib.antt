@@ -3,9 +3,9 @@ pub mod PairSums
 pub mod RowSums
 pub mod Better
 pub mod Unowned
-mod Differences
+pub mod Differences
 mod HallDifferences
 mod HallPairs
 pub mod Ranks
-mod OwnMarks
+pub mod OwnMarks
 mod Marks

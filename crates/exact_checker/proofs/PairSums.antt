@@ -5,16 +5,13 @@ use Rattle.std.proofs.lemmas.Int.{ints}
 use Rattle.assign_core.specs.declared.sense.Sense.{Sense}
 use Rattle.assign_core.specs.Numbered.{IsNumber, numbered}
 use Rattle.assign_core.specs.Prices.{price_of}
-use Rattle.assign_core.specs.Sparse.{IsTripleAmong}
 use Rattle.assign_core.proofs.NumberedLemmas.{numbered-index}
-use Rattle.cost_lists.specs.declared.source.Pairs.{Pairs}
-use Rattle.cost_lists.specs.Given.{IsBestGiven, best_given, rows_given}
+use Rattle.cost_lists.specs.Given.{IsBestGiven, best_given, rows_given, triples_of}
 use Rattle.cost_lists.specs.Own.{minimised}
-use Rattle.cost_lists.specs.Source.{ArePairs, triples_in}
 use Rattle.cost_lists.proofs.BestGiven.{best_given_is}
-use Rattle.cost_lists.proofs.GivenRows.{rows_list}
+use Rattle.cost_lists.proofs.GivenRows.{AreAmong, pairs_listed}
 use Rattle.cost_lists.proofs.Owns.{turned_order}
-use Rattle.cost_lists.proofs.Triples.{place_of_triple, triple_contained, triples_among}
+use Rattle.cost_lists.proofs.Triples.{place_of_triple, triple_contained, triple_numbers}
 use Rattle.exact_checker.specs.Under.{IsUnder}
 use Rattle.exact_checker.proofs.Earliest.{IsMet}
 
@@ -23,10 +20,11 @@ abbrev pub IsUnderAt : Sense → List ℕ → List ℕ → List ℤ → List ℤ
 IsUnderAt sense persons objects costs prices values q =
     (minimised sense (get_or costs q (pos 0)) +ℤ get_or prices (get_or objects q 0 - 1) (pos 0)) <ℤ get_or values (get_or persons q 0 - 1) (pos 0)
 
-module _ (sense : Sense) (pairs : Pairs) (prices values : List ℤ) (are : ArePairs (length values) (length prices) pairs) where
-  among : All (IsTripleAmong (length values) (length prices)) (triples_in pairs)
-  among = triples_among pairs.persons.now pairs.objects.now pairs.costs.now are.objects_long are.costs_long
-      (length values) (length prices) are.persons_in are.objects_in are.costs_in
+module _ (sense : Sense) (persons objects : List ℕ) (costs prices values : List ℤ)
+    (objects_long : length objects ≡ length persons) (costs_long : length costs ≡ length persons)
+    (persons_in : All (IsNumber (length values)) persons) (objects_in : All (IsNumber (length prices)) objects) where
+  among : AreAmong (length values) (length prices) (triples_of persons objects costs)
+  among = triple_numbers persons objects costs objects_long costs_long (length values) (length prices) persons_in objects_in
 
   value_at : (i : ℕ) → IsNumber (length values) i → numbered values i (pos 0) ≡ get_or values (i - 1) (pos 0)
   value_at i number = numbered-index values i (pos 0) (pos 0) number.first number.last
@@ -35,59 +33,54 @@ module _ (sense : Sense) (pairs : Pairs) (prices values : List ℤ) (are : ArePa
   price_at j number = numbered-index prices j (pos 0) (pos 0) number.first number.last
 
   -- the best cost of a pair at a place is no worse than the cost there
-  under_best : (q : ℕ) → q < length pairs.persons.now → IsUnderAt sense pairs.persons.now pairs.objects.now pairs.costs.now prices values q → (o : Option ℤ) →
-      best_given sense (triples_in pairs) (get_or pairs.persons.now q 0) (get_or pairs.objects.now q 0) ≡ o →
-      IsUnder sense (rows_given sense (triples_in pairs) (length prices) 1 (length values)) prices values
-      (get_or pairs.persons.now q 0) (get_or pairs.objects.now q 0)
+  under_best : (q : ℕ) → q < length persons → IsUnderAt sense persons objects costs prices values q → (o : Option ℤ) →
+      best_given sense (triples_of persons objects costs) (get_or persons q 0) (get_or objects q 0) ≡ o →
+      IsUnder sense (rows_given sense (triples_of persons objects costs) (length prices) 1 (length values)) prices values
+      (get_or persons q 0) (get_or objects q 0)
   under_best q lt bad None e =
-      let none : IsBestGiven sense (triples_in pairs) (get_or pairs.persons.now q 0) (get_or pairs.objects.now q 0) None =
-      subst (IsBestGiven sense (triples_in pairs) (get_or pairs.persons.now q 0) (get_or pairs.objects.now q 0)) e
-      (best_given_is sense (triples_in pairs) (get_or pairs.persons.now q 0) (get_or pairs.objects.now q 0)) in
-      absurd (none (get_or pairs.costs.now q (pos 0)) (triple_contained pairs.persons.now pairs.objects.now
-      pairs.costs.now are.objects_long are.costs_long q lt))
+      let none : IsBestGiven sense (triples_of persons objects costs) (get_or persons q 0) (get_or objects q 0) None =
+      subst (IsBestGiven sense (triples_of persons objects costs) (get_or persons q 0) (get_or objects q 0)) e
+      (best_given_is sense (triples_of persons objects costs) (get_or persons q 0) (get_or objects q 0)) in
+      absurd (none (get_or costs q (pos 0)) (triple_contained persons objects
+      costs objects_long costs_long q lt))
   under_best q lt bad (Some c) e =
-      let i : ℕ = get_or pairs.persons.now q 0 in
-      let j : ℕ = get_or pairs.objects.now q 0 in
-      let best : IsBestGiven sense (triples_in pairs) i j (Some c) =
-      subst (IsBestGiven sense (triples_in pairs) i j) e (best_given_is sense (triples_in pairs) i j) in
-      let order = turned_order sense c (get_or pairs.costs.now q (pos 0)) (best.1 (get_or pairs.costs.now q (pos 0))
-      (triple_contained pairs.persons.now pairs.objects.now pairs.costs.now are.objects_long are.costs_long q
+      let i : ℕ = get_or persons q 0 in
+      let j : ℕ = get_or objects q 0 in
+      let best : IsBestGiven sense (triples_of persons objects costs) i j (Some c) =
+      subst (IsBestGiven sense (triples_of persons objects costs) i j) e (best_given_is sense (triples_of persons objects costs) i j) in
+      let order = turned_order sense c (get_or costs q (pos 0)) (best.1 (get_or costs q (pos 0))
+      (triple_contained persons objects costs objects_long costs_long q
       lt)) in
-      let value = value_at i (are.persons_in q 0 lt) in
-      let price = price_at j (are.objects_in q 0 (let long = are.objects_long in omega arith)) in
+      let value = value_at i (persons_in q 0 lt) in
+      let price = price_at j (objects_in q 0 (let long = objects_long in omega arith)) in
       record {
         cost = c;
-        listed = rows_list sense (triples_in pairs) (length values) (length prices) among i j ∙ e;
+        listed = pairs_listed sense (triples_of persons objects costs) (length values) (length prices) among i j ∙ e;
         under = omega (arith, ints, bad);
       }
 
-  pub to_under : (q : ℕ) → q < length pairs.persons.now → IsUnderAt sense pairs.persons.now pairs.objects.now pairs.costs.now prices values q →
-      IsUnder sense (rows_given sense (triples_in pairs) (length prices) 1 (length values)) prices values
-      (get_or pairs.persons.now q 0) (get_or pairs.objects.now q 0)
-  to_under q lt bad = under_best q lt bad (best_given sense (triples_in pairs) (get_or pairs.persons.now q 0) (get_or pairs.objects.now q 0)) refl
+  pub to_under : (q : ℕ) → q < length persons → IsUnderAt sense persons objects costs prices values q →
+      IsUnder sense (rows_given sense (triples_of persons objects costs) (length prices) 1 (length values)) prices values
+      (get_or persons q 0) (get_or objects q 0)
+  to_under q lt bad = under_best q lt bad (best_given sense (triples_of persons objects costs) (get_or persons q 0) (get_or objects q 0)) refl
 
-  given_pair : (i j : ℕ) (c : ℤ) → best_given sense (triples_in pairs) i j ≡ Some c → Contains (triples_in pairs) (i, j, c)
+  given_pair : (i j : ℕ) (c : ℤ) → best_given sense (triples_of persons objects costs) i j ≡ Some c → Contains (triples_of persons objects costs) (i, j, c)
   given_pair i j c e =
-      let best : IsBestGiven sense (triples_in pairs) i j (Some c) =
-      subst (IsBestGiven sense (triples_in pairs) i j) e (best_given_is sense (triples_in pairs) i j) in
+      let best : IsBestGiven sense (triples_of persons objects costs) i j (Some c) =
+      subst (IsBestGiven sense (triples_of persons objects costs) i j) e (best_given_is sense (triples_of persons objects costs) i j) in
       best.0
 
-  module _ (i j : ℕ) (u : IsUnder sense (rows_given sense (triples_in pairs) (length prices) 1 (length values)) prices values i j) where
-    given : best_given sense (triples_in pairs) i j ≡ Some u.cost
-    given = sym (rows_list sense (triples_in pairs) (length values) (length prices) among i j) ∙ u.listed
+  module _ (i j : ℕ) (u : IsUnder sense (rows_given sense (triples_of persons objects costs) (length prices) 1 (length values)) prices values i j) where
+    given : best_given sense (triples_of persons objects costs) i j ≡ Some u.cost
+    given = sym (pairs_listed sense (triples_of persons objects costs) (length values) (length prices) among i j) ∙ u.listed
 
     pub under_range : IsNumber (length values) i × IsNumber (length prices) j
-    under_range =
-        let p = place_of_triple pairs.persons.now pairs.objects.now pairs.costs.now are.objects_long are.costs_long
-        i j u.cost (given_pair i j u.cost given) in (
-          subst (IsNumber (length values)) p.person (are.persons_in p.place 0 p.below),
-          subst (IsNumber (length prices)) p.object (are.objects_in p.place 0 (let long = are.objects_long in let lt = p.below in omega arith)),
-        )
+    under_range = among i j u.cost (given_pair i j u.cost given)
 
-    pub from_under : IsMet pairs.persons.now pairs.objects.now (IsUnderAt sense pairs.persons.now pairs.objects.now
-        pairs.costs.now prices values) (length pairs.persons.now) (i, j)
+    pub from_under : IsMet persons objects (IsUnderAt sense persons objects
+        costs prices values) (length persons) (i, j)
     from_under =
-        let p = place_of_triple pairs.persons.now pairs.objects.now pairs.costs.now are.objects_long are.costs_long i j u.cost (given_pair i j u.cost given) in
+        let p = place_of_triple persons objects costs objects_long costs_long i j u.cost (given_pair i j u.cost given) in
         let value = value_at i under_range.0 in
         let price = price_at j under_range.1 in
         let cost = ap (minimised sense) p.cost in

@@ -1,5 +1,5 @@
 -- Sums of costs and prices in rows of costs.
-use Rattle.std.proofs.Common.{◌≡◌, ℕ, ℤ, pos, ◌≤ℤ◌, ◌<ℤ◌, ◌<◌, ◌≤◌, ◌+◌, ◌-◌, List, Some, IsSome, length, get_or, refl, arith, ap, sym, subst, ◌∙◌, inl, inr}
+use Rattle.std.proofs.Common.{◌≡◌, ℕ, ℤ, pos, ◌≤ℤ◌, ◌<ℤ◌, ◌<◌, ◌≤◌, ◌+◌, ◌-◌, ◌*◌, List, Some, IsSome, length, get_or, refl, arith, ap, sym, subst, ◌∙◌, inl, inr}
 use Rattle.std.proofs.lemmas.Int.{ints}
 use Rattle.assign_core.specs.declared.sense.Sense.{Sense}
 use Rattle.assign_core.specs.Numbered.{IsNumber}
@@ -10,7 +10,7 @@ use Rattle.assign_core.proofs.Listed.{listing_within}
 use Rattle.assign_core.proofs.NumberedLemmas.{low_or_same, numbered-index, numbered-next}
 use Rattle.dual_checker.specs.Faults.{IsFirst}
 use Rattle.cost_lists.specs.Own.{minimised}
-use Rattle.cost_lists.specs.Source.{AreCosts, part_of}
+use Rattle.cost_lists.specs.Source.{part_of}
 use Rattle.cost_lists.proofs.CutRows.{cost_read, cut_row, listed_number, part_fits, part_long}
 use Rattle.exact_checker.specs.inside.Sums.{sum_at}
 use Rattle.exact_checker.specs.Under.{IsUnder}
@@ -32,7 +32,7 @@ none_more sense costs prices values i before here q j lt room = elim (low_or_sam
 some_same : {a b : ℤ} → Some a ≡ Some b → a ≡ b
 some_same e = cc
 
-module _ (sense : Sense) (costs prices values : List ℤ) (are : AreCosts (length values) (length prices) costs) where
+module _ (sense : Sense) (costs prices values : List ℤ) (long : length costs ≡ length values * length prices) where
   -- a sum in a person's part that is below the value
   pub under_from : (i j : ℕ) → i < length values → j < length prices → sum_at sense (part_of (length prices) i costs) prices j <ℤ get_or values i (pos 0) →
       IsUnder sense (rows_cut (length prices) (length values) costs) prices values (i + 1) (j + 1)
@@ -40,7 +40,7 @@ module _ (sense : Sense) (costs prices values : List ℤ) (are : AreCosts (lengt
       let n : ℕ = length values in
       let m : ℕ = length prices in
       let part = part_of m i costs in
-      let whole = part_long m i costs (part_fits n m i costs are.long lt) in
+      let whole = part_long m i costs (part_fits n m i costs long lt) in
       let number : IsNumber (length part) (j + 1) = record { first = omega arith; last = omega arith } in
       let back : j + 1 - 1 ≡ j = omega arith in
       let read = sym (cost_read part (j + 1) number) ∙ ap (λ k. Some (get_or part k (pos 0))) back in
@@ -70,7 +70,7 @@ module _ (sense : Sense) (costs prices values : List ℤ) (are : AreCosts (lengt
     part_is =
         let first = person_in.first in
         let last = person_in.last in
-        part_long (length prices) (i - 1) costs (part_fits (length values) (length prices) (i - 1) costs are.long (omega arith))
+        part_long (length prices) (i - 1) costs (part_fits (length values) (length prices) (i - 1) costs long (omega arith))
 
     object_in : IsNumber (length prices) k
     object_in =

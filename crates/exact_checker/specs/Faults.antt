@@ -6,11 +6,11 @@ use Rattle.assign_core.specs.Rows.{IsListed, listed_or_zero, row_of}
 use Rattle.assign_core.specs.Prices.{price_of}
 use Rattle.dual_checker.specs.Faults.{own_object}
 use Rattle.cost_lists.specs.ListedCosts.{ListedCosts}
-use Rattle.cost_lists.specs.Exact.{IsPriceInLimits, with_price}
+use Rattle.cost_lists.specs.Exact.{with_price}
 
--- the price of object j isn't in the limits
-abbrev pub IsOutOfLimits : List ℤ → ℕ → Type 0
-IsOutOfLimits prices j = ¬ IsPriceInLimits (price_of prices j)
+-- the price of object j isn't in the range
+abbrev pub IsOutOfRange : (ℤ → Type 0) → List ℤ → ℕ → Type 0
+IsOutOfRange InRange prices j = ¬ InRange (price_of prices j)
 
 -- the first cost is better than the second
 abbrev pub IsBetter : Sense → ℤ → ℤ → Type 0

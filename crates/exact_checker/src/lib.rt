@@ -19,5 +19,6 @@ mod verdict;
 pub use checker::{check, first_under_value};
 pub use hall::check_hall;
 pub use hall_verdict::{HallVerdict, closed_verdicts, one_hall_verdict};
+pub use pairs::earlier;
 pub use values::sum_of;
 pub use verdict::{Verdict, one_verdict};

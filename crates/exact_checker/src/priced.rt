@@ -2,7 +2,7 @@
 ghost use Rattle.std.specs.Prelude.{◌↔◌, ◌≤◌, length, All, IsTrue, MatchOption};
 ghost use Rattle.dual_checker.specs.Faults.{IsFirst};
 ghost use Rattle.cost_lists.specs.Exact.{IsPriceInLimits};
-ghost use Rattle.exact_checker.specs.Faults.{IsOutOfLimits};
+ghost use Rattle.exact_checker.specs.Faults.{IsOutOfRange};
 
 use cost_lists::{GREATEST_NUMBER, GREATEST_PRICE, Object, Price};
 
@@ -17,7 +17,7 @@ fn is_price(price: Price) -> bool
 pub fn first_out_of_range(prices: &[Price]) -> Option<Object>
     requires { length prices.now ≤ GREATEST_NUMBER }
     ensures { MatchOption result (All IsPriceInLimits prices.now)
-        (λ j. IsFirst (IsOutOfLimits prices.now) (length prices.now) j) }
+        (λ j. IsFirst (IsOutOfRange IsPriceInLimits prices.now) (length prices.now) j) }
 {
     for (i, price) in prices.iter().enumerate() {
         if !is_price(*price) {

@@ -1,6 +1,4 @@
-// Costs in doubles: verdicts of the checker and answers to a caller's lists, worked by hand, and drawn problems from
-// starts that don't fit.
+// Costs in doubles: verdicts of the checker, worked by hand, and a call of many persons. Smaller calls are tested in C.
 mod called;
 mod checked;
 mod drawn;
-mod solved;

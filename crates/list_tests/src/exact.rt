@@ -11,6 +11,5 @@ mod problem;
 mod searched;
 mod slow;
 mod slow_hall;
-mod solved;
 mod tests;
 mod worked;

@@ -4,7 +4,7 @@ ghost use Rattle.c_blocks.specs.DoubleBlocks.{JudgesDoubles, Numbers, double_blo
 
 use assign_core::Cost;
 use c_blocks::{block_on, doubles_block_on, one_length};
-use c_calls::doubles::{DoublesInfo, Input as InputDoubles};
+use c_calls::doubles::{DoublesInfo, input_of as doubles_of};
 use c_calls::lists::{Info, Input, form_of};
 use cost_lists::{Object, Person, Price};
 use std::alloc::Global;
@@ -121,14 +121,7 @@ pub extern "C" fn nushbaret_block_doubles(
         one_length(is_one, n),
     ];
     let by_object = [prices.len()];
-    let input = InputDoubles {
-        sense,
-        n,
-        m,
-        by_person: &by_person,
-        by_object: &by_object,
-        costs,
-    };
+    let input = doubles_of(sense, n, m, &by_person, &by_object, costs);
     doubles_block_on(
         alloc,
         &input,

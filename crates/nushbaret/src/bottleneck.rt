@@ -3,7 +3,7 @@ ghost use Rattle.std.specs.Prelude.{◌≡◌, ◌≢◌, pos};
 ghost use Rattle.c_bottleneck.specs.Bottleneck.{FindsBottleneck, bottleneck_input, buffers};
 
 use c_bottleneck::bottleneck_on;
-use c_calls::lists::{Info, Input, form_of};
+use c_calls::lists::{Info, either_input};
 use cost_lists::{Object, Person};
 use list_solver::Record;
 use std::alloc::Global;
@@ -32,17 +32,6 @@ pub extern "C" fn nushbaret_bottleneck(
     ensures progress { result ≢ pos 21 → progress.new ≡ progress.old }
 {
     let by_person = [objects.len(), persons.len(), few.len()];
-    let input = Input {
-        form: form_of(of_persons, of_objects, costs),
-        sense,
-        n,
-        m,
-        by_person: &by_person,
-        by_object: &[],
-        persons: of_persons,
-        objects: of_objects,
-        costs,
-        first: &[],
-    };
+    let input = either_input(sense, n, m, &by_person, &[], of_persons, of_objects, costs);
     bottleneck_on(alloc, &input, objects, persons, few, budget, progress, info)
 }

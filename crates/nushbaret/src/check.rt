@@ -4,7 +4,7 @@ ghost use Rattle.c_calls.specs.lists.Checks.{IsHallJudged, IsJudged, IsRefused};
 ghost use Rattle.c_calls.specs.lists.Input.{either};
 
 use c_calls::lists::{
-    Info, Input, form_of, hall_verdict_on, refuse, report_hall_verdict, report_verdict, verdict_on,
+    Info, either_input, hall_verdict_on, refuse, report_hall_verdict, report_verdict, verdict_on,
 };
 use cost_lists::{Object, Person, Price};
 use std::alloc::Global;
@@ -28,18 +28,7 @@ pub extern "C" fn nushbaret_check(
         IsJudged input objects.now prices.now info.old info.new result
         ⊎ IsRefused input info.old info.new result }
 {
-    let input = Input {
-        form: form_of(of_persons, of_objects, costs),
-        sense,
-        n,
-        m,
-        by_person: &[],
-        by_object: &[],
-        persons: of_persons,
-        objects: of_objects,
-        costs,
-        first: &[],
-    };
+    let input = either_input(sense, n, m, &[], &[], of_persons, of_objects, costs);
     match verdict_on(alloc, &input, objects, prices) {
         Ok(verdict) => report_verdict(verdict, info),
         Err(fault) => refuse(fault, info),
@@ -63,18 +52,7 @@ pub extern "C" fn nushbaret_check_hall(
         IsHallJudged input persons.now objects.now info.old info.new result
         ⊎ IsRefused input info.old info.new result }
 {
-    let input = Input {
-        form: form_of(of_persons, of_objects, costs),
-        sense: 0,
-        n,
-        m,
-        by_person: &[],
-        by_object: &[],
-        persons: of_persons,
-        objects: of_objects,
-        costs,
-        first: &[],
-    };
+    let input = either_input(0, n, m, &[], &[], of_persons, of_objects, costs);
     match hall_verdict_on(alloc, &input, persons, objects) {
         Ok(verdict) => report_hall_verdict(verdict, info),
         Err(fault) => refuse(fault, info),

@@ -3,7 +3,7 @@ ghost use Rattle.std.specs.Prelude.{◌⊎◌};
 ghost use Rattle.c_calls.specs.doubles.Checks.{IsJudged, IsRefused, with_answer};
 ghost use Rattle.c_calls.specs.doubles.Ends.{Solves, buffers};
 
-use c_calls::doubles::{DoublesInfo, Input, check_input, solve_from, solve_input};
+use c_calls::doubles::{DoublesInfo, check_input, input_of, solve_from, solve_input};
 use cost_lists::{Object, Person};
 use std::alloc::Global;
 
@@ -27,14 +27,7 @@ pub extern "C" fn nushbaret_doubles(
 {
     let by_person = [objects.len(), persons.len()];
     let by_object = [prices.len()];
-    let input = Input {
-        sense,
-        n,
-        m,
-        by_person: &by_person,
-        by_object: &by_object,
-        costs,
-    };
+    let input = input_of(sense, n, m, &by_person, &by_object, costs);
     solve_input(alloc, &input, objects, persons, prices, info)
 }
 
@@ -57,14 +50,7 @@ pub extern "C" fn nushbaret_doubles_from(
 {
     let by_person = [objects.len(), persons.len()];
     let by_object = [prices.len()];
-    let input = Input {
-        sense,
-        n,
-        m,
-        by_person: &by_person,
-        by_object: &by_object,
-        costs,
-    };
+    let input = input_of(sense, n, m, &by_person, &by_object, costs);
     solve_from(alloc, &input, objects, persons, prices, info)
 }
 
@@ -86,13 +72,6 @@ pub extern "C" fn nushbaret_check_doubles(
 {
     let by_person = [objects.len()];
     let by_object = [prices.len()];
-    let input = Input {
-        sense,
-        n,
-        m,
-        by_person: &by_person,
-        by_object: &by_object,
-        costs,
-    };
+    let input = input_of(sense, n, m, &by_person, &by_object, costs);
     check_input(alloc, &input, objects, prices, info)
 }

@@ -3,7 +3,7 @@ ghost use Rattle.std.specs.Prelude.{[], ◌∷◌, length};
 ghost use Rattle.c_wide.specs.Ends.{wide_buffers};
 ghost use Rattle.c_wide.specs.exact.Ends.{IsExactJudged, IsExactReported, exact_input};
 
-use c_calls::doubles::Input;
+use c_calls::doubles::input_of;
 use c_calls::lists::Info;
 use c_wide::{exact_verdict_on, solve_exact};
 use cost_lists::{Object, Person};
@@ -34,14 +34,7 @@ pub extern "C" fn nushbaret_exact_doubles(
 {
     let by_person = [objects.len(), persons.len()];
     let by_object = [prices.len()];
-    let input = Input {
-        sense,
-        n,
-        m,
-        by_person: &by_person,
-        by_object: &by_object,
-        costs,
-    };
+    let input = input_of(sense, n, m, &by_person, &by_object, costs);
     solve_exact(alloc, &input, objects, persons, prices, total, unit, info)
 }
 
@@ -61,13 +54,6 @@ pub extern "C" fn nushbaret_check_exact_doubles(
     ensures { IsExactJudged (exact_input sense n m costs.now [] []) objects.now prices.now info.old
         info.new unit.old unit.new result }
 {
-    let input = Input {
-        sense,
-        n,
-        m,
-        by_person: &[],
-        by_object: &[],
-        costs,
-    };
+    let input = input_of(sense, n, m, &[], &[], costs);
     exact_verdict_on(alloc, &input, objects, prices, unit, info)
 }

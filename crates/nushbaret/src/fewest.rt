@@ -1,7 +1,7 @@
 // The call that looks for a best plan with fewest changes, as `c/nushbaret.h` declares it.
 ghost use Rattle.c_wide.specs.fewest.Ends.{FewestBuffers, IsFewestReported, fewest_buffers, fewest_input};
 
-use c_calls::lists::{Info, Input, form_of};
+use c_calls::lists::{Info, either_input};
 use c_wide::fewest_on;
 use cost_lists::{Object, Person};
 use std::alloc::Global;
@@ -33,17 +33,8 @@ pub extern "C" fn nushbaret_fewest_changes(
 {
     let by_person = [kept.len(), objects.len(), persons.len()];
     let by_object = [prices.len()];
-    let input = Input {
-        form: form_of(of_persons, of_objects, costs),
-        sense,
-        n,
-        m,
-        by_person: &by_person,
-        by_object: &by_object,
-        persons: of_persons,
-        objects: of_objects,
-        costs,
-        first: &[],
-    };
+    let input = either_input(
+        sense, n, m, &by_person, &by_object, of_persons, of_objects, costs,
+    );
     fewest_on(alloc, &input, kept, objects, persons, prices, changed, info)
 }

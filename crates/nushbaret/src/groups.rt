@@ -1,7 +1,7 @@
 // The call that asks which objects can change places, as `c/nushbaret.h` declares it.
 ghost use Rattle.c_plans.specs.Groups.{GroupBuffers, JudgesGroups, groups_input};
 
-use c_calls::lists::{Info, Input, form_of};
+use c_calls::lists::{Info, either_input};
 use c_plans::groups_on;
 use cost_lists::{Object, Person, Price};
 use std::alloc::Global;
@@ -28,17 +28,6 @@ pub extern "C" fn nushbaret_groups(
         objects.now prices.now before after result }
 {
     let by_object = [groups.len()];
-    let input = Input {
-        form: form_of(of_persons, of_objects, costs),
-        sense,
-        n,
-        m,
-        by_person: &[],
-        by_object: &by_object,
-        persons: of_persons,
-        objects: of_objects,
-        costs,
-        first: &[],
-    };
+    let input = either_input(sense, n, m, &[], &by_object, of_persons, of_objects, costs);
     groups_on(alloc, &input, objects, prices, groups, info)
 }

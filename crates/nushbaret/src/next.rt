@@ -1,7 +1,7 @@
 // The call that asks for the next best plan, as `c/nushbaret.h` declares it.
 ghost use Rattle.c_plans.specs.Next.{JudgesNext, next_buffers, next_input};
 
-use c_calls::lists::{Info, Input, form_of};
+use c_calls::lists::{Info, either_input};
 use c_plans::next_on;
 use cost_lists::{Object, Person, Price};
 use std::alloc::Global;
@@ -29,18 +29,7 @@ pub extern "C" fn nushbaret_next(
         objects.now prices.now before (next_buffers other.new margin.new info.new) result }
 {
     let by_person = [other.len()];
-    let input = Input {
-        form: form_of(of_persons, of_objects, costs),
-        sense,
-        n,
-        m,
-        by_person: &by_person,
-        by_object: &[],
-        persons: of_persons,
-        objects: of_objects,
-        costs,
-        first: &[],
-    };
+    let input = either_input(sense, n, m, &by_person, &[], of_persons, of_objects, costs);
     next_on(
         alloc, &input, objects, prices, arc_scans, other, margin, info,
     )

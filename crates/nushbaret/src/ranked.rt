@@ -1,7 +1,7 @@
 // The call that asks for the first plans, as `c/nushbaret.h` declares it.
 ghost use Rattle.c_plans.specs.Ranked.{JudgesRanked, ranked_buffers, ranked_input};
 
-use c_calls::lists::{Info, Input, form_of};
+use c_calls::lists::{Info, either_input};
 use c_plans::{length_of_each, ranked_on};
 use cost_lists::{Object, Person, Price};
 use std::alloc::Global;
@@ -31,18 +31,7 @@ pub extern "C" fn nushbaret_ranked(
         objects.now prices.now before (ranked_buffers plans.new totals.new found.new info.new) result }
 {
     let by_person = [length_of_each(n, plans.len(), totals.len())];
-    let input = Input {
-        form: form_of(of_persons, of_objects, costs),
-        sense,
-        n,
-        m,
-        by_person: &by_person,
-        by_object: &[],
-        persons: of_persons,
-        objects: of_objects,
-        costs,
-        first: &[],
-    };
+    let input = either_input(sense, n, m, &by_person, &[], of_persons, of_objects, costs);
     ranked_on(
         alloc, &input, objects, prices, arc_scans, plans, totals, found, info,
     )

@@ -1,7 +1,7 @@
 // The call that asks whether a plan is the only best one, as `c/nushbaret.h` declares it.
 ghost use Rattle.c_plans.specs.Unique.{JudgesUnique, UniqueBuffers, unique_input};
 
-use c_calls::lists::{Info, Input, form_of};
+use c_calls::lists::{Info, either_input};
 use c_plans::unique_on;
 use cost_lists::{Object, Person, Price};
 use std::alloc::Global;
@@ -30,17 +30,8 @@ pub extern "C" fn nushbaret_unique(
 {
     let by_person = [other.len()];
     let by_object = [ranks.len()];
-    let input = Input {
-        form: form_of(of_persons, of_objects, costs),
-        sense,
-        n,
-        m,
-        by_person: &by_person,
-        by_object: &by_object,
-        persons: of_persons,
-        objects: of_objects,
-        costs,
-        first: &[],
-    };
+    let input = either_input(
+        sense, n, m, &by_person, &by_object, of_persons, of_objects, costs,
+    );
     unique_on(alloc, &input, objects, prices, other, ranks, info)
 }

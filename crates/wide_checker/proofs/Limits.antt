@@ -6,35 +6,38 @@ use Rattle.assign_core.specs.declared.sense.Sense.{Sense}
 use Rattle.assign_core.specs.Rows.{IsWithin}
 use Rattle.assign_core.proofs.DenseRows.{length-rows_cut}
 use Rattle.cost_lists.specs.ListedCosts.{ListedCosts, IsCount}
-use Rattle.cost_lists.proofs.GivenRows.{length-rows_given}
+use Rattle.cost_lists.proofs.CutRows.{cut_costs, cut_within}
+use Rattle.cost_lists.proofs.GivenRows.{AreAmong, length-rows_given, rows_each, rows_within}
+use Rattle.cost_lists.proofs.Triples.{triple_cost, triple_numbers}
 use Rattle.wide_checker.specs.declared.source.WidePairs.{WidePairs}
 use Rattle.wide_checker.specs.declared.source.WideSource.{WideSource}
 use Rattle.wide_checker.specs.declared.source.WideSource.TheVariants.{Dense, Listed}
 use Rattle.wide_checker.specs.WideNumbers.{IsInCosts, wide_value}
 use Rattle.wide_checker.specs.WideLimits.{HasWideCosts, AreInWideLimits}
 use Rattle.wide_checker.specs.WideSources.{AreWidePairs, IsWideGiven, IsWideSource, triples_in, wide_rows}
-use Rattle.wide_checker.proofs.CutWide.{cut_costs_wide, cut_within_wide}
-use Rattle.wide_checker.proofs.PairRows.{IsWideTriple, wide_costs, wide_triples, wide_within}
 use Rattle.wide_checker.proofs.Words.{all_values}
 
 rows_long : (sense : Sense) (n m : ℕ) (source : WideSource) → length (wide_rows sense n m source) ≡ n
 rows_long sense n m (Dense costs) = length-rows_cut m n (map wide_value costs.now)
 rows_long sense n m (Listed pairs) = length-rows_given sense (triples_in pairs) m 1 n
 
--- the triples of listed pairs are of persons, objects and costs
-pub triples_wide : (n m : ℕ) (pairs : WidePairs) → AreWidePairs n m pairs → All (IsWideTriple n m) (triples_in pairs)
-triples_wide n m pairs is =
-    wide_triples pairs.persons.now pairs.objects.now (map wide_value pairs.costs.now) n m is.objects_long
-    (length-map pairs.costs.now wide_value ∙ is.costs_long) is.persons_in is.objects_in (all_values IsInCosts pairs.costs.now is.costs_in)
+-- the triples of listed pairs are of persons and objects
+pub wide_among : (n m : ℕ) (pairs : WidePairs) → AreWidePairs n m pairs → AreAmong n m (triples_in pairs)
+wide_among n m pairs is =
+    triple_numbers pairs.persons.now pairs.objects.now (map wide_value pairs.costs.now) is.objects_long
+    (length-map pairs.costs.now wide_value ∙ is.costs_long) n m is.persons_in is.objects_in
 
 within_limits : (sense : Sense) (n m : ℕ) (source : WideSource) → IsWideSource n m source → All (IsWithin m) (wide_rows sense n m source)
-within_limits sense n m (Dense costs) is = cut_within_wide n m (map wide_value costs.now) (length-map costs.now wide_value ∙ is.long)
-within_limits sense n m (Listed pairs) is = wide_within sense (triples_in pairs) n m (triples_wide n m pairs is)
+within_limits sense n m (Dense costs) is = cut_within n m (map wide_value costs.now) (length-map costs.now wide_value ∙ is.long)
+within_limits sense n m (Listed pairs) is = rows_within sense (triples_in pairs) n m (wide_among n m pairs is)
 
 costs_limits : (sense : Sense) (n m : ℕ) (source : WideSource) → IsWideSource n m source → All HasWideCosts (wide_rows sense n m source)
 costs_limits sense n m (Dense costs) is =
-    cut_costs_wide n m (map wide_value costs.now) (length-map costs.now wide_value ∙ is.long) (all_values IsInCosts costs.now is.costs_in)
-costs_limits sense n m (Listed pairs) is = wide_costs sense (triples_in pairs) n m (triples_wide n m pairs is)
+    cut_costs n m (map wide_value costs.now) (length-map costs.now wide_value ∙ is.long) IsInCosts (all_values IsInCosts costs.now is.costs_in)
+costs_limits sense n m (Listed pairs) is =
+    rows_each sense (triples_in pairs) (λ e. IsInCosts e.1)
+    (triple_cost pairs.persons.now pairs.objects.now (map wide_value pairs.costs.now) is.objects_long
+    (length-map pairs.costs.now wide_value ∙ is.costs_long) IsInCosts (all_values IsInCosts pairs.costs.now is.costs_in)) m 1 n
 
 module _ (sense : Sense) (n m : ℕ) (source : WideSource) (l : ListedCosts) (is : IsWideGiven n m source)
     (shown : ◌≡◌ {A = ListedCosts} (record { sense = sense; m = m; rows = wide_rows sense n m source }) l) where

@@ -1,24 +1,18 @@
--- Weak duality with exact prices in the wide limits.
-use Rattle.std.proofs.Common.{ℕ, ℤ, pos, ◌≤ℤ◌, zero, suc, List, length, arith, inl, inr}
-use Rattle.std.specs.List.{All}
-use Rattle.std.proofs.lemmas.Int.{ints}
-use Rattle.std.proofs.lemmas.Bool.{cases_lt}
-use Rattle.std.proofs.lemmas.List.{get_or_past}
+-- Weak duality with exact prices in the wide limits, and verdicts that exclude each other.
+use Rattle.std.proofs.Common.{◌≡◌, ℕ, ℤ, List}
 use Rattle.assign_core.specs.Assignment.{IsBest}
-use Rattle.assign_core.specs.Prices.{price_of}
 use Rattle.cost_lists.specs.ListedCosts.{ListedCosts}
-use Rattle.cost_lists.proofs.ExactDuality.{best_by_choices}
+use Rattle.cost_lists.proofs.ExactDuality.{best_by_choices, no_price_below}
+use Rattle.exact_checker.specs.declared.verdict.Verdict.{Verdict}
+use Rattle.exact_checker.proofs.Differences.{same_verdict}
 use Rattle.wide_checker.specs.WideLimits.{AreInWideLimits}
 use Rattle.wide_checker.specs.WideNumbers.{IsInPrices}
 use Rattle.wide_checker.specs.WideOptimum.{IsWideOptimum}
-
--- no price is below 0
-no_price_below : (prices : List ℤ) (j : ℕ) → All IsInPrices prices → pos 0 ≤ℤ price_of prices j
-no_price_below prices zero h = omega (arith, ints)
-no_price_below prices (suc k) h = elim (cases_lt k (length prices)) [
-  | inl lt ↦ let p = h k (pos 0) lt in p.least
-  | inr past ↦ let e = get_or_past prices k (pos 0) past in omega (arith, ints)
-]
+use Rattle.wide_checker.specs.WideVerdicts.{IsWideVerdict}
 
 pub best_wide : (l : ListedCosts) (xs : List ℕ) (prices : List ℤ) → AreInWideLimits l → IsWideOptimum l xs prices → IsBest l.sense l.rows xs
-best_wide l xs prices limits o = best_by_choices l.sense l.m l.rows xs prices limits.within (λ j. no_price_below prices j o.in_range) o.assigned o.choices o.free
+best_wide l xs prices limits o = best_by_choices l.sense l.m l.rows xs prices limits.within (λ j. no_price_below IsInPrices (λ p h. h.least) prices j o.in_range) o.assigned o.choices o.free
+
+pub wide_verdicts_differ : (l : ListedCosts) (xs : List ℕ) (prices : List ℤ) (v w : Verdict) → IsWideVerdict l xs prices v → IsWideVerdict l xs prices w → v ≡ w
+wide_verdicts_differ l xs prices v w a b =
+    same_verdict IsInPrices IsWideOptimum l xs prices (λ o. (o.assigned, o.priced, o.in_range, o.choices, o.free)) v w a b

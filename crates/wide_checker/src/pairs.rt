@@ -1,9 +1,8 @@
 // Whether a listed object is better than the own one, in listed pairs.
-ghost use Rattle.std.specs.Prelude.{◌≡◌, ◌<◌, ◌≤◌, ◌<ℤ◌, ◌+ℤ◌, ◌⊎◌, ◌↔◌, ℕ, IsTrue, length, map, All, MatchOption};
+ghost use Rattle.std.specs.Prelude.{◌≡◌, ◌<◌, ◌≤◌, ◌<ℤ◌, ◌+ℤ◌, ℕ, length, map, All, MatchOption};
 ghost use Rattle.dual_checker.specs.Faults.{IsFirst};
 ghost use Rattle.cost_lists.specs.Given.{rows_given};
 ghost use Rattle.exact_checker.specs.Under.{HasUnder, IsUnder};
-ghost use Rattle.exact_checker.specs.inside.Earliest.{IsEarlier, IsUpTo};
 ghost use Rattle.wide_checker.specs.WideNumbers.{IsInPrices, wide_value};
 ghost use Rattle.wide_checker.specs.WideSources.{AreWidePairs, triples_in};
 
@@ -12,22 +11,7 @@ use super::source::WidePairs;
 use super::values::sum_of;
 use assign_core::Sense;
 use cost_lists::{Object, Person};
-
-// The first of a pair and another, if there is one, by the persons and then by the objects.
-fn earlier(first: Option<(Person, Object)>, person: Person, object: Object) -> (Person, Object)
-    ensures { IsEarlier first (person, object) result }
-{
-    match first {
-        Some((i, j)) => {
-            if i < person || i == person && j <= object {
-                (i, j)
-            } else {
-                (person, object)
-            }
-        }
-        None => (person, object),
-    }
-}
+use exact_checker::earlier;
 
 // The lowest person that lists an object whose sum of cost and price is below the person's value,
 // and its lowest object of this kind, of listed pairs.

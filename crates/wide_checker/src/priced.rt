@@ -1,8 +1,8 @@
 // Whether each price is in range.
 ghost use Rattle.std.specs.Prelude.{◌↔◌, ◌≤◌, length, map, All, IsTrue, MatchOption};
 ghost use Rattle.dual_checker.specs.Faults.{IsFirst};
+ghost use Rattle.exact_checker.specs.Faults.{IsOutOfRange};
 ghost use Rattle.wide_checker.specs.WideNumbers.{IsInPrices, wide_value};
-ghost use Rattle.wide_checker.specs.WideVerdicts.{IsBeyondPrices};
 
 use super::numbers::{GREATEST_WIDE_PRICE, Wide, value_at};
 use cost_lists::{GREATEST_NUMBER, Object};
@@ -18,7 +18,7 @@ fn is_price(price: i128) -> bool
 pub fn first_out_of_range(prices: &[Wide]) -> Option<Object>
     requires { length prices.now ≤ GREATEST_NUMBER }
     ensures { MatchOption result (All IsInPrices (map wide_value prices.now))
-        (λ j. IsFirst (IsBeyondPrices (map wide_value prices.now)) (length prices.now) j) }
+        (λ j. IsFirst (IsOutOfRange IsInPrices (map wide_value prices.now)) (length prices.now) j) }
 {
     for i in 0..prices.len() {
         if !is_price(value_at(prices, i)) {

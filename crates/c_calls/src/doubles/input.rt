@@ -1,4 +1,5 @@
 // The costs that a caller gives.
+ghost use Rattle.std.specs.Prelude.{◌≡◌};
 ghost use Rattle.c_calls.specs.doubles.Input.{InputDoubles};
 
 use std::marker::Model;
@@ -30,4 +31,32 @@ impl<'a> Model for Input<'a> {
       by_object = g.by_object.now;
       costs = g.costs.now;
     } };
+}
+
+/// A problem with the lengths of its buffers.
+pub fn input_of<'a>(
+    sense: u32,
+    n: usize,
+    m: usize,
+    by_person: &'a [usize],
+    by_object: &'a [usize],
+    costs: &'a [f64],
+) -> Input<'a>
+    ensures { result ≡ record {
+      sense = sense;
+      n = n;
+      m = m;
+      by_person = by_person.now;
+      by_object = by_object.now;
+      costs = costs.now;
+    } }
+{
+    Input {
+        sense,
+        n,
+        m,
+        by_person,
+        by_object,
+        costs,
+    }
 }

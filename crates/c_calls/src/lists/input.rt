@@ -1,9 +1,9 @@
 // The lists that a caller gives.
-ghost use Rattle.std.specs.Prelude.{◌↔◌, IsTrue};
+ghost use Rattle.std.specs.Prelude.{◌≡◌, ◌↔◌, [], IsTrue};
 ghost use Rattle.cost_lists.specs.ListedCosts.{IsCount};
-ghost use Rattle.c_calls.specs.lists.Input.{InputLists, HasFirst, HasPairs};
+ghost use Rattle.c_calls.specs.lists.Input.{InputLists, HasFirst, HasPairs, either_form};
 
-use super::form::Form;
+use super::form::{Form, form_of};
 use crate::size::pairs_of;
 use assign_core::Cost;
 use cost_lists::{Object, Person, Price};
@@ -44,6 +44,45 @@ impl<'a> Model for Input<'a> {
       costs = g.costs.now;
       first = g.first.now;
     } };
+}
+
+/// A problem with the lengths of its buffers and without first prices, which is dense if there are costs
+/// but no list of pairs; otherwise it is sparse.
+pub fn either_input<'a>(
+    sense: u32,
+    n: usize,
+    m: usize,
+    by_person: &'a [usize],
+    by_object: &'a [usize],
+    persons: &'a [Person],
+    objects: &'a [Object],
+    costs: &'a [Cost],
+) -> Input<'a>
+    ensures { result ≡ record {
+      form = either_form persons.now objects.now costs.now;
+      sense = sense;
+      n = n;
+      m = m;
+      by_person = by_person.now;
+      by_object = by_object.now;
+      persons = persons.now;
+      objects = objects.now;
+      costs = costs.now;
+      first = [];
+    } }
+{
+    Input {
+        form: form_of(persons, objects, costs),
+        sense,
+        n,
+        m,
+        by_person,
+        by_object,
+        persons,
+        objects,
+        costs,
+        first: &[],
+    }
 }
 
 /// Whether the lists of pairs and costs have the right lengths.

@@ -1,5 +1,5 @@
 // Calls on lists as a program in C lends them.
-use c_calls::doubles::{DoublesInfo, Input, check_input, solve_from, solve_input};
+use c_calls::doubles::{DoublesInfo, input_of, solve_from, solve_input};
 use std::alloc::Global;
 
 /// A record in which nothing is written.
@@ -28,14 +28,7 @@ pub fn solve(
 ) -> i32 {
     let by_person = [objects.len(), persons.len()];
     let by_object = [prices.len()];
-    let input = Input {
-        sense,
-        n,
-        m,
-        by_person: &by_person,
-        by_object: &by_object,
-        costs,
-    };
+    let input = input_of(sense, n, m, &by_person, &by_object, costs);
     solve_input(alloc, &input, objects, persons, prices, info)
 }
 
@@ -53,37 +46,6 @@ pub fn solve_again(
 ) -> i32 {
     let by_person = [objects.len(), persons.len()];
     let by_object = [prices.len()];
-    let input = Input {
-        sense,
-        n,
-        m,
-        by_person: &by_person,
-        by_object: &by_object,
-        costs,
-    };
+    let input = input_of(sense, n, m, &by_person, &by_object, costs);
     solve_from(alloc, &input, objects, persons, prices, info)
-}
-
-/// The code of a plan and prices.
-pub fn judge(
-    alloc: Global,
-    sense: u32,
-    n: usize,
-    m: usize,
-    costs: &[f64],
-    objects: &[u32],
-    prices: &[f64],
-    info: &mut DoublesInfo,
-) -> i32 {
-    let by_person = [objects.len()];
-    let by_object = [prices.len()];
-    let input = Input {
-        sense,
-        n,
-        m,
-        by_person: &by_person,
-        by_object: &by_object,
-        costs,
-    };
-    check_input(alloc, &input, objects, prices, info)
 }

@@ -1,7 +1,5 @@
-// Drawn problems. Of eight persons and objects half of the pairs are forbidden: a start that doesn't
-// fit gives the code that a search from nothing gives. Of 300 all pairs are allowed.
+// A drawn problem of 300 persons and objects.
 use super::called::{solve, solve_again, unwritten};
-use std::alloc::Global;
 use std::num::nearest_i64_to_f64;
 use std::test::Fail;
 
@@ -16,73 +14,6 @@ fn next_number(seed: &mut u64) -> u64 {
 // From 0 up to 1.
 fn next_part(seed: &mut u64) -> f64 {
     nearest_i64_to_f64(next_number(seed).cast_signed()) / 2147483648.0
-}
-
-fn draw_costs(seed: &mut u64, costs: &mut [f64]) {
-    for k in 0..costs.len() {
-        let cost = next_part(seed);
-        costs[k] = if next_number(seed) % 2 == 0 {
-            cost
-        } else {
-            f64::INFINITY
-        };
-    }
-}
-
-fn draw_prices(seed: &mut u64, prices: &mut [f64]) {
-    for k in 0..prices.len() {
-        prices[k] = next_part(seed) * 100.0;
-    }
-}
-
-// The code of a search from nothing.
-fn code_from_nothing(alloc: Global, costs: &[f64]) -> i32 {
-    let (mut objects, mut persons, mut prices) = ([0u32; 8], [0u32; 8], [0.0; 8]);
-    let mut info = unwritten();
-    solve(
-        alloc,
-        0,
-        8,
-        8,
-        costs,
-        &mut objects,
-        &mut persons,
-        &mut prices,
-        &mut info,
-    )
-}
-
-// The code of a search from drawn prices.
-fn code_from_prices(alloc: Global, seed: &mut u64, costs: &[f64]) -> i32 {
-    let (mut objects, mut persons, mut prices) = ([0u32; 8], [0u32; 8], [0.0; 8]);
-    draw_prices(seed, &mut prices);
-    let mut info = unwritten();
-    solve_again(
-        alloc,
-        0,
-        8,
-        8,
-        costs,
-        &mut objects,
-        &mut persons,
-        &mut prices,
-        &mut info,
-    )
-}
-
-#[test]
-fn starts_that_do_not_fit(rt: HostRuntime) -> Result<(), Fail> {
-    let (mut seed, mut plans) = (1u64, 0u32);
-    for _ in 0..100 {
-        let mut costs = [0.0; 64];
-        draw_costs(&mut seed, &mut costs);
-        let code = code_from_nothing(rt.alloc(), &costs);
-        assert!(rt; code == 0 || code == 1);
-        assert!(rt; code_from_prices(rt.alloc(), &mut seed, &costs) == code);
-        plans = plans.wrapping_add(u32::from(code == 0));
-    }
-    assert!(rt; plans > 0 && plans < 100);
-    Ok(())
 }
 
 const MANY: usize = 300;

@@ -3,6 +3,7 @@ use Rattle.std.specs.List.{All}
 use Rattle.assign_core.specs.Dense.{rows_cut}
 use Rattle.assign_core.specs.Sparse.{IsTripleAmong}
 use Rattle.assign_core.proofs.DenseRows.{length-rows_cut}
+use Rattle.cost_lists.specs.declared.numbers.TheConstants.{UNLISTED}
 use Rattle.cost_lists.specs.Given.{rows_given}
 use Rattle.cost_lists.specs.Own.{AreOwnCosts, turned_or_unlisted}
 use Rattle.cost_lists.specs.Source.{ArePairs, IsSource, rows_in, triples_in}
@@ -17,7 +18,7 @@ returns-in-Dense c =
     let rows = rows_cut c.args.m n c.in-Dense.costs.now in
     let long = c.set_of_rows.auto.own ∙ sym (length-rows_cut c.args.m n c.in-Dense.costs.now) in
     subst (λ s. AreOwnCosts c.args.sense (rows_in c.args.sense n c.args.m s) c.args.objects.now c.set_of_rows.new.own) (sym c.in-Dense.is)
-    (own_numbered c.args.sense rows c.args.objects.now c.set_of_rows.new.own long c.set_of_rows.ensures)
+    (own_numbered UNLISTED c.args.sense rows c.args.objects.now c.set_of_rows.new.own long c.set_of_rows.ensures)
 
 pub returns-in-Listed : goal.returns-in-Listed
 returns-in-Listed c =
@@ -31,6 +32,6 @@ returns-in-Listed c =
     triples_among p.persons.now p.objects.now p.costs.now are.objects_long are.costs_long n m are.persons_in
     are.objects_in are.costs_in in
     subst (λ s. AreOwnCosts c.args.sense (rows_in c.args.sense n m s) c.args.objects.now c.set_of_pairs.new.own) (sym c.in-Listed.is)
-    (own_numbered c.args.sense rows c.args.objects.now c.set_of_pairs.new.own long
+    (own_numbered UNLISTED c.args.sense rows c.args.objects.now c.set_of_pairs.new.own long
     (λ i lt. c.set_of_pairs.ensures i lt ∙ ap (turned_or_unlisted c.args.sense)
     (sym (rows_list c.args.sense (triples_in p) n m among (i + 1) (get_or c.args.objects.now i 0)))))

@@ -48,7 +48,9 @@ returns c =
     let whole : c.loop-k.k ≡ length p.persons.now = omega arith in
     let last : IsFirstSoFar p.persons.now p.objects.now Bad (length p.persons.now) c.loop-k.first =
     subst (λ k. IsFirstSoFar p.persons.now p.objects.now Bad k c.loop-k.first) whole c.loop-k.invariant in
+    let are = c.requires.pairs in
     first_found p.persons.now p.objects.now Bad (IsUnder c.args.sense (rows_given c.args.sense (triples_in p)
-    (length prices) 1 (length values)) prices values) (length values) (length prices)
-    (length p.persons.now) c.loop-k.first (to_under c.args.sense p prices values c.requires.pairs) (from_under c.args.sense p prices values c.requires.pairs)
-    (under_range c.args.sense p prices values c.requires.pairs) last
+    (length prices) 1 (length values)) prices values) (length values) (length prices) (length p.persons.now) c.loop-k.first
+    (to_under c.args.sense p.persons.now p.objects.now p.costs.now prices values are.objects_long are.costs_long are.persons_in are.objects_in)
+    (from_under c.args.sense p.persons.now p.objects.now p.costs.now prices values are.objects_long are.costs_long are.persons_in are.objects_in)
+    (under_range c.args.sense p.persons.now p.objects.now p.costs.now prices values are.objects_long are.costs_long are.persons_in are.objects_in) last

@@ -2,7 +2,7 @@ use Rattle.std.proofs.Common.{pos, arith, rules, refl, get_or, SFits, w64}
 use Rattle.std.proofs.lemmas.Int.{to_z-of_z}
 use Rattle.assign_core.specs.Prices.{price_of}
 use Rattle.cost_lists.specs.Exact.{IsPriceInLimits}
-use Rattle.exact_checker.specs.Faults.{IsOutOfLimits}
+use Rattle.exact_checker.specs.Faults.{IsOutOfRange}
 use Rattle.dual_checker.proofs.Firsts.{first_at, one_more}
 use Rattle.assign_core.proofs.NumberedLemmas.{numbered-next, All-from_numbers}
 use Rattle.exact_checker.proofs.priced.first_out_of_range.Goals as goal
@@ -18,7 +18,7 @@ returns-then-not-is_price c =
     let fits : SFits w64 (get_or prices c.loop-i.i (pos 0)) = search rules in
     let says = simp to_z-of_z at c.is_price.ensures in
     let out : ¬ IsPriceInLimits (get_or prices c.loop-i.i (pos 0)) = λ h. let yes = says.1 h in let no = c.if-not-is_price.true in cc in
-    first_at (IsOutOfLimits prices) _ c.loop-i.i l (λ k h f. f (c.loop-i.invariant k h)) (rw price out)
+    first_at (IsOutOfRange IsPriceInLimits prices) _ c.loop-i.i l (λ k h f. f (c.loop-i.invariant k h)) (rw price out)
 
 pub loop-i-preserved : goal.loop-i-preserved
 loop-i-preserved c =

@@ -20,7 +20,7 @@ returns-in-Some c =
     let h : P (part_of (length prices) i costs) = subst P c.part-row.ensures found in
     let whole = part_long (length prices) i costs (part_fits (length values) (length prices) i costs c.requires.costs.long c.loop-i-test.true) in
     let lt = h.0 in
-    first_under_is c.args.sense costs prices values c.requires.costs i j c.loop-i-test.true (omega arith) c.loop-i.invariant h.1 h.2
+    first_under_is c.args.sense costs prices values c.requires.costs.long i j c.loop-i-test.true (omega arith) c.loop-i.invariant h.1 h.2
 
 pub loop-i-preserved : goal.loop-i-preserved
 loop-i-preserved c =
@@ -36,4 +36,4 @@ loop-i-preserved c =
     none_more c.args.sense costs prices values i c.loop-i.invariant (λ j room. h j (omega arith))
 
 pub returns : goal.returns
-returns c = none_under c.args.sense c.args.costs.now c.args.prices.now c.args.values.now c.requires.costs c.loop-i.i c.loop-i.invariant c.loop-i-test.false
+returns c = none_under c.args.sense c.args.costs.now c.args.prices.now c.args.values.now c.requires.costs.long c.loop-i.i c.loop-i.invariant c.loop-i-test.false

@@ -4,7 +4,7 @@ use Rattle.assign_core.specs.Numbered.{numbered}
 use Rattle.assign_core.proofs.NumberedLemmas.{numbered-next}
 use Rattle.dual_checker.proofs.Firsts.{one_more}
 use Rattle.cost_lists.specs.declared.numbers.TheConstants.{UNLISTED}
-use Rattle.exact_checker.proofs.OwnMarks.{all_unmarked, first_marked}
+use Rattle.exact_checker.proofs.OwnMarks.{all_unmarked, costs_below_mark, first_marked}
 use Rattle.exact_checker.proofs.unlisted.first_unlisted.Goals as goal
 
 pub loop-i-init : goal.loop-i-init
@@ -16,7 +16,7 @@ returns-then-is_unlisted c = λ l xs limits long are.
     let i = c.loop-i.i in
     let fits : SFits w64 (get_or own i (pos 0)) = search rules in
     let says = simp to_z-of_z at c.is_unlisted.ensures in
-    first_marked l xs own limits are i c.loop-i-test.true c.loop-i.invariant (rw (numbered-next own i (pos 0)) (says.0 c.if-is_unlisted.true))
+    first_marked UNLISTED l.sense l.rows xs own are (costs_below_mark l.sense l.rows limits.costs) i c.loop-i-test.true c.loop-i.invariant (rw (numbered-next own i (pos 0)) (says.0 c.if-is_unlisted.true))
 
 pub loop-i-preserved : goal.loop-i-preserved
 loop-i-preserved c =
@@ -29,4 +29,4 @@ loop-i-preserved c =
 
 pub returns : goal.returns
 returns c = λ l xs limits long are.
-    all_unmarked l xs c.args.own.now limits are c.loop-i.i long (let same = are.long in omega (arith, c.loop-i-test.false)) c.loop-i.invariant
+    all_unmarked UNLISTED l.sense l.rows xs c.args.own.now are c.loop-i.i long (let same = are.long in omega (arith, c.loop-i-test.false)) c.loop-i.invariant

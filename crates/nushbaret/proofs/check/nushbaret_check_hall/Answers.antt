@@ -2,9 +2,8 @@ use Rattle.std.proofs.Common.{SFits, inl, rules, subst, ◌∙◌}
 use Rattle.std.specs.Int.{w32}
 use Rattle.std.proofs.lemmas.Int.{to_z-of_z}
 use Rattle.exact_checker.specs.HallVerdicts.{IsHallVerdict}
-use Rattle.c_calls.specs.declared.lists.form.Form.{Form}
 use Rattle.c_calls.specs.lists.Faults.{IsOfInput}
-use Rattle.c_calls.specs.lists.Input.{problem_alone}
+use Rattle.c_calls.specs.lists.Input.{InputLists}
 use Rattle.nushbaret.proofs.check.nushbaret_check_hall.Goals as goal
 
 pub returns-in-Ok : goal.returns-in-Ok
@@ -15,8 +14,6 @@ returns-in-Ok c =
       verdict = v;
       is = to_z-of_z w32 c.report_hall_verdict.result fits ∙ c.report_hall_verdict.ensures.code;
       names = c.report_hall_verdict.ensures.names;
-      holds = subst
-          (λ (form : Form). IsOfInput (problem_alone form 0 c.args.n c.args.m c.args.of_persons.now
-          c.args.of_objects.now c.args.costs.now) (λ l. IsHallVerdict l c.args.persons.now c.args.objects.now v))
-          c.form_of.ensures c.in-Ok.ensures.verdict;
+      holds = subst (λ (g : InputLists). IsOfInput g (λ l. IsHallVerdict l c.args.persons.now c.args.objects.now v))
+          c.either_input-input.ensures c.in-Ok.ensures.verdict;
     })

@@ -35,4 +35,4 @@ returns c =
     let most : length values * length prices ≤ c.loop-i.i * length prices = mul-le-mul_right (length prices) end in
     let long = c.requires.long in
     let costs : All IsCost c.args.costs.now = λ k d lt. c.loop-i.invariant.costs k d (omega arith) in
-    (costs, none_under c.args.sense c.args.costs.now prices values (record { long = long; costs_in = costs }) c.loop-i.i c.loop-i.invariant.sums end)
+    (costs, none_under c.args.sense c.args.costs.now prices values long c.loop-i.i c.loop-i.invariant.sums end)

@@ -1,11 +1,10 @@
 use Rattle.std.proofs.Common.{ℤ, List, map, arith, subst}
 use Rattle.std.proofs.lemmas.List.{length-map}
 use Rattle.dual_checker.specs.Faults.{AreLong}
-use Rattle.wide_checker.proofs.WideDuality.{best_wide}
+use Rattle.wide_checker.proofs.WideDuality.{best_wide, wide_verdicts_differ}
 use Rattle.exact_checker.specs.declared.verdict.Verdict.TheVariants.{Length, Yes}
 use Rattle.wide_checker.specs.WideNumbers.{wide_value}
 use Rattle.wide_checker.specs.WideVerdicts.{IsWideVerdict}
-use Rattle.wide_checker.proofs.Differences.{verdicts_differ}
 use Rattle.wide_checker.proofs.checker.check.Goals as goal
 use Rattle.wide_checker.proofs.checker.check.Goals.{then-objects-n-via-then-objects-n, then-objects-n-via-else-objects-n+then-prices-m}
 
@@ -24,7 +23,7 @@ returns-then-objects-n-clause-yes c =
       | then-objects-n-via-then-objects-n w ↦ omega arith
       | then-objects-n-via-else-objects-n+then-prices-m w ↦ omega arith
     ] in
-    ((λ e. absurd (cc)), (λ h. verdicts_differ l xs prices Length Yes short h))
+    ((λ e. absurd (cc)), (λ h. wide_verdicts_differ l xs prices Length Yes short h))
 
 pub returns-clause-yes : goal.returns-clause-yes
 returns-clause-yes c =
@@ -32,7 +31,7 @@ returns-clause-yes c =
     let xs = c.args.objects.now in
     let prices : List ℤ = map wide_value c.args.prices.now in (
       (λ e. subst (IsWideVerdict l xs prices) e c.first_fault.ensures),
-      (λ h. verdicts_differ l xs prices c.first_fault.result Yes c.first_fault.ensures h),
+      (λ h. wide_verdicts_differ l xs prices c.first_fault.result Yes c.first_fault.ensures h),
     )
 
 pub returns-clause-best : goal.returns-clause-best

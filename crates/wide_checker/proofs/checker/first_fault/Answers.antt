@@ -7,7 +7,7 @@ use Rattle.assign_core.proofs.Listed.{objects_within}
 use Rattle.dual_checker.specs.Faults.{IsFirst}
 use Rattle.cost_lists.specs.Exact.{AreFree}
 use Rattle.wide_checker.specs.WideNumbers.{wide_value}
-use Rattle.wide_checker.proofs.WideOwns.{own_of_listed, wide_range}
+use Rattle.wide_checker.proofs.WideOwns.{wide_range}
 use Rattle.exact_checker.specs.Faults.{IsPricedUnowned}
 use Rattle.exact_checker.proofs.Better.{better_first, choices_from, short_first, values_are}
 use Rattle.wide_checker.proofs.checker.first_fault.Goals as goal
@@ -48,7 +48,7 @@ returns-in-Some-first_under_value c =
     let prices : List ℤ = map wide_value c.args.prices.now in
     let same : length prices ≡ length c.args.prices.now = length-map c.args.prices.now wide_value in
     let listed = c.in_default.ensures l xs c.persons-persons.ensures.rule c.requires.long.objects c.requires.own in
-    let values = values_are l xs prices c.args.own.now c.add_prices.new.own (own_of_listed l.sense l.rows xs c.args.own.now c.requires.own listed) listed
+    let values = values_are l xs prices c.args.own.now c.add_prices.new.own c.requires.own listed
     c.add_prices.auto.own c.requires.long.objects c.add_prices.ensures in
     let found = c.in-Some-first_under_value.ensures in (
       record {
@@ -71,7 +71,7 @@ returns-in-Some-first_priced_unowned c =
     let prices : List ℤ = map wide_value c.args.prices.now in
     let same : length prices ≡ length c.args.prices.now = length-map c.args.prices.now wide_value in
     let listed = c.in_default.ensures l xs c.persons-persons.ensures.rule c.requires.long.objects c.requires.own in
-    let values = values_are l xs prices c.args.own.now c.add_prices.new.own (own_of_listed l.sense l.rows xs c.args.own.now c.requires.own listed) listed
+    let values = values_are l xs prices c.args.own.now c.add_prices.new.own c.requires.own listed
     c.add_prices.auto.own c.requires.long.objects c.add_prices.ensures in
     let found = c.in-Some-first_priced_unowned.ensures xs c.in_default-first_given_twice.ensures.counts in (
       record {
@@ -94,7 +94,7 @@ returns c =
     let prices : List ℤ = map wide_value c.args.prices.now in
     let same : length prices ≡ length c.args.prices.now = length-map c.args.prices.now wide_value in
     let listed = c.in_default.ensures l xs c.persons-persons.ensures.rule c.requires.long.objects c.requires.own in
-    let values = values_are l xs prices c.args.own.now c.add_prices.new.own (own_of_listed l.sense l.rows xs c.args.own.now c.requires.own listed) listed
+    let values = values_are l xs prices c.args.own.now c.add_prices.new.own c.requires.own listed
     c.add_prices.auto.own c.requires.long.objects c.add_prices.ensures in
     let free = c.in_default-first_priced_unowned.ensures xs c.in_default-first_given_twice.ensures.counts in
     record {

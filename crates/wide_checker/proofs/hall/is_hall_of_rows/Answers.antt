@@ -1,8 +1,8 @@
 use Rattle.std.proofs.Common.{◌≡◌, ℕ, ℤ, List, length, map, arith, ap, sym, subst}
 use Rattle.std.proofs.lemmas.List.{length-map}
 use Rattle.assign_core.specs.Hall.{IsHallSet}
+use Rattle.cost_lists.proofs.SameHall.{hall_cut}
 use Rattle.wide_checker.specs.WideNumbers.{wide_value}
-use Rattle.wide_checker.proofs.WideHall.{hall_cut}
 use Rattle.wide_checker.proofs.hall.is_hall_of_rows.Goals as goal
 
 pub returns : goal.returns

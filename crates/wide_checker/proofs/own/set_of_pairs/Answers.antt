@@ -8,7 +8,8 @@ use Rattle.std.proofs.lemmas.List.{length-map}
 use Rattle.cost_lists.specs.Own.{minimised}
 use Rattle.wide_checker.specs.WideNumbers.{IsInCosts, wide_value}
 use Rattle.wide_checker.proofs.Words.{all_values}
-use Rattle.wide_checker.proofs.WideOwns.{AreOwnSoFar, own_given, own_none, own_skip, own_take}
+use Rattle.cost_lists.proofs.Owns.{AreOwnSoFar, own_given, own_none, own_skip, own_take}
+use Rattle.wide_checker.proofs.WideOwns.{wide_below}
 use Rattle.wide_checker.proofs.own.set_of_pairs.Goals as goal
 use Rattle.wide_checker.proofs.own.set_of_pairs.Goals.{then-pairs-k, else-pairs-k}
 
@@ -16,7 +17,7 @@ pub loop-k-init : goal.loop-k-init
 loop-k-init c =
     let p = c.args.pairs in
     let own = c.args.own.now in
-    own_none c.args.sense p.persons.now p.objects.now (map wide_value p.costs.now) c.args.objects.now (length own) own c.requires.mark
+    own_none UNLISTED c.args.sense p.persons.now p.objects.now (map wide_value p.costs.now) c.args.objects.now (length own) own c.requires.mark
     (λ i lt. ap (λ l. get_or l i (pos 0)) c.requires.mark ∙ get_or-replicate (length own) i UNLISTED (pos 0) lt)
 
 pub loop-k-preserved : goal.loop-k-preserved
@@ -33,13 +34,13 @@ loop-k-preserved c =
           let lowered = simp to_z-of_z at w.lower.ensures in
           let number = c.requires.persons k 0 c.loop-k-test.true in
           let room : place < length c.loop-k.own = let some = number.first in let last = number.last in let long = c.loop-k.auto.own in omega arith in
-          subst (AreOwnSoFar c.args.sense p.persons.now p.objects.now (map wide_value p.costs.now) c.args.objects.now (k + 1)) (sym (w.own-is ∙ lowered))
-          (own_take c.args.sense p.persons.now p.objects.now (map wide_value p.costs.now) c.args.objects.now k c.loop-k.own
+          subst (AreOwnSoFar UNLISTED c.args.sense p.persons.now p.objects.now (map wide_value p.costs.now) c.args.objects.now (k + 1)) (sym (w.own-is ∙ lowered))
+          (own_take UNLISTED c.args.sense p.persons.now p.objects.now (map wide_value p.costs.now) c.args.objects.now k c.loop-k.own
           (int_min (get_or c.loop-k.own place (pos 0)) w.to_minimise.result) room w.if-pairs-k.true
           (ap (int_min (get_or c.loop-k.own place (pos 0))) same) c.loop-k.invariant)
       | else-pairs-k w ↦
-          subst (AreOwnSoFar c.args.sense p.persons.now p.objects.now (map wide_value p.costs.now) c.args.objects.now (k + 1)) (sym w.own-is)
-          (own_skip c.args.sense p.persons.now p.objects.now (map wide_value p.costs.now) c.args.objects.now k c.loop-k.own w.if-pairs-k.false c.loop-k.invariant)
+          subst (AreOwnSoFar UNLISTED c.args.sense p.persons.now p.objects.now (map wide_value p.costs.now) c.args.objects.now (k + 1)) (sym w.own-is)
+          (own_skip UNLISTED c.args.sense p.persons.now p.objects.now (map wide_value p.costs.now) c.args.objects.now k c.loop-k.own w.if-pairs-k.false c.loop-k.invariant)
     ]
 
 pub returns : goal.returns
@@ -48,6 +49,8 @@ returns c =
     let end = c.loop-k-test.false in
     let most = c.loop-k.auto.k-end in
     let whole : c.loop-k.k ≡ length p.persons.now = omega arith in
-    own_given c.args.sense (length c.args.own.now) p.persons.now p.objects.now (map wide_value p.costs.now) c.args.objects.now
-    c.loop-k.own c.requires.objects_long (length-map p.costs.now wide_value ∙ c.requires.costs_long) c.requires.persons (all_values IsInCosts p.costs.now c.requires.costs)
-    (subst (λ k. AreOwnSoFar c.args.sense p.persons.now p.objects.now (map wide_value p.costs.now) c.args.objects.now k c.loop-k.own) whole c.loop-k.invariant)
+    let costs_long : length (map wide_value p.costs.now) ≡ length p.persons.now = length-map p.costs.now wide_value ∙ c.requires.costs_long in
+    own_given UNLISTED c.args.sense (length c.args.own.now) p.persons.now p.objects.now (map wide_value p.costs.now) c.args.objects.now
+    c.loop-k.own c.requires.objects_long costs_long c.requires.persons
+    (λ q lt. wide_below c.args.sense (map wide_value p.costs.now) (all_values IsInCosts p.costs.now c.requires.costs) q (omega (arith, costs_long)))
+    (subst (λ k. AreOwnSoFar UNLISTED c.args.sense p.persons.now p.objects.now (map wide_value p.costs.now) c.args.objects.now k c.loop-k.own) whole c.loop-k.invariant)

@@ -9,9 +9,7 @@ use Rattle.wide_checker.specs.WideNumbers.{wide_value}
 use Rattle.wide_checker.specs.WideSources.{AreWidePairs, triples_in}
 use Rattle.exact_checker.proofs.Better.{under_shown}
 use Rattle.exact_checker.proofs.Earliest.{IsFirstSoFar, first_found, first_skip, first_take}
-use Rattle.wide_checker.proofs.Limits.{triples_wide}
-use Rattle.exact_checker.proofs.PairSums.{IsUnderAt}
-use Rattle.wide_checker.proofs.WidePairSums.{from_under, to_under, under_range}
+use Rattle.exact_checker.proofs.PairSums.{IsUnderAt, from_under, to_under, under_range}
 use Rattle.wide_checker.proofs.pairs.first_of_pairs.Goals as goal
 use Rattle.wide_checker.proofs.pairs.first_of_pairs.Goals.{then-sum-values, else-sum-values}
 
@@ -61,7 +59,6 @@ returns c =
     let n : ℕ = length values in
     let same : length prices ≡ length c.args.prices.now = length-map c.args.prices.now wide_value in
     let are : AreWidePairs n (length prices) p = subst (λ m. AreWidePairs n m p) (sym same) c.requires.pairs in
-    let among = triples_wide n (length prices) p are in
     let costs_long : length costs ≡ length persons = length-map p.costs.now wide_value ∙ are.costs_long in
     let Bad : ℕ → Type 0 = IsUnderAt sense persons objects costs prices values in
     let end = c.loop-k-test.false in
@@ -74,6 +71,6 @@ returns c =
     prices values c.loop-k.first refl (ap (λ m. rows_given sense (triples_in p) m 1 n) same) refl same
     (first_found persons objects Bad (IsUnder sense (rows_given sense (triples_in p) (length prices) 1 n) prices values)
     n (length prices) (length persons) c.loop-k.first
-    (to_under sense persons objects costs prices values are.objects_long costs_long among are.persons_in are.objects_in)
-    (from_under sense persons objects costs prices values are.objects_long costs_long among are.persons_in are.objects_in)
-    (under_range sense persons objects costs prices values are.objects_long costs_long among are.persons_in are.objects_in) last)
+    (to_under sense persons objects costs prices values are.objects_long costs_long are.persons_in are.objects_in)
+    (from_under sense persons objects costs prices values are.objects_long costs_long are.persons_in are.objects_in)
+    (under_range sense persons objects costs prices values are.objects_long costs_long are.persons_in are.objects_in) last)

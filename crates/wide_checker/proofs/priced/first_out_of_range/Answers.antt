@@ -5,8 +5,8 @@ use Rattle.std.proofs.lemmas.List.{length-map}
 use Rattle.assign_core.specs.Prices.{price_of}
 use Rattle.assign_core.proofs.NumberedLemmas.{numbered-next, All-from_numbers}
 use Rattle.dual_checker.proofs.Firsts.{first_at, one_more}
+use Rattle.exact_checker.specs.Faults.{IsOutOfRange}
 use Rattle.wide_checker.specs.WideNumbers.{IsInPrices, wide_value}
-use Rattle.wide_checker.specs.WideVerdicts.{IsBeyondPrices}
 use Rattle.wide_checker.proofs.priced.first_out_of_range.Goals as goal
 
 pub loop-i-init : goal.loop-i-init
@@ -22,7 +22,7 @@ returns-then-not-is_price c =
     let says = simp to_z-of_z at c.is_price.ensures in
     let out : ¬ IsInPrices (get_or prices i (pos 0)) = λ h.
     let yes = says.1 (subst IsInPrices (sym c.value_at.ensures) h) in let no = c.if-not-is_price.true in cc in
-    first_at (IsBeyondPrices prices) _ i l (λ k h f. f (c.loop-i.invariant k h)) (rw price out)
+    first_at (IsOutOfRange IsInPrices prices) _ i l (λ k h f. f (c.loop-i.invariant k h)) (rw price out)
 
 pub loop-i-preserved : goal.loop-i-preserved
 loop-i-preserved c =

@@ -8,8 +8,7 @@ use Rattle.cost_lists.proofs.CutRows.{part_fits, part_long}
 use Rattle.exact_checker.specs.inside.Sums.{sum_at}
 use Rattle.wide_checker.specs.WideNumbers.{wide_value}
 use Rattle.exact_checker.proofs.Better.{under_shown}
-use Rattle.exact_checker.proofs.RowSums.{none_more}
-use Rattle.wide_checker.proofs.WideRowSums.{first_under_is, none_under}
+use Rattle.exact_checker.proofs.RowSums.{first_under_is, none_more, none_under}
 use Rattle.wide_checker.proofs.rows.first_of_rows.Goals as goal
 
 pub returns-in-Some : goal.returns-in-Some

@@ -1,14 +1,12 @@
 -- Hall sets don't depend on costs.
 use Rattle.std.proofs.Common.{◌≡◌, ℕ, ℤ, ◌+◌, zero, suc, List, [], ◌∷◌, Option, Some, IsSome, Bool, true, false, cond, nat_eq, ◌&&◌, take, drop}
-use Rattle.std.proofs.Common.{pos, length, get_or, replicate, ap, refl, rules, arith, sym, subst, ◌∙◌, length-take, length-drop}
+use Rattle.std.proofs.Common.{length, get_or, refl, rules, arith, sym, subst, ◌∙◌, length-take, length-drop}
 use Rattle.std.specs.List.{All}
-use Rattle.std.proofs.lemmas.Int.{ints}
-use Rattle.std.proofs.lemmas.List.{get_or-replicate, length-replicate}
 use Rattle.assign_core.specs.declared.sense.Sense.{Sense}
 use Rattle.assign_core.specs.Dense.{row_from, rows_cut}
 use Rattle.assign_core.specs.Hall.{IsHallSet}
 use Rattle.assign_core.specs.Numbered.{IsNumber}
-use Rattle.assign_core.specs.Rows.{Listing, IsCost, IsListed, listed_in, row_of}
+use Rattle.assign_core.specs.Rows.{Listing, IsListed, listed_in, row_of}
 use Rattle.assign_core.specs.Sparse.{Triple}
 use Rattle.assign_core.proofs.DenseRows.{length-rows_cut}
 use Rattle.cost_lists.specs.Given.{best_given, better_cost, rows_given, triples_of}
@@ -92,10 +90,3 @@ module _ (sense other : Sense) (of_persons of_objects : List ℕ) (costs others 
       (length-rows_given sense (triples_of of_persons of_objects costs) m 1 n ∙ sym (length-rows_given other (triples_of of_persons of_objects others) m 1 n))
       (λ i j s. subst IsSome (sym (there i j)) (same_given sense other of_persons of_objects costs others i j e f (subst IsSome (here i j) s)))
       (λ i j s. subst IsSome (sym (here i j)) (same_given other sense of_persons of_objects others costs i j f e (subst IsSome (there i j) s))) h
-
--- 0 is a cost
-pub zeros_are_costs : (n : ℕ) (zeros : List ℤ) → zeros ≡ replicate n (pos 0) → All IsCost zeros
-zeros_are_costs n zeros e k d lt =
-    let long = ap length e ∙ length-replicate n (pos 0) in
-    let zero : IsCost (pos 0) = record { least = omega (arith, ints); greatest = omega (arith, ints) } in
-    subst IsCost (sym (ap (λ z. get_or z k d) e ∙ get_or-replicate n k (pos 0) d (omega arith))) zero
