@@ -35,14 +35,13 @@ fn sum_of(sense: Sense, cost: Cost, price: Price) -> Cost {
     }
 }
 
-// Whether some object of a part is as good as the own one. It reads on after one that is, so that
-// several are looked at in one step.
-fn has_good(part: Part<'_>) -> bool {
-    let mut found = false;
+// The least sum of a part.
+fn least_sum(part: Part<'_>) -> Cost {
+    let mut least = Cost::MAX;
     for (cost, price) in part.costs.iter().zip(part.prices.iter()) {
-        found = (sum_of(part.sense, *cost, *price) <= part.sum) | found;
+        least = least.min(sum_of(part.sense, *cost, *price));
     }
-    found
+    least
 }
 
 // Writes the objects whose sums are at most this one, after so many that are written and after the
@@ -82,7 +81,7 @@ fn write_part(
             prices,
             ..part
         };
-        if has_good(block) {
+        if least_sum(block) <= part.sum {
             count = write_block(found, count, block, first);
         }
         first = first.wrapping_add(BLOCK);
