@@ -89,8 +89,8 @@ fn write_part(
     count
 }
 
-// Writes objects of a row that are as good for its person as the own one, and counts them: from the
-// own one on, and then those before it.
+// Writes objects of a row that are as good for its person as the own one, and counts them: from one on,
+// and then those before it. The persons begin at objects spread over all.
 fn write_row(
     found: &mut [Object],
     best: Best<'_>,
@@ -98,12 +98,13 @@ fn write_row(
     place: usize,
     enough: usize,
 ) -> usize {
-    let own = value_at(best.objects, place, 0);
-    let start = (own / BLOCK).wrapping_mul(BLOCK);
-    let end = (start as usize).min(row.len()).min(best.prices.len());
+    let (n, m) = (best.objects.len(), best.prices.len());
+    let at = place.wrapping_mul(m).checked_div(n).unwrap_or(0);
+    let start = (u32::try_from(at).unwrap_or(0) / BLOCK).wrapping_mul(BLOCK);
+    let end = (start as usize).min(row.len()).min(m);
     let (costs_before, costs) = row.split_at(end);
     let (prices_before, prices) = best.prices.split_at(end);
-    let from_own = Part {
+    let first_part = Part {
         sense: best.sense,
         costs,
         prices,
@@ -112,9 +113,9 @@ fn write_row(
     let before = Part {
         costs: costs_before,
         prices: prices_before,
-        ..from_own
+        ..first_part
     };
-    let count = write_part(found, 0, from_own, start, enough);
+    let count = write_part(found, 0, first_part, start, enough);
     write_part(found, count, before, 0, enough)
 }
 
