@@ -18,7 +18,14 @@ pub fn pair_falls(plan: Plan<'_>, person: Person, object: Object, cost: Cost) ->
 {
     let price = plan.prices[object as usize - 1];
     let own = group_of(plan, plan.objects[person as usize - 1]);
-    is_behind(plan.sense, cost, price, group_of(plan, object), own_sum(plan, person), own)
+    is_behind(
+        plan.sense,
+        cost,
+        price,
+        group_of(plan, object),
+        own_sum(plan, person),
+        own,
+    )
 }
 
 // Whether the numbers of all listed pairs fall.

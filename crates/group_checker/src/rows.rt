@@ -52,7 +52,14 @@ fn row_falls(plan: Plan<'_>, person: Person, row: &[Cost]) -> bool
     let group = group_of(plan, plan.objects[person as usize - 1]);
     let mut all = true;
     for j in 0..row.len() {
-        all = is_behind(plan.sense, row[j], plan.prices[j], plan.groups[j], sum, group) & all;
+        all = is_behind(
+            plan.sense,
+            row[j],
+            plan.prices[j],
+            plan.groups[j],
+            sum,
+            group,
+        ) & all;
     }
     all
 }
