@@ -220,6 +220,25 @@ static void ring(size_t n, int is_closed) {
     for (i = 1; i < n; i++) WANT((groups[i] == groups[i - 1]) == is_closed);
 }
 
+/* Two blocks of persons and objects of equal costs, of which rows have more than the search reads at first: persons of
+   one block could have objects of the other too, or not. */
+static void tied_blocks(int64_t there, int64_t back) {
+    enum { HALF = 20, BOTH = 2 * HALF };
+    static int64_t costs[BOTH * BOTH], prices[BOTH];
+    static uint32_t objects[BOTH], groups[BOTH];
+    struct nushbaret_info info;
+    size_t k;
+    for (k = 0; k < BOTH * BOTH; k++) {
+        const int from = k / BOTH >= HALF, to = k % BOTH >= HALF;
+        costs[k] = from == to ? 0 : from ? back : there;
+    }
+    for (k = 0; k < BOTH; k++) objects[k] = (uint32_t)k + 1;
+    memset(&info, 0, sizeof info);
+    WANT(nushbaret_groups(NUSHBARET_MIN, BOTH, BOTH, objects, 0, objects, 0, costs, BOTH * BOTH, objects, BOTH, prices, BOTH,
+        groups, BOTH, &info) == NUSHBARET_BEST);
+    for (k = 1; k < BOTH; k++) WANT((groups[k] == groups[k - 1]) == (k != HALF || (there == 0 && back == 0)));
+}
+
 void test_groups(void) {
     unsigned seed = 9;
     size_t plans = 0, changes = 0;
@@ -234,6 +253,7 @@ void test_groups(void) {
     }
     ring(100000, 0);
     ring(100000, 1);
+    for (k = 0; k < 4; k++) tied_blocks(k % 2, k / 2);
     for (k = 0; k < 8000; k++) compare(&seed, &plans, &changes);
     WANT(plans > 4000 && changes > 1000);
 }

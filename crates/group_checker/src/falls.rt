@@ -5,7 +5,8 @@ ghost use Rattle.assign_core.specs.Rows.{IsCost};
 ghost use Rattle.cost_lists.specs.Source.{ArePairs};
 ghost use Rattle.group_checker.specs.inside.Reading.{Falls, IsPlan, PairsFall};
 
-use super::plan::{Plan, group_of, other_sum, own_sum};
+use super::plan::{Plan, group_of, own_sum};
+use super::rows::is_behind;
 use assign_core::Cost;
 use cost_lists::{Object, Pairs, Person};
 
@@ -15,10 +16,16 @@ pub fn pair_falls(plan: Plan<'_>, person: Person, object: Object, cost: Cost) ->
     requires cost { IsCost cost }
     ensures { IsTrue result → Falls plan.entry person object cost }
 {
-    if other_sum(plan, object, cost) > own_sum(plan, person) {
-        return true;
-    }
-    group_of(plan, object) <= group_of(plan, plan.objects[person as usize - 1])
+    let price = plan.prices[object as usize - 1];
+    let own = group_of(plan, plan.objects[person as usize - 1]);
+    is_behind(
+        plan.sense,
+        cost,
+        price,
+        group_of(plan, object),
+        own_sum(plan, person),
+        own,
+    )
 }
 
 // Whether the numbers of all listed pairs fall.

@@ -15,6 +15,15 @@ pub struct Best<'a> {
     pub prices: &'a [Price],
 }
 
+// Some costs of a row with the prices of their objects, and the sum of the person's own ones.
+#[derive(Clone, Copy)]
+struct Part<'a> {
+    sense: Sense,
+    costs: &'a [Cost],
+    prices: &'a [Price],
+    sum: Cost,
+}
+
 // How many costs of a row are looked at together.
 const BLOCK: Object = 16;
 
@@ -26,11 +35,11 @@ fn sum_of(sense: Sense, cost: Cost, price: Price) -> Cost {
     }
 }
 
-// The least sum of some costs and prices.
-fn least_sum(sense: Sense, costs: &[Cost], prices: &[Price]) -> Cost {
+// The least sum of a part.
+fn least_sum(part: Part<'_>) -> Cost {
     let mut least = Cost::MAX;
-    for (cost, price) in costs.iter().zip(prices.iter()) {
-        least = least.min(sum_of(sense, *cost, *price));
+    for (cost, price) in part.costs.iter().zip(part.prices.iter()) {
+        least = least.min(sum_of(part.sense, *cost, *price));
     }
     least
 }
@@ -38,59 +47,101 @@ fn least_sum(sense: Sense, costs: &[Cost], prices: &[Price]) -> Cost {
 // Writes the objects whose sums are at most this one, after so many that are written and after the
 // object `first`. Returns how many are written then. No branch depends on a cost, as many may be
 // equal.
-fn write_block(
-    found: &mut [Object],
-    written: usize,
-    best: Best<'_>,
-    costs: &[Cost],
-    prices: &[Price],
-    sum: Cost,
-    first: Object,
-) -> usize {
+fn write_block(found: &mut [Object], written: usize, part: Part<'_>, first: Object) -> usize {
     let mut count = written;
     let mut to = first;
-    for (cost, price) in costs.iter().zip(prices.iter()) {
+    for (cost, price) in part.costs.iter().zip(part.prices.iter()) {
         to = to.wrapping_add(1);
         set_value(found, count, to);
-        count = count.wrapping_add(usize::from(sum_of(best.sense, *cost, *price) <= sum));
+        count = count.wrapping_add(usize::from(sum_of(part.sense, *cost, *price) <= part.sum));
     }
     count
 }
 
-// Writes the objects of a row that are as good for its person as the own one, and counts them.
-fn write_row(found: &mut [Object], best: Best<'_>, row: &[Cost], place: usize) -> usize {
-    let sum = value_at(best.sums, place, 0);
-    let mut count = 0usize;
-    let mut first: Object = 0;
-    for (costs, prices) in row
+// The same of a part of a row, block by block, until enough are written.
+fn write_part(
+    found: &mut [Object],
+    written: usize,
+    part: Part<'_>,
+    start: Object,
+    enough: usize,
+) -> usize {
+    let mut count = written;
+    let mut first = start;
+    for (costs, prices) in part
+        .costs
         .chunks(BLOCK as usize)
-        .zip(best.prices.chunks(BLOCK as usize))
+        .zip(part.prices.chunks(BLOCK as usize))
     {
-        if least_sum(best.sense, costs, prices) <= sum {
-            count = write_block(found, count, best, costs, prices, sum, first);
+        if count >= enough {
+            break;
+        }
+        let block = Part {
+            costs,
+            prices,
+            ..part
+        };
+        if least_sum(block) <= part.sum {
+            count = write_block(found, count, block, first);
         }
         first = first.wrapping_add(BLOCK);
     }
     count
 }
 
-// The arrows of all persons, of rows of costs.
+// Writes objects of a row that are as good for its person as the own one, and counts them: from one on,
+// and then those before it. The persons begin at objects spread over all.
+fn write_row(
+    found: &mut [Object],
+    best: Best<'_>,
+    row: &[Cost],
+    place: usize,
+    enough: usize,
+) -> usize {
+    let (n, m) = (best.objects.len(), best.prices.len());
+    let at = place.wrapping_mul(m).checked_div(n).unwrap_or(0);
+    let start = (u32::try_from(at).unwrap_or(0) / BLOCK).wrapping_mul(BLOCK);
+    let end = (start as usize).min(row.len()).min(m);
+    let (costs_before, costs) = row.split_at(end);
+    let (prices_before, prices) = best.prices.split_at(end);
+    let first_part = Part {
+        sense: best.sense,
+        costs,
+        prices,
+        sum: value_at(best.sums, place, 0),
+    };
+    let before = Part {
+        costs: costs_before,
+        prices: prices_before,
+        ..first_part
+    };
+    let count = write_part(found, 0, first_part, start, enough);
+    write_part(found, count, before, 0, enough)
+}
+
+// The arrows of all persons, of rows of costs: no more where so many a row are there. Returns whether
+// some may be missing.
 fn add_rows(
     alloc: Global,
     graph: &mut Graph,
     best: Best<'_>,
     costs: &[Cost],
-) -> Result<(), AllocError> {
+    enough: usize,
+) -> Result<bool, AllocError> {
     let mut found = vec![in alloc; 0u32; best.prices.len().saturating_add(1)]?;
+    let (mut is_cut, mut left) = (false, 0usize);
     let mut rest = costs;
     for (place, object) in best.objects.iter().enumerate() {
         let (row, others) = rest.split_at(best.prices.len().min(rest.len()));
         rest = others;
-        let count = write_row(found.as_mut_slice(), best, row, place);
+        left = left.saturating_add(enough);
+        let count = write_row(found.as_mut_slice(), best, row, place, left);
+        is_cut = is_cut || count >= left;
+        left = left.saturating_sub(count);
         let ends = found.as_slice().get(..count).unwrap_or(&[]);
         graph.add(*object as usize, place, ends)?;
     }
-    Ok(())
+    Ok(is_cut)
 }
 
 // The places of the listed pairs that are as good for their persons as the own ones.
@@ -161,20 +212,28 @@ fn add_unowned(graph: &mut Graph, owned: &[bool]) -> Result<(), AllocError> {
     Ok(())
 }
 
-/// All arrows.
-pub fn arrows_of(alloc: Global, source: Source<'_>, best: Best<'_>) -> Result<Graph, AllocError> {
+/// The arrows, or of rows of costs so many a row as are enough, and whether some may be missing.
+pub fn arrows_of(
+    alloc: Global,
+    source: Source<'_>,
+    best: Best<'_>,
+    enough: usize,
+) -> Result<(Graph, bool), AllocError> {
     let m = best.prices.len();
     let mut owned = vec![in alloc; false; m]?;
     for object in best.objects {
         set_value(owned.as_mut_slice(), place_of(*object), true);
     }
     let mut graph = Graph::new(alloc, m.saturating_add(1))?;
-    match source {
-        Source::Dense(costs) => add_rows(alloc, &mut graph, best, costs)?,
-        Source::Listed(pairs) => add_pairs(alloc, &mut graph, best, pairs)?,
-    }
+    let is_cut = match source {
+        Source::Dense(costs) => add_rows(alloc, &mut graph, best, costs, enough)?,
+        Source::Listed(pairs) => {
+            add_pairs(alloc, &mut graph, best, pairs)?;
+            false
+        }
+    };
     let ends = leavable(alloc, owned.as_slice(), best.prices)?;
     graph.add(0, 0, ends.as_slice())?;
     add_unowned(&mut graph, owned.as_slice())?;
-    Ok(graph)
+    Ok((graph, is_cut))
 }

@@ -83,11 +83,10 @@ impl Components {
         Ok(())
     }
 
-    // A vertex reaches one that was entered earlier, by its next arrow.
-    fn lower(&mut self, vertex: u32, lowest: u32) {
+    // A vertex reaches one that was entered earlier, by an arrow.
+    fn lower(&mut self, vertex: u32, lowest: u32, arrow: usize) {
         let at = vertex as usize;
         if lowest < value_at(self.lowest.as_slice(), at, 0) {
-            let arrow = value_at(self.next.as_slice(), at, 0);
             set_value(self.lowest.as_mut_slice(), at, lowest);
             set_value(self.ways.as_mut_slice(), at, arrow);
         }
@@ -101,9 +100,16 @@ impl Components {
             self.close(vertex)?;
         }
         if let Some(before) = self.path.last().copied() {
-            self.lower(before, lowest);
+            let arrow = value_at(self.next.as_slice(), before as usize, 0);
+            self.lower(before, lowest, arrow);
         }
         Ok(())
+    }
+
+    /// Whether all vertices but 0 are in one component.
+    pub fn are_joined(&self) -> bool {
+        let objects = self.groups.as_slice().get(1..).unwrap_or(&[]);
+        objects.iter().all(|group| Some(group) == objects.first())
     }
 
     // Whether a vertex that was entered has no number yet.
@@ -115,8 +121,6 @@ impl Components {
     fn go_on(&mut self, graph: &Graph, vertex: u32) -> Option<u32> {
         let at = vertex as usize;
         let mut arrow = value_at(self.next.as_slice(), at, 0);
-        let mut lowest = value_at(self.lowest.as_slice(), at, 0);
-        let mut way = value_at(self.ways.as_slice(), at, 0);
         let mut fresh = None;
         for other in graph.ends_from(vertex, arrow) {
             let order = value_at(self.orders.as_slice(), *other as usize, 0);
@@ -124,15 +128,12 @@ impl Components {
                 fresh = Some(*other);
                 break;
             }
-            if order < lowest && self.is_open(*other) {
-                lowest = order;
-                way = arrow;
+            if self.is_open(*other) {
+                self.lower(vertex, order, arrow);
             }
             arrow = arrow.wrapping_add(1);
         }
         set_value(self.next.as_mut_slice(), at, arrow);
-        set_value(self.lowest.as_mut_slice(), at, lowest);
-        set_value(self.ways.as_mut_slice(), at, way);
         fresh
     }
 

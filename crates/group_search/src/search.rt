@@ -2,7 +2,8 @@
 ghost use Rattle.std.specs.Prelude.{◌≡◌, length};
 
 use super::arrows::{Best, arrows_of};
-use super::components::components_of;
+use super::components::{Components, components_of};
+use super::graph::Graph;
 use super::trees::{FoundTree, tree_from, tree_towards};
 use super::values::{place_of, value_at};
 use cost_lists::{CostLists, Object, Price};
@@ -19,6 +20,25 @@ pub struct FoundGroups {
     /// Trees of arrows towards the roots, and of arrows from them.
     pub towards: FoundTree,
     pub from: FoundTree,
+}
+
+// So many arrows of a row mostly join all objects, if there are as many.
+const ENOUGH: usize = 16;
+
+// The components of all arrows, or of a part of them, if this joins all objects.
+fn components_in(
+    alloc: Global,
+    lists: &CostLists<'_>,
+    best: Best<'_>,
+) -> Result<(Graph, Components), AllocError> {
+    let (graph, is_cut) = arrows_of(alloc, lists.source(), best, ENOUGH)?;
+    let components = components_of(alloc, &graph)?;
+    if !is_cut || components.are_joined() {
+        return Ok((graph, components));
+    }
+    let (graph, _) = arrows_of(alloc, lists.source(), best, usize::MAX)?;
+    let components = components_of(alloc, &graph)?;
+    Ok((graph, components))
 }
 
 /// The groups of objects of an optimal assignment that reach each other along arrows. Lists may hold
@@ -46,8 +66,7 @@ pub fn find_groups(
         objects,
         prices,
     };
-    let graph = arrows_of(alloc, lists.source(), best)?;
-    let components = components_of(alloc, &graph)?;
+    let (graph, components) = components_in(alloc, lists, best)?;
     let from = tree_from(alloc, &graph, &components)?;
     let towards = tree_towards(alloc, &graph, &components)?;
     let all = components.groups.as_slice();

@@ -38,6 +38,6 @@ def _own_prices(step: int, objects: Sequence[int], prices: Sequence[int]) -> Lis
     better at them is no better at the rounded ones."""
     taken = {prices[item - 1] % step for item in objects}
     point = next(rest for rest in range(step) if rest not in taken)
-    whole = [(price - point) // step for price in prices]
-    lowest = min(whole)
-    return [price - lowest for price in whole] if lowest else whole
+    lowest = min(prices)
+    point += (lowest - point) // step * step
+    return [(price - point) // step for price in prices]

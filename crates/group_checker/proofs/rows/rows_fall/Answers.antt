@@ -4,4 +4,4 @@ use Rattle.group_checker.proofs.rows.rows_fall.Goals as goal
 
 pub loop-i-preserved : goal.loop-i-preserved
 loop-i-preserved c =
-    below_more _ _ c.loop-i.invariant (subst (RowFalls c.args.plan (c.loop-i.i + 1)) c.part.ensures (c.row_falls.ensures c.if-not-row_falls.false))
+    below_more _ _ c.loop-i.invariant (subst (RowFalls c.args.plan (c.loop-i.i + 1)) c.part.ensures (c.falls_below.ensures c.if-not-falls_below.false))
