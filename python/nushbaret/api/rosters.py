@@ -4,10 +4,10 @@ from array import array
 from datetime import date, datetime
 from typing import Any, Dict, Iterable, List, Mapping, NamedTuple, Optional, Sequence, Tuple, Union
 
-from ..costs.numbers import Number, Ratio, in_unit, unit_of
+from ..costs.numbers import Number, Ratio, Unit, in_unit, unit_of
 from ..costs.reading import exact_ratio
 from ..counts.counted import Bounds
-from ..roster.answer import Request
+from ..roster.answer import NamedPlan, Request
 from ..roster.month import Before, Month, month_of
 from ..roster.output.rule_texts import sentence_of
 from ..roster.roster import Earlier, Groups, PlanLine, Roster, Takes, Wanted
@@ -185,12 +185,7 @@ def plan_roster(costs: Mapping[Named, Any], days: Mapping[str, Union[str, date]]
         warnings.warn(line, stacklevel=2)
     task = Task(roster, month._replace(holidays=ruled.holidays), ruled, request, float(seconds), own)
     answer, proved = answer_by_rules(task)
-    pairs = None if answer.plan is None else [(roster.persons[pair.person], roster.objects[pair.object])
-                                              for pair in answer.plan.pairs]
-    return _result(proved, pairs, None if answer.plan is None else unit.shown(answer.plan.cost),
-                   None if proved.better is None else unit.shown(proved.better))._replace(
-                       missed=[(one.broken.sentence, one.amount, unit.shown(one.cost)) for one in proved.missed],
-                       missed_cost=unit.shown(proved.missed_cost))
+    return _result(roster, answer.plan, proved, unit)
 
 
 def _unruled(roster: Roster, month: Month, rules: Rules, before: Before) -> List[str]:
@@ -199,10 +194,13 @@ def _unruled(roster: Roster, month: Month, rules: Rules, before: Before) -> List
             *kinds_alike("kinds", month), *other_holidays(rules, month), *days_in_order("days", rules, month)]
 
 
-def _result(proved: Proved, pairs: Optional[List[Named]], cost: Optional[Number],
-            better: Optional[Number]) -> RosterPlan:
+def _result(roster: Roster, plan: Optional[NamedPlan], proved: Proved, unit: Unit) -> RosterPlan:
+    pairs = plan and [(roster.persons[pair.person], roster.objects[pair.object]) for pair in plan.pairs]
+    cost, better = (None if own is None else unit.shown(own) for own in (plan and plan.cost, proved.better))
     return RosterPlan(proved.kind, pairs, cost, better, list(map(sentence_of, proved.reasons)), proved.is_minimal,
-                      [(even.sentence, even.least, even.most) for even in proved.even], proved.certificate)
+                      [(even.sentence, even.least, even.most) for even in proved.even], proved.certificate,
+                      [(one.broken.sentence, one.amount, unit.shown(one.cost)) for one in proved.missed],
+                      unit.shown(proved.missed_cost))
 
 
 def _ratio(said: str, number: Any, is_above_0: bool = False) -> Ratio:
