@@ -143,15 +143,17 @@ class Result(ByNames, Lasting):
         known: Dict[str, Any] = {"verdict": self.verdict}
         if "_is_unique" in self.__dict__:
             known["is_unique"] = self._is_unique
-        return self._source.without_costs(), self._found.without_pairs(), self._solved.own_duals(), known
+        # Rows and columns follow from the answer.
+        found = self._found._replace(rows=None, columns=None)
+        return self._source.without_costs(), found, self._solved.own_duals(), known
 
     def __setstate__(self, state: Any) -> None:
         if not isinstance(state, tuple):
             raise pickle.UnpicklingError("a release before 5.0 pickled this result, which this one can't read: solve "
                                          "its costs again")
         source, found, duals, known = state
-        pairs = (numbers(values, found.as_arrays) for values in proved.pairs_of(found.shape, found.answer))
-        type(self).__init__(self, source, found.with_pairs(*pairs), duals)
+        rows, columns = (numbers(values, found.as_arrays) for values in proved.pairs_of(found.shape, found.answer))
+        type(self).__init__(self, source, found._replace(rows=rows, columns=columns), duals)
         self.__dict__.update({"_is_unique" if name == "is_unique" else name: value for name, value in known.items()})
 
     def __deepcopy__(self, memo: Dict[int, Any]) -> "Result":

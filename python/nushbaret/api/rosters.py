@@ -170,7 +170,9 @@ def plan_roster(costs: Mapping[Named, Any], days: Mapping[str, Union[str, date]]
         raise ValueError(f"a cost is more than {MOST_UNITS} times the unit that all costs have in common")
     roster = _roster(list(listed), units, days, kinds)
     earlier = [(person, _day_name(day), kind) for person, day, kind in before]
-    roster = _with_counts(roster, tasks or {}, places or {})
+    of_persons = _bounds("tasks", roster.person_numbers, tasks or {}, Bounds(0, len(roster.objects)))
+    of_objects = _bounds("places", roster.object_numbers, places or {}, Bounds(1, 1))
+    roster = roster._replace(takes=Takes(of_persons, of_objects, False))
     groups = _groups(roster, earlier)
     worked = Before("before", [(person, _earlier_name(day, kind), number)
                                for number, (person, day, kind) in enumerate(earlier, 1)])
@@ -247,12 +249,6 @@ def _roster(pairs: List[Named], costs: List[int], days: Mapping[str, Union[str, 
                   array("I", (objects[pairs[place][1]] for place in order)),
                   array("q", (costs[place] for place in order)), 0, ("person", "object", "cost"), ",", False,
                   by_persons=True, groups=groups)
-
-
-def _with_counts(roster: Roster, tasks: Mapping[str, Count], places: Mapping[str, Count]) -> Roster:
-    of_persons = _bounds("tasks", roster.person_numbers, tasks, Bounds(0, len(roster.objects)))
-    of_objects = _bounds("places", roster.object_numbers, places, Bounds(1, 1))
-    return roster._replace(takes=Takes(of_persons, of_objects, False))
 
 
 def _bounds(what: str, numbers: Mapping[str, int], counts: Mapping[str, Count], default: Bounds) -> Dict[int, Bounds]:

@@ -222,7 +222,8 @@ def turned(arrows: Sequence[Collection[int]]) -> List[List[int]]:
 
 
 def _trees(leads: Sequence[Collection[int]], order: Sequence[int]) -> Iterator[List[int]]:
-    """What searches into the depth find from one vertex after the other, in the order in which they are done with it."""
+    """What searches into the depth find from one vertex after the other, in the order in which they are done with
+    it."""
     seen = [False] * len(leads)
     for first in order:
         tree: List[int] = []

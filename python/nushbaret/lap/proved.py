@@ -232,14 +232,6 @@ class ResultParts(NamedTuple):
     costs: List[Any]
     as_arrays: bool
 
-    def without_pairs(self) -> "ResultParts":
-        """The same without the lists that follow from the answer."""
-        return self._replace(rows=None, columns=None)
-
-    def with_pairs(self, rows: Any, columns: Any) -> "ResultParts":
-        """The same with these lists again."""
-        return self._replace(rows=rows, columns=columns)
-
 
 # Duals in the field's words, in whole costs.
 

@@ -10,7 +10,7 @@ from .answer import Answer, Request, ShortGroup, plan_of, with_following
 from .names import said
 from .roster import PlanLine, Roster
 from .sentences import sentence_of
-from .single_nodes import swaps_of_pairs
+from .single_nodes import Swap
 
 
 def answer_by_counts(roster: Roster, request: Request) -> Answer:
@@ -24,7 +24,7 @@ def answer_by_counts(roster: Roster, request: Request) -> Answer:
         return Answer(plan_of(roster, request.fixed, plans.pairs()), groups)
     if request.kept is not None:
         plans = with_fewest_changes(plans, request.kept)
-    swaps = swaps_of_pairs(plans.free_pairs())
+    swaps = [Swap(*(sorted(set(side)) for side in zip(*pairs))) for pairs in plans.free_pairs()]
     plan = plan_of(roster, request.fixed, plans.pairs())._replace(swaps=swaps, is_only_one=not swaps)
     count = max(request.plans - 1, int(request.others and not swaps))
     following = [plan_of(roster, request.fixed, sorted(other.pairs)) for other in islice(plans.after(), count)]

@@ -60,7 +60,8 @@ def main(words: Optional[Sequence[str]] = None) -> int:
     except WordsFault as fault:
         return _refused(fault, WORDS)
     except (OSError, OutputFault) as fault:
-        return _refused(_device(fault), DEVICE)
+        return _refused(f"{shown_path(str(fault.filename))}: {fault.strerror}" if isinstance(fault, OSError)
+                        and fault.filename is not None else fault, DEVICE)
     except MemoryError:
         return _refused("memory refused", DEVICE)
     except KeyboardInterrupt:
@@ -81,12 +82,6 @@ def _own_fault(fault: Exception) -> int:
 def _refused(fault: object, status: int) -> int:
     _say(str(fault))
     return status
-
-
-def _device(fault: Exception) -> str:
-    if isinstance(fault, OSError) and fault.filename is not None:
-        return f"{shown_path(str(fault.filename))}: {fault.strerror}"
-    return str(fault)
 
 
 def _run(options: Options) -> int:
@@ -138,11 +133,15 @@ def _report(options: Options, roster: Roster) -> Report:
     # Counts may have changed since an earlier plan: what of it can't be any more is changed.
     kept = read_old_plan(options.keep, roster, not roster.ruled) if options.keep else None
     roster, kept, past = _read_past(options, roster, kept)
-    fixed = _read_fixed(options.fixed, roster) if options.fixed else []
+    fixed = read_plan(options.fixed, roster) if options.fixed else []
+    refuse_two_of_a_group(options.fixed or "", roster, fixed)
     if past is not None:
         from .past import with_fixed
         fixed = with_fixed(roster, past, fixed, options.fixed or "")
-    ruling = _read_rules(options, roster)
+    ruling: Optional["Ruling"] = None
+    if options.rules is not None:
+        from .rules.ruling import read_ruling
+        ruling = read_ruling(options, roster, _say)
     hand = _read_hand(options.compare, roster, fixed, ruling) if options.compare else None
     pairs = None if kept is None else {(pair.person, pair.object) for pair in kept.known}
     request = Request(fixed, options.max, options.as_many_as_can, pairs, change_cost(options, roster), options.others,
@@ -161,14 +160,6 @@ def _report(options: Options, roster: Roster) -> Report:
         from .rules.broken_rules import lack_of
         hand = hand._replace(best_lack=lack_of(roster, answer.plan.pairs, fixed))
     return Report(options, roster, answer, kept, hand, fair, proved, ruling)
-
-
-def _read_rules(options: Options, roster: Roster) -> Optional["Ruling"]:
-    """The rules of a file, if there is one."""
-    if options.rules is None:
-        return None
-    from .rules.ruling import read_ruling
-    return read_ruling(options, roster, _say)
 
 
 def _read_hand(path: str, roster: Roster, fixed: List[PlanLine], ruling: Optional["Ruling"]) -> Hand:
@@ -258,12 +249,6 @@ def _say(line: str) -> None:
             print(line, file=sys.stderr)
 
 
-def _read_fixed(path: str, roster: Roster) -> List[PlanLine]:
-    fixed = read_plan(path, roster)
-    refuse_two_of_a_group(path, roster, fixed)
-    return fixed
-
-
 def change_cost(options: Options, roster: Roster) -> Optional[int]:
     """What a change costs, in units of the roster."""
     text = options.change_cost
@@ -337,12 +322,6 @@ def _lines_on_each(report: Report) -> List[str]:
             else lines_on_calendars(report.roster, plan, folder))
 
 
-def title_of(options: Options, output: Output) -> str:
-    """The title of a page: its file's name without its end; of a page on a device or a pipe that of the roster."""
-    return (heading_of(options.roster) if output.is_standard or is_device(output.path)
-            else os.path.splitext(os.path.basename(output.path))[0])
-
-
 def content_of(report: Report, lines: List[str], output: Output) -> bytes:
     """What is written to an output. Standard output is UTF-8."""
     kind = output.kind
@@ -351,7 +330,9 @@ def content_of(report: Report, lines: List[str], output: Output) -> bytes:
         return as_json(report, lines).encode()
     if kind == "html":
         from .output.page import page
-        return page(report, title_of(report.options, output)).encode()
+        is_file = not output.is_standard and not is_device(output.path)
+        return page(report, os.path.splitext(os.path.basename(output.path))[0] if is_file
+                    else heading_of(report.options.roster)).encode()
     plan = report.answer.plan
     if plan is None:
         raise ValueError("there is no plan")

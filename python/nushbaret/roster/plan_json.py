@@ -79,7 +79,8 @@ def _parsed(path: str) -> Any:
     try:
         text = data.decode("utf-8-sig")
     except UnicodeDecodeError as fault:
-        raise RosterFault(path, f"no JSON: bytes that are no UTF-8, in line {_line(data, fault.start)}") from None
+        line = data.count(b"\n", 0, fault.start) + 1
+        raise RosterFault(path, f"no JSON: bytes that are no UTF-8, in line {line}") from None
     try:
         return json.loads(text, object_pairs_hook=_object, parse_constant=_constant, parse_int=_integer,
                           parse_float=_fraction)
@@ -91,10 +92,6 @@ def _parsed(path: str) -> Any:
         raise RosterFault(path, said("no JSON", fault)) from None
     except RecursionError:
         raise RosterFault(path, "no plan: lists and objects in one another, too deep") from None
-
-
-def _line(data: bytes, place: int) -> int:
-    return data.count(b"\n", 0, place) + 1
 
 
 def _object(pairs: List[Tuple[str, Any]]) -> Dict[str, Any]:

@@ -174,20 +174,9 @@ class Sheet:
     def records(self) -> Iterator[Tuple[int, List[str]]]:
         """The records that aren't empty, each with the number of its first line; cells without the white space around
         them."""
-        if self.rows is not None:
-            yield from ((line, cells) for line, cells in enumerate(map(self._cleaned, self.rows), self.skipped + 1)
-                        if any(cells))
-            return
-        reader = csv.reader(self._lines(0), delimiter=self.separator, strict=True)
-        line = self.skipped + 1
-        try:
-            for cells in reader:
-                cells = self._cleaned(cells)
-                if any(cells) and not self._is_hint(line):
-                    yield line, cells
-                line = self.skipped + reader.line_num + 1
-        except csv.Error as error:
-            self.refuse(_in_words(error), line)
+        for lines, rows in self._raw_blocks(0, self.skipped + 1):
+            yield from ((line, cells) for line, cells in zip(lines, map(self._cleaned, rows))
+                        if any(cells) and not self._is_hint(line))
 
     def _lines(self, begin: int) -> Iterator[str]:
         """The lines of the text from a place on. Raises `csv.Error` before a record has more cells than it may."""
@@ -240,9 +229,8 @@ class Sheet:
         begin, line = yield from self._plain_blocks(width)
         begun = begin > 0
         for lines, rows in self._raw_blocks(begin, line):
-            columns = _columns(rows, width) if begun and not self.has_guards else None
-            if columns is not None:
-                yield lines, columns
+            if begun and not self.has_guards and set(map(len, rows)) == {width}:
+                yield lines, list(zip(*rows))
                 continue
             records = [(line, cells) for line, cells in zip(lines, map(self._cleaned, rows)) if any(cells)
                        and not self._is_hint(line)]
@@ -391,8 +379,3 @@ def _plain_columns(piece: str, separator: str, width: int) -> Optional[List[Sequ
         return None
     cells = piece[:-1].replace("\n", separator).split(separator)
     return [cells[column::width] for column in range(width)]
-
-
-def _columns(rows: List[List[str]], width: int) -> Optional[List[Sequence[str]]]:
-    """The cells column by column, if each record has so many."""
-    return list(zip(*rows)) if set(map(len, rows)) == {width} else None

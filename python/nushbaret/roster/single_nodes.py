@@ -3,7 +3,7 @@ where some of the fewer side stay out, a plan with the fewest changes from an ea
 from array import array
 from collections import Counter
 from itertools import compress
-from typing import Collection, Dict, Iterable, List, NamedTuple, Sequence, Tuple
+from typing import Collection, Dict, List, NamedTuple, Sequence, Tuple
 
 from ..costs.kinds import WholeNumbers
 from ..costs.limits import GREATEST_COST, Numbers, TooLarge
@@ -28,11 +28,7 @@ class RosterNodes(NamedTuple):
 
     def pairs(self, rows: Sequence[int], columns: Sequence[int]) -> List[Pair]:
         """The persons and objects that matched nodes stand for."""
-        return self.named(zip(rows, columns))
-
-    def named(self, pairs: Iterable[Pair]) -> List[Pair]:
-        """The persons and objects that pairs of nodes stand for."""
-        return sorted((self.of_rows[row], self.of_columns[column]) for row, column in pairs)
+        return sorted(zip(map(self.of_rows.__getitem__, rows), map(self.of_columns.__getitem__, columns)))
 
     def numbered(self, pairs: Collection[Pair]) -> List[Pair]:
         """The rows and columns that stand for pairs of persons and objects, where these are there."""
@@ -52,11 +48,6 @@ def nodes_without(nodes: RosterNodes, fixed: Collection[Pair]) -> RosterNodes:
     kept = bytes(row in sides[0][2] and column in sides[1][2] for row, column in zip(nodes.rows, nodes.columns))
     rows, columns = (array("I", map(places.__getitem__, compress(numbers, kept))) for numbers, _, places in sides)
     return RosterNodes(sides[0][1], sides[1][1], rows, columns, array("q", compress(nodes.costs, kept)), nodes.is_full)
-
-
-def least_costs(nodes: RosterNodes, maximize: bool) -> Numbers:
-    """Costs of which the best plans have the least sum."""
-    return array("q", map(int.__neg__, nodes.costs)) if maximize else nodes.costs
 
 
 def changed(nodes: RosterNodes, costs: Sequence[int], kept: Collection[Pair], change: int) -> Numbers:
@@ -87,11 +78,6 @@ class Swap(NamedTuple):
 
     persons: List[int]
     objects: List[int]
-
-
-def swaps_of_pairs(groups: Iterable[Sequence[Pair]]) -> List[Swap]:
-    """The swaps of groups of pairs."""
-    return [Swap(*(sorted(set(side)) for side in zip(*pairs))) for pairs in groups]
 
 
 def swaps_of(nodes: RosterNodes, best: BestPlan) -> List[Swap]:

@@ -100,7 +100,9 @@ class Finder:
         self.say(found.plan)
         self.is_over = found.is_over
         if self.is_over:
-            self.channel.say_over()
+            # No plan is better than the one known, as it seems.
+            self.channel.is_over = True
+            self.channel.say(over=True)
 
     def search(self) -> None:
         """Searches around the best plan, or around months that keep their own rows, until nothing better comes

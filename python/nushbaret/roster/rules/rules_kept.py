@@ -199,14 +199,14 @@ def _bounded(plan: DailyPlan, rule: Rule, of: Callable[[Sequence[Had]], Fraction
             too_many = rule.most is not None and total > rule.most and planned > 0
             too_few = is_whole and rule.least is not None and total < rule.least and bool(still)
             if too_many or too_few:
-                text = f"{plan.roster.persons[person]}: {_decimal(total)} {word}{where}"
+                text = f"{plan.roster.persons[person]}: {decimal(total)} {word}{where}"
                 amount = min(total - (rule.most or 0), planned) if too_many else (rule.least or 0) - total
                 yield plan.broken(rule, [person], [object_ for _, object_ in own], text, ceil(amount))
 
 
-def _decimal(number: Fraction) -> str:
+def decimal(number: Fraction) -> str:
     """A number as people write it, with two decimals at most."""
-    return str(number.numerator) if number.denominator == 1 else f"{float(number):.2f}".rstrip("0")
+    return f"{float(number):.2f}".rstrip("0").rstrip(".")
 
 
 def _outside(rule: Rule, number: int) -> int:
@@ -360,11 +360,9 @@ def _together(plan: DailyPlan, rule: Rule) -> Iterator[Breach]:
             yield plan.broken(rule, there, [object_], text)
 
 
-READERS: Dict[str, Callable[[DailyPlan, Rule], Iterator[Breach]]] = {REST: _rest, RUN: _run, COUNT: _count,
-                                                                     HOURS: _hours, FREE: _free, WHOLE: _whole,
-                                                                     STAFF: _staff, APART: _apart, TOGETHER: _together,
-                                                                     WINDOW: _window, OFF: _off, AFTER: _after,
-                                                                     PAUSE: _pause, WEEKEND_RUN: _weekend_run}
+READERS: Dict[str, Callable[[DailyPlan, Rule], Iterator[Breach]]] = {
+    REST: _rest, RUN: _run, COUNT: _count, HOURS: _hours, FREE: _free, WHOLE: _whole, STAFF: _staff, APART: _apart,
+    TOGETHER: _together, WINDOW: _window, OFF: _off, AFTER: _after, PAUSE: _pause, WEEKEND_RUN: _weekend_run}
 
 
 def without_day(roster: Roster, lacks: str) -> Iterator[str]:

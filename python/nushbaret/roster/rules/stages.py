@@ -456,11 +456,8 @@ class _Stages:
         request = self.task.request
         still = (request.kept or set()).intersection(self.built.pairs)
         still -= full_pairs(self.task.roster, request.fixed, still)
-        return (-1 if request.maximize else 1) * (cost + len(still) * (request.change or 0) + 2 * self._past_cost())
-
-    def _past_cost(self) -> int:
-        sign = -1 if self.task.request.maximize else 1
-        return sign * sum(pair.cost for pair in self.task.request.fixed if pair.object in self.task.roster.past)
+        past = sum(pair.cost for pair in request.fixed if pair.object in self.task.roster.past)
+        return (-1 if request.maximize else 1) * (cost + len(still) * (request.change or 0)) + 2 * past
 
     def _even(self, plan: NamedPlan) -> List[Evenness]:
         """How even a plan is."""
