@@ -193,7 +193,8 @@ class Result(ByNames, Lasting):
         return self._left(1)
 
     def _left(self, side: int) -> Any:
-        return self._solved.unmatched(side)
+        left = set(range(self._sizes[side])).difference(self._solved.pairs[side])
+        return numbers(sorted(left), self._solved.as_arrays)
 
     @cached_property
     def row_duals(self) -> List[Number]:
@@ -327,7 +328,7 @@ class Result(ByNames, Lasting):
         return self._shape.n_rows, self._shape.n_columns
 
     def _manner(self, missing: str) -> Manner:
-        return manner(self.maximize, self._solved.decimals, missing)
+        return manner(self.maximize, self._source.manner.decimals, missing)
 
     def _problem_of(self, costs: Any, rows: Any, columns: Any, missing: str) -> AssignmentProblem:
         return problem_of(costs, rows, columns, self._sizes, self._manner(missing))

@@ -8,11 +8,11 @@ from ..costs.numbers import Number, Ratio, Unit, in_unit, unit_of
 from ..costs.reading import exact_ratio
 from ..counts.counted import Bounds
 from ..roster.answer import NamedPlan, Request
-from ..roster.month import Before, Month, month_of
+from ..roster.month import Before, month_of
 from ..roster.output.rule_texts import sentence_of
 from ..roster.roster import Earlier, Groups, PlanLine, Roster, Takes, Wanted
 from ..roster.rules.roster_model import OwnRow
-from ..roster.rules.rule_file import RuleLine, Rules, rules_of
+from ..roster.rules.rule_file import RuleLine, rules_of
 from ..roster.rules.rules_kept import days_in_order, kinds_alike, left_out, other_holidays, without_day, without_kind
 from ..roster.rules.stages import Proved, Task, answer_by_rules
 from ..rows.model import Certificate
@@ -183,17 +183,14 @@ def plan_roster(costs: Mapping[Named, Any], days: Mapping[str, Union[str, date]]
     ruled = rules_of("rules", lines, roster, month)
     request = Request(_fixed(roster, fixed), maximize)
     own = [_own_row(roster, row) for row in rows]
-    for line in _unruled(roster._replace(groups=groups), month, ruled, worked):
+    with_earlier = roster._replace(groups=groups)
+    for line in (*without_day(with_earlier, "days: none for"), *without_kind(with_earlier, "kinds: none for"),
+                 *left_out(with_earlier, worked), *kinds_alike("kinds", month), *other_holidays(ruled, month),
+                 *days_in_order("days", ruled, month)):
         warnings.warn(line, stacklevel=2)
     task = Task(roster, month._replace(holidays=ruled.holidays), ruled, request, float(seconds), own)
     answer, proved = answer_by_rules(task)
     return _result(roster, answer.plan, proved, unit)
-
-
-def _unruled(roster: Roster, month: Month, rules: Rules, before: Before) -> List[str]:
-    """What rules don't look at, or otherwise than it seems."""
-    return [*without_day(roster, "days: none for"), *without_kind(roster, "kinds: none for"), *left_out(roster, before),
-            *kinds_alike("kinds", month), *other_holidays(rules, month), *days_in_order("days", rules, month)]
 
 
 def _result(roster: Roster, plan: Optional[NamedPlan], proved: Proved, unit: Unit) -> RosterPlan:

@@ -50,11 +50,6 @@ class SolvedProblem:
         """The costs of the pairs, exactly."""
         return self.shape.costs.ratios(self.costs)
 
-    @property
-    def decimals(self) -> Optional[int]:
-        """To how many decimals the costs were rounded, if they were."""
-        return self.source.manner.decimals
-
     def read_again(self) -> AssignmentProblem:
         """The problem of the call; ValueError if the plan's pairs have other costs now."""
         problem = self.source.read()
@@ -202,14 +197,11 @@ class SolvedProblem:
             columns[row] = column
         if plans is None:
             plans = self.ranking().first(2)
-        elif not self._costs_as(plans[0]):
-            raise ValueError(CHANGED)
+        else:
+            best, own = plans[0], sum(Fraction(*ratio) for ratio in self.ratios)
+            if own != Fraction(-best.cost if self.shape.maximize else best.cost, best.unit.denominator):
+                raise ValueError(CHANGED)
         return next((self.plan_of(plan) for plan in plans if plan.columns != columns), None)
-
-    def _costs_as(self, best: RankedPlan) -> bool:
-        """Whether this plan costs as much as another one."""
-        cost = sum(Fraction(*ratio) for ratio in self.ratios)
-        return cost == Fraction(-best.cost if self.shape.maximize else best.cost, best.unit.denominator)
 
     def ranking(self, problem: Optional[AssignmentProblem] = None) -> Ranking:
         """The plans of the problem, from this one on. Without a problem it is that of the call, checked."""
@@ -235,11 +227,6 @@ class SolvedProblem:
         return self.source._replace(less=self.source.less + ((row, column),)), less, answer
 
     # What is found, as the caller sees it.
-
-    def unmatched(self, side: int) -> Any:
-        """The rows, side 0, or the columns, side 1, without a pair, rising."""
-        count = (self.shape.n_rows, self.shape.n_columns)[side]
-        return numbers(sorted(set(range(count)).difference(self.pairs[side])), self.as_arrays)
 
     def shown(self, duals: Iterable[int]) -> List[Number]:
         """Duals, from whole numbers of their unit."""

@@ -34,7 +34,9 @@ def answer_by_counts(roster: Roster, request: Request) -> Answer:
 def counted_of(roster: Roster, request: Request) -> Counted:
     """What is left to plan around the fixed pairs, with costs that are to be least. Where changes cost, these are
     doubled: half of what a change costs is that of a pair that comes, and of one that goes."""
-    group_of, n_groups = _groups(roster)
+    # Objects in no group come after the groups that were given.
+    n_groups, in_group = (len(roster.groups.names), roster.groups.of_objects) if roster.groups else (0, {})
+    group_of = [in_group.get(object_, n_groups + object_) for object_ in range(len(roster.objects))]
     taken = {(pair.person, group_of[pair.object]) for pair in request.fixed}
     sign = -1 if request.maximize else 1
     rows: List[int] = []
@@ -49,15 +51,6 @@ def counted_of(roster: Roster, request: Request) -> Counted:
         costs = [2 * cost + (-request.change if pair in request.kept else request.change)
                  for cost, pair in zip(costs, zip(rows, columns))]
     return Counted(*bounds_around(roster, request.fixed), group_of, n_groups, rows, columns, costs)
-
-
-def _groups(roster: Roster) -> Tuple[List[int], int]:
-    """The group of each object, and how many were given; objects in none come after these."""
-    groups = roster.groups
-    if groups is None:
-        return list(range(len(roster.objects))), 0
-    count = len(groups.names)
-    return [groups.of_objects.get(object_, count + object_) for object_ in range(len(roster.objects))], count
 
 
 def bounds_around(roster: Roster, fixed: Sequence[PlanLine]) -> Tuple[List[Bounds], List[Bounds]]:

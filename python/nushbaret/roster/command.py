@@ -169,10 +169,9 @@ def _read_hand(path: str, roster: Roster, fixed: List[PlanLine], ruling: Optiona
     broken = broken_rules(roster, plan, repeated, fixed)
     missed = 0
     if ruling is not None:
-        from .rules.ruling import broken_rules_of, missed_cost_of
-        pairs = [*plan.known, *(PlanLine(*pair, 0) for pair in plan.forbidden)]
-        broken += broken_rules_of(ruling, roster, pairs)
-        missed = missed_cost_of(ruling, roster, pairs)
+        from .rules.ruling import judged
+        more, missed = judged(ruling, roster, [*plan.known, *(PlanLine(*pair, 0) for pair in plan.forbidden)])
+        broken += more
     return Hand(plan, broken, lack_of(roster, plan.known, fixed), missed=missed)
 
 
@@ -215,8 +214,10 @@ def _read(options: Options) -> Roster:
         _refuse_without_groups(options, roster)
         roster = with_rules(roster, tasks, capacities, read_groups(options.groups, roster, options.before is not None)
                             if options.groups else None)
-        if capacities is not None and tasks is None and not any(bounds.least for bounds in capacities.bounds.values()):
-            _say_nobody(roster, capacities.path)
+        takes_nobody = not any(roster.of_object(object_).least for object_ in range(len(roster.objects)))
+        if (capacities is not None and tasks is None and not any(bounds.least for bounds in capacities.bounds.values())
+                and roster.has_bounds and takes_nobody and not roster.wanted):
+            _say(f"{capacities.path}: each place may stay empty, and without --tasks nobody has to be placed")
         forgotten = [forgotten_line(roster, counts, side) for side, counts in ((1, capacities), (0, tasks))
                      if counts is not None]
     finally:
@@ -233,13 +234,6 @@ def _refuse_without_groups(options: Options, roster: Roster) -> None:
             raise WordsFault("nushbaret: --rules needs --groups, which says the day of each object")
         if options.past is not None:
             raise WordsFault("nushbaret: --past needs --keep and --groups")
-
-
-def _say_nobody(roster: Roster, path: str) -> None:
-    """Says that no plan has to have anybody, where all that places take is nobody at least."""
-    takes_nobody = not any(roster.of_object(object_).least for object_ in range(len(roster.objects)))
-    if roster.has_bounds and takes_nobody and not roster.wanted:
-        _say(f"{path}: each place may stay empty, and without --tasks nobody has to be placed")
 
 
 def _say(line: str) -> None:

@@ -44,7 +44,8 @@ def plan_of_json(path: str) -> List[NamedPair]:
         raise RosterFault(path, said("no plan", found))
     form = plan.get("format", FORMAT)
     if isinstance(form, bool) or not isinstance(form, int) or not 1 <= form <= FORMAT:
-        raise RosterFault(path, said("format", _shown(form), FORMAT))
+        shown = quoted(form) if isinstance(form, str) else str(form) if isinstance(form, (int, float)) else _kind(form)
+        raise RosterFault(path, said("format", shown, FORMAT))
     return [_pair(path, pair, number) for number, pair in enumerate(plan["pairs"], 1)]
 
 
@@ -122,7 +123,3 @@ def _fraction(word: str) -> float:
 def _kind(value: Any) -> str:
     """What a value is."""
     return next((said(name) for kind, name in KINDS if isinstance(value, kind)), "null")
-
-
-def _shown(value: Any) -> str:
-    return quoted(value) if isinstance(value, str) else str(value) if isinstance(value, (int, float)) else _kind(value)

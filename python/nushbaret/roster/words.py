@@ -400,17 +400,14 @@ def _refuse_unknown(words: Sequence[str], parser: argparse.ArgumentParser) -> No
     words = words[:words.index("--")] if "--" in words else words
     for before, word in zip((NAME, *words), words):
         name = word.partition("=")[0]
-        if (before in valued or not _looks_like_option(name) or name in known or name[:2] in known
+        # An option begins with a dash of any length, and isn't a number.
+        is_like_one = name[:1] in tuple(DASHES) and name.strip(DASHES) and not re.fullmatch("-[0-9.,]+", name)
+        if (before in valued or not is_like_one or name in known or name[:2] in known
             and "--" + name[1:] not in known):
             continue
         near = _nearest(name.strip(DASHES), [word for word in known if word.startswith("--")])
         if near or word[0] == "-":
             parser.error(f"no option {name}" + (f": did you mean {near}?" if near else ""))
-
-
-def _looks_like_option(word: str) -> bool:
-    """Whether a word begins with a dash of any length, and isn't a number."""
-    return word[:1] in tuple(DASHES) and word.strip(DASHES) != "" and re.fullmatch("-[0-9.,]+", word) is None
 
 
 def _nearest(name: str, known: Sequence[str]) -> Optional[str]:

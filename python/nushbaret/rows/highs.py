@@ -5,7 +5,7 @@ from typing import Any, List, NamedTuple, Optional, Sequence
 
 from .certificate_check import meets
 from .model import Limits, Model
-from .neighbourhoods import Neighbourhoods, whole_plan
+from .neighbourhoods import Neighbourhoods
 from .persons import cost_of, cost_row, limits_of, matrix_of, side_of
 from .process import Channel
 
@@ -123,7 +123,7 @@ class Finder:
             until = min(self.deadline, time.monotonic() + _AROUND_PART * self.seconds) if is_better else until
             point = other or point
             if is_better and not point.missed:
-                self.say(whole_plan(point))
+                self.say([int(value > 0.5) for value in point.plan])
 
 
 def look_for_plans(model: Model, channel: Channel, deadline: float,

@@ -1,5 +1,5 @@
 """What is said of an answer to a roster with rules: exactly what was proved."""
-from typing import Callable, Dict, Iterator, List, Optional, Tuple
+from typing import Dict, Iterator, List, Optional, Tuple
 
 from ..answer import NamedPlan
 from ..names import MOST_NAMES, first_of
@@ -158,15 +158,12 @@ def missed_lines(roster: Roster, proved: Proved) -> List[str]:
         return []
     if not proved.missed:
         return ["missed: nothing that has a price"]
-    return [f"missed: {roster.shown(proved.missed_cost)} in all", *map(missed_text(roster), proved.missed)]
+    return [f"missed: {roster.shown(proved.missed_cost)} in all", *(_missed(roster, one) for one in proved.missed)]
 
 
-def missed_text(roster: Roster) -> Callable[[Missed], str]:
-    """What is said of one that is missed."""
-    def text(one: Missed) -> str:
-        times = f"{one.amount} times {roster.shown(one.cost // one.amount)}, " if one.amount > 1 else ""
-        return f"{one.broken.sentence}: {times}{roster.shown(one.cost)}"
-    return text
+def _missed(roster: Roster, one: Missed) -> str:
+    times = f"{one.amount} times {roster.shown(one.cost // one.amount)}, " if one.amount > 1 else ""
+    return f"{one.broken.sentence}: {times}{roster.shown(one.cost)}"
 
 
 def _otherwise(roster: Roster, cost: str, other: Proved, maximize: bool) -> str:

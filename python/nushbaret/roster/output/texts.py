@@ -69,7 +69,9 @@ def read_lines(path: str, roster: Roster, on_terminal: bool) -> List[str]:
     if on_terminal:
         persons, objects = counted(len(roster.persons), roster.titles[0]), counted(len(roster.objects),
                                                                                    roster.titles[1])
-        lines.append(f"{persons}, {objects}, {counted(len(roster.costs), 'pair')}{_rule(roster)}")
+        rule = ("" if not roster.ruled else "; bounds: each name's counts are kept" if roster.has_bounds
+                else "; single counts: the side with the smaller sum takes all")
+        lines.append(f"{persons}, {objects}, {counted(len(roster.costs), 'pair')}{rule}")
     groups = alike(roster.persons) + alike(roster.objects)
     lines += [f"{shown_path(path)}: {said('alike', ', '.join(map(quoted, group)))}"
               for group in groups[:MOST_NAMES_SHOWN]]
@@ -114,14 +116,6 @@ def _title(title: str) -> str:
 
 def _numbers_of(names: List[str]) -> Dict[str, int]:
     return {name: number for number, name in enumerate(names)}
-
-
-def _rule(roster: Roster) -> str:
-    """Which rule decides, where names may count several times."""
-    if not roster.ruled:
-        return ""
-    return ("; single counts: the side with the smaller sum takes all" if not roster.has_bounds
-            else "; bounds: each name's counts are kept")
 
 
 def forgotten_line(roster: Roster, counts: Counts, side: int) -> Optional[str]:

@@ -76,7 +76,8 @@ def chosen(shorts: Sequence[Short]) -> List[Short]:
     counts: Dict[Tuple[int, ...], int] = {}
     for is_last in (False, True):
         for short in by_size:
-            inside, rest = _parted(kept, short)
+            inside = [one for one in kept if set(short.objects).issuperset(one.objects)]
+            rest = [one for one in kept if one not in inside]
             lack, count = sum(one.lack for one in inside), sum(counts[one.objects] for one in inside)
             is_more = short.lack > lack
             is_fewer = len(inside) > 1 and (short.lack == lack and count > _MOST_ALIKE
@@ -86,12 +87,6 @@ def chosen(shorts: Sequence[Short]) -> List[Short]:
                 counts[short.objects] = 1 if is_more else count
     kept.sort(key=lambda short: short.objects)
     return kept
-
-
-def _parted(kept: Sequence[Short], short: Short) -> Tuple[List[Short], List[Short]]:
-    own = set(short.objects)
-    inside = [one for one in kept if own.issuperset(one.objects)]
-    return inside, [one for one in kept if one not in inside]
 
 
 def short_of_lack(lack: Lack) -> Short:
