@@ -177,8 +177,9 @@ def plan_roster(costs: Mapping[Named, Any], days: Mapping[str, Union[str, date]]
     worked = Before("before", [(person, _earlier_name(day, kind), number)
                                for number, (person, day, kind) in enumerate(earlier, 1)])
     month = month_of(roster, groups, "days", worked)
-    lines = [_line(rule, number, "" if rule[3] is None else str(next(of_prices)))
-             for number, rule in enumerate(cells, 1)]
+    # Names may be a list too.
+    lines = [RuleLine(rule[0], str(rule[1]), rule[2] if isinstance(rule[2], str) else _names(list(rule[2]), number),
+                      number, "" if rule[3] is None else str(next(of_prices))) for number, rule in enumerate(cells, 1)]
     roster = roster._replace(wanted=_wanted(roster, wanted or {}, list(of_prices)))
     ruled = rules_of("rules", lines, roster, month)
     request = Request(_fixed(roster, fixed), maximize)
@@ -295,12 +296,6 @@ def _wanted(roster: Roster, wanted: Mapping[str, Tuple[int, Any]], prices: Seque
             raise ValueError(f"wanted: {name!r}: {number!r}, where {bounds.least} to {bounds.most} may be")
         found[roster.object_numbers[name]] = Wanted(int(number), price)
     return found
-
-
-def _line(cells: Sequence[Any], number: int, price: str) -> RuleLine:
-    """A rule as a line: names may be a list too."""
-    names = cells[2] if isinstance(cells[2], str) else _names(list(cells[2]), number)
-    return RuleLine(cells[0], str(cells[1]), names, number, price)
 
 
 def _names(names: List[str], number: int) -> str:

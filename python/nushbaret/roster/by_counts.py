@@ -17,7 +17,11 @@ def answer_by_counts(roster: Roster, request: Request) -> Answer:
     """The answer to a roster with counts or groups; TooLarge where it is so for the library."""
     counted = counted_of(roster, request)
     lacks, plans = planned(counted, request.fullest)
-    groups = [_short(roster, counted, lack, _around(roster, request.fixed)) for lack in lacks]
+    # What stands, and is planned around, in words.
+    is_past = {pair.object in roster.past for pair in request.fixed}
+    names = [said("the past")] * (True in is_past) + [said("the fixed pairs")] * (False in is_past)
+    around = said("around", said("and").join(names)) if names else ""
+    groups = [_short(roster, counted, lack, around) for lack in lacks]
     if plans is None:
         return Answer(None, groups)
     if request.kept is not None and request.change is not None:
@@ -65,13 +69,6 @@ def bounds_around(roster: Roster, fixed: Sequence[PlanLine]) -> Tuple[List[Bound
     assigned = persons if sum(own.most for own in persons) <= sum(own.most for own in objects) else objects
     assigned[:] = [Bounds(own.most, own.most) for own in assigned]
     return persons, objects
-
-
-def _around(roster: Roster, fixed: Sequence[PlanLine]) -> str:
-    """What stands, and is planned around, in words."""
-    is_past = {pair.object in roster.past for pair in fixed}
-    names = [said("the past")] * (True in is_past) + [said("the fixed pairs")] * (False in is_past)
-    return said("around", said("and").join(names)) if names else ""
 
 
 def _short(roster: Roster, counted: Counted, lack: Lack, around: str) -> ShortGroup:

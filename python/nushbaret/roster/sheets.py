@@ -174,9 +174,20 @@ class Sheet:
     def records(self) -> Iterator[Tuple[int, List[str]]]:
         """The records that aren't empty, each with the number of its first line; cells without the white space around
         them."""
-        for lines, rows in self._raw_blocks(0, self.skipped + 1):
-            yield from ((line, cells) for line, cells in zip(lines, map(self._cleaned, rows))
-                        if any(cells) and not self._is_hint(line))
+        if self.rows is not None:
+            yield from ((line, cells) for line, cells in enumerate(map(self._cleaned, self.rows), self.skipped + 1)
+                        if any(cells))
+            return
+        reader = csv.reader(self._lines(0), delimiter=self.separator, strict=True)
+        line = self.skipped + 1
+        try:
+            for cells in reader:
+                cells = self._cleaned(cells)
+                if any(cells) and not self._is_hint(line):
+                    yield line, cells
+                line = self.skipped + reader.line_num + 1
+        except csv.Error as error:
+            self.refuse(_in_words(error), line)
 
     def _lines(self, begin: int) -> Iterator[str]:
         """The lines of the text from a place on. Raises `csv.Error` before a record has more cells than it may."""

@@ -159,7 +159,10 @@ def _cost_line(report: Report, plan: NamedPlan) -> str:
     which, title, own = "greatest" if options.max else "least", roster.titles[2], roster.shown(plan.cost)
     if report.answer.groups:
         title = said("of pairs that miss least" if roster.has_bounds else "of pairs", title, len(plan.pairs))
-    title += _bound(report, report.fair) if report.fair else ""
+    if report.fair:
+        bound = report.fair.pair and roster.shown(report.fair.pair.cost)
+        side = f" {_not_fixed(report.answer.plan)}{'below' if options.max else 'above'} {bound}" if bound else ""
+        title += " with no pair" + side
     if options.change_cost is not None:
         return f"{title}: {own}, the {which} with changes at {options.change_cost} each"
     return f"{which} {title}: {own}"
@@ -190,14 +193,6 @@ def _most_pairs(roster: Roster, plan: NamedPlan) -> int:
     of_objects = sum(roster.capacity_of(object_) for object_ in range(len(roster.objects))
                      if object_ not in roster.past)
     return sum(past.values()) + min(allowed, of_persons, of_objects)
-
-
-def _bound(report: Report, fair: Fair) -> str:
-    """What no pair costs more than."""
-    if fair.pair is None:
-        return " with no pair"
-    side = "below" if report.options.max else "above"
-    return f" with no pair {_not_fixed(report.answer.plan)}{side} {report.roster.shown(fair.pair.cost)}"
 
 
 def _not_fixed(plan: Optional[NamedPlan]) -> str:
