@@ -76,12 +76,7 @@ def linear_sum_assignment_batch(costs: Any, maximize: bool = False, *, unmatched
     matrices = _matrices(costs)
     if hasattr(matrices, "dtype") and unmatched_cost is None:
         return _of_array(matrices, maximize, words, _Turns(workers, timeout, progress))
-    found: List[Any] = [None] * len(matrices)
-
-    def work(piece: range) -> None:
-        for place in piece:
-            found[place] = _one(linear_sum_assignment, matrices[place], maximize, place, words)
-    _Turns(workers, timeout, progress).take(len(matrices), 1, work)
+    found = _of_list(linear_sum_assignment, matrices, maximize, words, _Turns(workers, timeout, progress))
     return [rows for rows, _ in found], [columns for _, columns in found]
 
 
@@ -118,14 +113,7 @@ def solve_batch(costs: Any, maximize: bool = False, decimals: Optional[int] = No
     [3, Decimal('0.5')]
     """
     words = {"decimals": decimals, "partial": partial, "missing": missing, "unmatched_cost": unmatched_cost}
-    matrices = _matrices(costs)
-    found: List[Any] = [None] * len(matrices)
-
-    def work(piece: range) -> None:
-        for place in piece:
-            found[place] = _one(solve, matrices[place], maximize, place, words)
-    _Turns(workers, timeout, progress).take(len(matrices), 1, work)
-    return found
+    return _of_list(solve, _matrices(costs), maximize, words, _Turns(workers, timeout, progress))
 
 
 def _matrices(costs: Any) -> Any:
@@ -143,6 +131,17 @@ def _matrices(costs: Any) -> Any:
     except TypeError:
         shown = "0 array"
     raise ValueError(f"expected matrices (3-D array), got a {shown}")
+
+
+def _of_list(call: Any, matrices: Any, maximize: bool, words: Any, turns: "_Turns") -> List[Any]:
+    """What a call says of each matrix."""
+    found: List[Any] = [None] * len(matrices)
+
+    def work(piece: range) -> None:
+        for place in piece:
+            found[place] = _one(call, matrices[place], maximize, place, words)
+    turns.take(len(matrices), 1, work)
+    return found
 
 
 def _of_array(costs: Any, maximize: bool, words: Any, turns: "_Turns") -> Tuple[Any, Any]:

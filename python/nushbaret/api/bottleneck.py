@@ -92,15 +92,11 @@ def _of_one_cost(pairs: AssignmentProblem, bound: Any, objects: Numbers, assigne
     prices of 0 prove. Else None."""
     numbers = pairs.costs.of_64_bits()
     n, m = sorted((pairs.n_rows, pairs.n_columns))
-    if numbers is None or assigned < n or bound != _best_of(pairs, numbers):
+    if numbers is None or assigned < n:
         return None
-    return proved.Assignment(n, m, n * bound, objects, array("q", bytes(8 * m)))
-
-
-def _best_of(pairs: AssignmentProblem, numbers: Any) -> int:
-    if pairs.numpy:
-        return int(numbers.max() if pairs.maximize else numbers.min())
-    return int((max if pairs.maximize else min)(plain(numbers)))
+    of_all = ((numbers.max if pairs.maximize else numbers.min)() if pairs.numpy
+              else (max if pairs.maximize else min)(plain(numbers)))
+    return proved.Assignment(n, m, n * bound, objects, array("q", bytes(8 * m))) if bound == of_all else None
 
 
 def _over_all_pairs(pairs: AssignmentProblem, bound: Any, assigned: int) -> Optional[Outcome]:

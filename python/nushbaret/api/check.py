@@ -6,12 +6,11 @@ from ..costs import naming, reading as exact, source as sources
 from ..costs.numbers import exactly_less
 from ..costs.problem import AssignmentProblem, costs_of_pairs
 from ..costs.source import Source
-from ..lap.plan_check import counted
+from ..lap.plan_check import check_wholly, counted
 from ..lap.proved import read_prices
-from .results import Result, Verdict, verdict_on
+from .results import Result, Verdict
 from .shown import Matrix, Missing
 from .solve import solve_problem
-from .solved import ratios_of, sum_of
 
 
 class Comparison(NamedTuple):
@@ -110,8 +109,8 @@ def check(costs: Matrix, columns: Any, prices: Any, rows: Any = None, maximize: 
     """
     problem = sources.problem_of(sources.lasting(costs), None, None, None, exact.manner(maximize, decimals, missing))
     pairs = _pairs_of(problem, columns, rows)
-    return verdict_on(problem, [row for row, _ in pairs], [column for _, column in pairs],
-                      read_prices(problem, prices))
+    return Verdict(*check_wholly(problem, [row for row, _ in pairs], [column for _, column in pairs],
+                                 read_prices(problem, prices)))
 
 
 def compare(costs: Matrix, columns: Any, rows: Any = None, maximize: bool = False,
@@ -152,5 +151,5 @@ def compare(costs: Matrix, columns: Any, rows: Any = None, maximize: bool = Fals
     result = solve_problem(problem, source, None, True)
     if len(pairs) != len(result.rows):
         raise ValueError(f"the plan has {counted(len(pairs), 'pair')}, and {len(result.rows)} can be made")
-    own, best = sum_of(result._shape, ratios_of(problem, held)), result.cost
+    own, best = result._shape.costs.total(problem.costs.ratios(held)), result.cost
     return Comparison(own, best, exactly_less(best, own) if problem.maximize else exactly_less(own, best), result)

@@ -22,7 +22,7 @@ from ..counts.counted import Bounds, Counted
 from ..lap import library
 from .infeasible import Infeasible, Shortage, numbered
 from .results import Lasting
-from .shown import FixedDict, FixedList, fixed, frame_of, series_of
+from .shown import ByNames, FixedDict, FixedList, fixed
 from .solve import Progress
 
 ONE_AT_MOST = Bounds(0, 1)
@@ -87,7 +87,7 @@ def shortages_of(counted: Counted, lacks: List[Lack]) -> List[Shortage]:
     return found
 
 
-class CountsResult(Lasting):
+class CountsResult(ByNames, Lasting):
     """A best plan by counts.
 
     Row `rows[k]` has column `columns[k]`, each pair once; numbers are from 0, and rows rise, then columns. They are
@@ -133,7 +133,7 @@ class CountsResult(Lasting):
         if "_kind" not in state:
             raise pickle.UnpicklingError("a release before 5.1 pickled this result, which this one can't read: solve "
                                          "its costs again")
-        super().__setstate__({**state, "rows": fixed(state["rows"]), "columns": fixed(state["columns"])})
+        self.__dict__.update({**state, "rows": fixed(state["rows"]), "columns": fixed(state["columns"])})
 
     def __repr__(self) -> str:
         return f"<nushbaret.CountsResult: cost {self.cost}, {len(self.rows)} pairs>"
@@ -184,43 +184,8 @@ class CountsResult(Lasting):
         return FixedList(self._kind.all_shown([Fraction(sign * number, self._denominator).as_integer_ratio()
                                                for number in self._numbers[side]]))
 
-    def to_frame(self) -> Any:
-        """The pairs as a DataFrame of pandas, which must be installed.
-
-        Returns
-        -------
-        pandas.DataFrame
-            With columns row, column and cost: by labels if the costs were a DataFrame, else by numbers.
-
-        Examples
-        --------
-        >>> import nushbaret
-        >>> print(nushbaret.assign_counts([[4, 1]], 2, 1).to_frame())  # doctest: +SKIP
-           row  column  cost
-        0    0       0     4
-        1    0       1     1
-        """
-        return frame_of(self.pairs, self._kind.all_shown(self._kind.ratios_in_unit(self._costs)))
-
-    def to_series(self) -> Any:
-        """The columns of the rows that have some, as a Series of pandas, which must be installed.
-
-        Returns
-        -------
-        pandas.Series
-            An entry for each pair: a row with several columns stands there several times. By labels if the costs were a
-            DataFrame, else by numbers.
-
-        Examples
-        --------
-        >>> import nushbaret
-        >>> nushbaret.assign_counts([[4, 1]], 2, 1).to_series()  # doctest: +SKIP
-        row
-        0    0
-        0    1
-        Name: column, dtype: int64
-        """
-        return series_of(self.pairs)
+    def _costs_of_pairs(self) -> List[Number]:
+        return self._kind.all_shown(self._kind.ratios_in_unit(self._costs))
 
     def as_dict(self) -> Dict[Any, List[Any]]:
         """The columns of each row that has some, by labels if the costs were a DataFrame, else by numbers.

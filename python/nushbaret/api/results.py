@@ -1,9 +1,8 @@
 """A best assignment as the caller sees it."""
 import copy
 import pickle
-from fractions import Fraction
 from functools import cached_property
-from typing import Any, Dict, Iterable, Iterator, List, NamedTuple, Optional, Sequence, Tuple
+from typing import Any, Dict, Iterable, Iterator, List, NamedTuple, Optional, Tuple
 
 from ..costs import source as sources
 from ..costs.naming import Numbers
@@ -14,8 +13,8 @@ from ..costs.source import Source, problem_of
 from ..lap import library, proved
 from ..lap.plan_check import check_wholly
 from .infeasible import infeasible
-from .shown import ByNames, FixedList, Missing, fixed, frame_of, numbers
-from .solved import SolvedProblem, WholeDuals, ratios_of, result_parts, sum_of
+from .shown import ByNames, FixedList, Missing, fixed, numbers
+from .solved import SolvedProblem, WholeDuals, result_parts
 
 
 class _PlanParts(NamedTuple):
@@ -44,23 +43,6 @@ class Plan(_PlanParts, ByNames):
         rows, columns = self.labels or (None, None)
         return [(rows[row] if rows else int(row), columns[column] if columns else int(column))
                 for row, column in zip(self.rows, self.columns)]
-
-    def to_frame(self) -> Any:
-        """The pairs as a DataFrame of pandas, which must be installed, with the columns row and column.
-
-        Returns
-        -------
-        pandas.DataFrame
-
-        Examples
-        --------
-        >>> import nushbaret
-        >>> nushbaret.solve([[4, 1], [2, 3]]).next_best().to_frame()  # doctest: +SKIP
-           row  column
-        0    0       0
-        1    1       1
-        """
-        return frame_of(self.pairs, None)
 
 
 def plan_of(rows: Any, columns: Any, cost: Number, labels: Labels) -> Plan:
@@ -103,12 +85,6 @@ class Verdict:
         return "<nushbaret.Verdict: proved>" if self.proved else f"<nushbaret.Verdict: not proved: {self.why}>"
 
 
-def verdict_on(problem: AssignmentProblem, rows: Sequence[int], columns: Sequence[int],
-               prices: List[Fraction]) -> Verdict:
-    """The verdict on a plan whose rows and columns are numbers of the problem, no row twice."""
-    return Verdict(*check_wholly(problem, rows, columns, prices))
-
-
 class Lasting:
     """What can be pickled, and whose attributes can't be set, so that a copy is the same."""
 
@@ -117,12 +93,6 @@ class Lasting:
 
     def __delattr__(self, name: str) -> None:
         raise AttributeError(f"a result's {name} can't be deleted")
-
-    def __getstate__(self) -> Any:
-        return dict(self.__dict__)
-
-    def __setstate__(self, state: Any) -> None:
-        self.__dict__.update(state)
 
     def __copy__(self) -> Any:
         return self
@@ -173,15 +143,17 @@ class Result(ByNames, Lasting):
         known: Dict[str, Any] = {"verdict": self.verdict}
         if "_is_unique" in self.__dict__:
             known["is_unique"] = self._is_unique
-        return self._source.without_costs(), self._found.without_pairs(), self._solved.own_duals(), known
+        # Rows and columns follow from the answer.
+        found = self._found._replace(rows=None, columns=None)
+        return self._source.without_costs(), found, self._solved.own_duals(), known
 
     def __setstate__(self, state: Any) -> None:
         if not isinstance(state, tuple):
             raise pickle.UnpicklingError("a release before 5.0 pickled this result, which this one can't read: solve "
                                          "its costs again")
         source, found, duals, known = state
-        pairs = (numbers(values, found.as_arrays) for values in proved.pairs_of(found.shape, found.answer))
-        type(self).__init__(self, source, found.with_pairs(*pairs), duals)
+        rows, columns = (numbers(values, found.as_arrays) for values in proved.pairs_of(found.shape, found.answer))
+        type(self).__init__(self, source, found._replace(rows=rows, columns=columns), duals)
         self.__dict__.update({"_is_unique" if name == "is_unique" else name: value for name, value in known.items()})
 
     def __deepcopy__(self, memo: Dict[int, Any]) -> "Result":
@@ -194,7 +166,7 @@ class Result(ByNames, Lasting):
     def cost(self) -> Number:
         """The exact sum of the costs: an int, a Decimal where costs have decimal places, or a Fraction where one was
         given."""
-        return sum_of(self._shape, ratios_of(self._shape, self._found.costs))
+        return self._shape.costs.total(self._shape.costs.ratios(self._found.costs))
 
     @property
     def labels(self) -> Labels:
@@ -221,7 +193,8 @@ class Result(ByNames, Lasting):
         return self._left(1)
 
     def _left(self, side: int) -> Any:
-        return self._solved.unmatched(side)
+        left = set(range(self._sizes[side])).difference(self._solved.pairs[side])
+        return numbers(sorted(left), self._solved.as_arrays)
 
     @cached_property
     def row_duals(self) -> List[Number]:
@@ -307,25 +280,6 @@ class Result(ByNames, Lasting):
     def _plan(self, rows: Any, columns: Any, cost: Number) -> Plan:
         return plan_of(rows, columns, cost, self.labels)
 
-    def to_frame(self) -> Any:
-        """The pairs as a DataFrame of pandas, which must be installed.
-
-        Returns
-        -------
-        pandas.DataFrame
-            With columns row, column and cost: by labels if the costs were a DataFrame, else by numbers. Costs are whole
-            numbers or floats where these print as the exact costs, and Decimals or Fractions otherwise.
-
-        Examples
-        --------
-        >>> import nushbaret
-        >>> nushbaret.solve([[4, 1], [2, 3]]).to_frame()  # doctest: +SKIP
-           row  column  cost
-        0    0       1     1
-        1    1       0     2
-        """
-        return frame_of(self.pairs, self._costs_of_pairs())
-
     def _costs_of_pairs(self) -> List[Number]:
         return self._shape.costs.all_shown(self._solved.ratios)
 
@@ -367,14 +321,14 @@ class Result(ByNames, Lasting):
             prices = self._solved.rents
         except ValueError as fault:
             return Verdict(str(fault))
-        return verdict_on(problem, self._solved.pairs[0], self._solved.pairs[1], prices)
+        return Verdict(*check_wholly(problem, *self._solved.pairs, prices))
 
     @property
     def _sizes(self) -> Tuple[int, int]:
         return self._shape.n_rows, self._shape.n_columns
 
     def _manner(self, missing: str) -> Manner:
-        return manner(self.maximize, self._solved.decimals, missing)
+        return manner(self.maximize, self._source.manner.decimals, missing)
 
     def _problem_of(self, costs: Any, rows: Any, columns: Any, missing: str) -> AssignmentProblem:
         return problem_of(costs, rows, columns, self._sizes, self._manner(missing))

@@ -4,15 +4,15 @@ from array import array
 from datetime import date, datetime
 from typing import Any, Dict, Iterable, List, Mapping, NamedTuple, Optional, Sequence, Tuple, Union
 
-from ..costs.numbers import Number, Ratio, in_unit, unit_of
+from ..costs.numbers import Number, Ratio, Unit, in_unit, unit_of
 from ..costs.reading import exact_ratio
 from ..counts.counted import Bounds
-from ..roster.answer import Request
-from ..roster.month import Before, Month, month_of
+from ..roster.answer import NamedPlan, Request
+from ..roster.month import Before, month_of
 from ..roster.output.rule_texts import sentence_of
 from ..roster.roster import Earlier, Groups, PlanLine, Roster, Takes, Wanted
 from ..roster.rules.roster_model import OwnRow
-from ..roster.rules.rule_file import RuleLine, Rules, rules_of
+from ..roster.rules.rule_file import RuleLine, rules_of
 from ..roster.rules.rules_kept import days_in_order, kinds_alike, left_out, other_holidays, without_day, without_kind
 from ..roster.rules.stages import Proved, Task, answer_by_rules
 from ..rows.model import Certificate
@@ -170,39 +170,37 @@ def plan_roster(costs: Mapping[Named, Any], days: Mapping[str, Union[str, date]]
         raise ValueError(f"a cost is more than {MOST_UNITS} times the unit that all costs have in common")
     roster = _roster(list(listed), units, days, kinds)
     earlier = [(person, _day_name(day), kind) for person, day, kind in before]
-    roster = _with_counts(roster, tasks or {}, places or {})
+    of_persons = _bounds("tasks", roster.person_numbers, tasks or {}, Bounds(0, len(roster.objects)))
+    of_objects = _bounds("places", roster.object_numbers, places or {}, Bounds(1, 1))
+    roster = roster._replace(takes=Takes(of_persons, of_objects, False))
     groups = _groups(roster, earlier)
     worked = Before("before", [(person, _earlier_name(day, kind), number)
                                for number, (person, day, kind) in enumerate(earlier, 1)])
     month = month_of(roster, groups, "days", worked)
-    lines = [_line(rule, number, "" if rule[3] is None else str(next(of_prices)))
-             for number, rule in enumerate(cells, 1)]
+    # Names may be a list too.
+    lines = [RuleLine(rule[0], str(rule[1]), rule[2] if isinstance(rule[2], str) else _names(list(rule[2]), number),
+                      number, "" if rule[3] is None else str(next(of_prices))) for number, rule in enumerate(cells, 1)]
     roster = roster._replace(wanted=_wanted(roster, wanted or {}, list(of_prices)))
     ruled = rules_of("rules", lines, roster, month)
     request = Request(_fixed(roster, fixed), maximize)
     own = [_own_row(roster, row) for row in rows]
-    for line in _unruled(roster._replace(groups=groups), month, ruled, worked):
+    with_earlier = roster._replace(groups=groups)
+    for line in (*without_day(with_earlier, "days: none for"), *without_kind(with_earlier, "kinds: none for"),
+                 *left_out(with_earlier, worked), *kinds_alike("kinds", month), *other_holidays(ruled, month),
+                 *days_in_order("days", ruled, month)):
         warnings.warn(line, stacklevel=2)
     task = Task(roster, month._replace(holidays=ruled.holidays), ruled, request, float(seconds), own)
     answer, proved = answer_by_rules(task)
-    pairs = None if answer.plan is None else [(roster.persons[pair.person], roster.objects[pair.object])
-                                              for pair in answer.plan.pairs]
-    return _result(proved, pairs, None if answer.plan is None else unit.shown(answer.plan.cost),
-                   None if proved.better is None else unit.shown(proved.better))._replace(
-                       missed=[(one.broken.sentence, one.amount, unit.shown(one.cost)) for one in proved.missed],
-                       missed_cost=unit.shown(proved.missed_cost))
+    return _result(roster, answer.plan, proved, unit)
 
 
-def _unruled(roster: Roster, month: Month, rules: Rules, before: Before) -> List[str]:
-    """What rules don't look at, or otherwise than it seems."""
-    return [*without_day(roster, "days: none for"), *without_kind(roster, "kinds: none for"), *left_out(roster, before),
-            *kinds_alike("kinds", month), *other_holidays(rules, month), *days_in_order("days", rules, month)]
-
-
-def _result(proved: Proved, pairs: Optional[List[Named]], cost: Optional[Number],
-            better: Optional[Number]) -> RosterPlan:
+def _result(roster: Roster, plan: Optional[NamedPlan], proved: Proved, unit: Unit) -> RosterPlan:
+    pairs = plan and [(roster.persons[pair.person], roster.objects[pair.object]) for pair in plan.pairs]
+    cost, better = (None if own is None else unit.shown(own) for own in (plan and plan.cost, proved.better))
     return RosterPlan(proved.kind, pairs, cost, better, list(map(sentence_of, proved.reasons)), proved.is_minimal,
-                      [(even.sentence, even.least, even.most) for even in proved.even], proved.certificate)
+                      [(even.sentence, even.least, even.most) for even in proved.even], proved.certificate,
+                      [(one.broken.sentence, one.amount, unit.shown(one.cost)) for one in proved.missed],
+                      unit.shown(proved.missed_cost))
 
 
 def _ratio(said: str, number: Any, is_above_0: bool = False) -> Ratio:
@@ -249,12 +247,6 @@ def _roster(pairs: List[Named], costs: List[int], days: Mapping[str, Union[str, 
                   array("I", (objects[pairs[place][1]] for place in order)),
                   array("q", (costs[place] for place in order)), 0, ("person", "object", "cost"), ",", False,
                   by_persons=True, groups=groups)
-
-
-def _with_counts(roster: Roster, tasks: Mapping[str, Count], places: Mapping[str, Count]) -> Roster:
-    of_persons = _bounds("tasks", roster.person_numbers, tasks, Bounds(0, len(roster.objects)))
-    of_objects = _bounds("places", roster.object_numbers, places, Bounds(1, 1))
-    return roster._replace(takes=Takes(of_persons, of_objects, False))
 
 
 def _bounds(what: str, numbers: Mapping[str, int], counts: Mapping[str, Count], default: Bounds) -> Dict[int, Bounds]:
@@ -304,12 +296,6 @@ def _wanted(roster: Roster, wanted: Mapping[str, Tuple[int, Any]], prices: Seque
             raise ValueError(f"wanted: {name!r}: {number!r}, where {bounds.least} to {bounds.most} may be")
         found[roster.object_numbers[name]] = Wanted(int(number), price)
     return found
-
-
-def _line(cells: Sequence[Any], number: int, price: str) -> RuleLine:
-    """A rule as a line: names may be a list too."""
-    names = cells[2] if isinstance(cells[2], str) else _names(list(cells[2]), number)
-    return RuleLine(cells[0], str(cells[1]), names, number, price)
 
 
 def _names(names: List[str], number: int) -> str:

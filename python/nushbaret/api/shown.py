@@ -91,26 +91,41 @@ def frame_of(pairs: Sequence[Tuple[Any, Any]], costs: Optional[List[Number]]) ->
     return pandas.DataFrame(held if costs is None else {**held, "cost": _in_floats(costs)})
 
 
-def series_of(pairs: Sequence[Tuple[Any, Any]]) -> Any:
-    """A Series of the pairs' columns by their rows."""
-    import pandas
-    rows, columns = zip(*pairs) if pairs else ((), ())
-    index = pandas.Index(list(rows), name="row", tupleize_cols=False)
-    return pandas.Series(list(columns), index, None if columns else object, "column")
-
-
 class ByNames:
     """A plan whose pairs are known by the labels of a frame, or else by numbers."""
 
     pairs: Any
 
+    def _costs_of_pairs(self) -> Optional[List[Number]]:
+        """What each pair costs, if that is known."""
+        return None
+
+    def to_frame(self) -> Any:
+        """The pairs as a DataFrame of pandas, which must be installed.
+
+        Returns
+        -------
+        pandas.DataFrame
+            With columns row, column and, of a result, cost: by labels if the costs had them, else by numbers. Costs are
+            whole numbers or floats where these print as the exact costs, and Decimals or Fractions otherwise.
+
+        Examples
+        --------
+        >>> import nushbaret
+        >>> nushbaret.solve([[4, 1], [2, 3]]).to_frame()  # doctest: +SKIP
+           row  column  cost
+        0    0       1     1
+        1    1       0     2
+        """
+        return frame_of(self.pairs, self._costs_of_pairs())
+
     def to_series(self) -> Any:
-        """The column of each row that has one, as a Series of pandas, which must be installed.
+        """The columns of the rows that have some, as a Series of pandas, which must be installed.
 
         Returns
         -------
         pandas.Series
-            By labels if the costs had them, else by numbers.
+            An entry for each pair, by labels if the costs had them, else by numbers.
 
         Examples
         --------
@@ -121,7 +136,10 @@ class ByNames:
         1    0
         Name: column, dtype: int64
         """
-        return series_of(self.pairs)
+        import pandas
+        rows, columns = zip(*self.pairs) if self.pairs else ((), ())
+        index = pandas.Index(list(rows), name="row", tupleize_cols=False)
+        return pandas.Series(list(columns), index, None if columns else object, "column")
 
     def as_dict(self) -> Dict[Any, Any]:
         """The column of each row that has one, by labels if the costs had them, else by numbers.
@@ -141,10 +159,6 @@ class ByNames:
 
 def _in_floats(costs: List[Any]) -> List[Any]:
     """Floats instead of Decimals where all print as these."""
-    printed = costs and all(isinstance(cost, decimal.Decimal) and _prints_so(cost) for cost in costs)
-    return list(map(float, costs)) if printed else costs
-
-
-def _prints_so(cost: decimal.Decimal) -> bool:
-    """Whether a float prints as this decimal."""
-    return decimal.Decimal(repr(float(cost))) == cost
+    are_printed = costs and all(isinstance(cost, decimal.Decimal) and decimal.Decimal(repr(float(cost))) == cost
+                                for cost in costs)
+    return list(map(float, costs)) if are_printed else costs

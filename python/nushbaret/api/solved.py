@@ -30,20 +30,6 @@ def result_parts(problem: AssignmentProblem, answer: proved.Assignment) -> prove
     return proved.ResultParts(shape, answer, rows, columns, costs, problem.arrays is not None)
 
 
-def ratios_of(shape: AssignmentProblem, costs: Sequence[Any]) -> List[Ratio]:
-    """Costs of a problem, exactly."""
-    return shape.costs.ratios(costs)
-
-
-def sum_of(shape: AssignmentProblem, ratios: Sequence[Ratio]) -> Number:
-    """The exact sum of some costs of a problem."""
-    return shape.costs.total(ratios)
-
-
-def _are_equal(one: Ratio, other: Ratio) -> bool:
-    return one[0] * other[1] == other[0] * one[1]
-
-
 class SolvedProblem:
     """A problem that a call solved: where its costs are, the problem without its lists, the library's answer, the
     costs of the plan's pairs, as they were at the call, and whether the caller gets arrays."""
@@ -62,12 +48,7 @@ class SolvedProblem:
     @cached_property
     def ratios(self) -> List[Ratio]:
         """The costs of the pairs, exactly."""
-        return ratios_of(self.shape, self.costs)
-
-    @property
-    def decimals(self) -> Optional[int]:
-        """To how many decimals the costs were rounded, if they were."""
-        return self.source.manner.decimals
+        return self.shape.costs.ratios(self.costs)
 
     def read_again(self) -> AssignmentProblem:
         """The problem of the call; ValueError if the plan's pairs have other costs now."""
@@ -78,7 +59,8 @@ class SolvedProblem:
         if now == self.costs and problem.unit == self.shape.unit and (
                 isinstance(problem.costs, AnyWholeNumbers) or {*map(type, now), *map(type, self.costs)} == {float}):
             return problem
-        if None in now or not all(map(_are_equal, ratios_of(problem, now), self.ratios)):
+        if None in now or not all(one * others == other * denominator for (one, denominator), (other, others)
+                                  in zip(problem.costs.ratios(now), self.ratios)):
             raise ValueError(CHANGED)
         return problem
 
@@ -107,7 +89,8 @@ class SolvedProblem:
         """An answer for the costs as they are now, whose prices are those of any plan that costs as much."""
         problem, count = self.read_again(), len(self.pairs[0])
         again = levels.answer(problem, None if count == min(problem.n_rows, problem.n_columns) else count)
-        if isinstance(again, proved.HallSet) or _cost_of(problem, again) != sum_of(self.shape, self.ratios):
+        if isinstance(again, proved.HallSet) or (_cost_of(problem, *proved.pairs_of(problem, again))
+                                                 != self.shape.costs.total(self.ratios)):
             raise ValueError(CHANGED)
         return again
 
@@ -169,8 +152,8 @@ class SolvedProblem:
         if code != "BEST":
             return code, None
         rows, columns = proved.pairs_of(problem, answer._replace(objects=objects))
-        cost = sum_of(problem, ratios_of(problem, costs_of_pairs(problem, rows, columns)))
-        return code, (numbers(rows, self.as_arrays), numbers(columns, self.as_arrays), cost)
+        return code, (numbers(rows, self.as_arrays), numbers(columns, self.as_arrays),
+                      _cost_of(problem, rows, columns))
 
     def _next_of(self, said: Any) -> Optional[Tuple[Any, Any, Number]]:
         """The plan that the extension says is the next, or of doubles among the first two."""
@@ -178,7 +161,7 @@ class SolvedProblem:
             return fixed(said[0][0]), fixed(said[0][1]), self.shape.unit.shown(said[1])
         plans = direct.plans_of_doubles(said, self.shape.maximize, 2) or []
         others = [plan for plan in plans if plan[0] != self.pairs[1]]
-        if len(others) != 1 or plans[0][1] != sum_of(self.shape, self.ratios):
+        if len(others) != 1 or plans[0][1] != self.shape.costs.total(self.ratios):
             return None
         return fixed(said[0][0]), numbers(others[0][0], self.as_arrays), others[0][1]
 
@@ -214,14 +197,11 @@ class SolvedProblem:
             columns[row] = column
         if plans is None:
             plans = self.ranking().first(2)
-        elif not self._costs_as(plans[0]):
-            raise ValueError(CHANGED)
+        else:
+            best, own = plans[0], sum(Fraction(*ratio) for ratio in self.ratios)
+            if own != Fraction(-best.cost if self.shape.maximize else best.cost, best.unit.denominator):
+                raise ValueError(CHANGED)
         return next((self.plan_of(plan) for plan in plans if plan.columns != columns), None)
-
-    def _costs_as(self, best: RankedPlan) -> bool:
-        """Whether this plan costs as much as another one."""
-        cost = sum(Fraction(*ratio) for ratio in self.ratios)
-        return cost == Fraction(-best.cost if self.shape.maximize else best.cost, best.unit.denominator)
 
     def ranking(self, problem: Optional[AssignmentProblem] = None) -> Ranking:
         """The plans of the problem, from this one on. Without a problem it is that of the call, checked."""
@@ -248,11 +228,6 @@ class SolvedProblem:
 
     # What is found, as the caller sees it.
 
-    def unmatched(self, side: int) -> Any:
-        """The rows, side 0, or the columns, side 1, without a pair, rising."""
-        count = (self.shape.n_rows, self.shape.n_columns)[side]
-        return numbers(sorted(set(range(count)).difference(self.pairs[side])), self.as_arrays)
-
     def shown(self, duals: Iterable[int]) -> List[Number]:
         """Duals, from whole numbers of their unit."""
         unit = self.duals[1]
@@ -268,6 +243,6 @@ class SolvedProblem:
                 finer.shown(cost) if rest else unit.shown(shown))
 
 
-def _cost_of(problem: AssignmentProblem, answer: proved.Assignment) -> Number:
-    """What the plan of an answer costs."""
-    return sum_of(problem, ratios_of(problem, costs_of_pairs(problem, *proved.pairs_of(problem, answer))))
+def _cost_of(problem: AssignmentProblem, rows: Sequence[int], columns: Sequence[int]) -> Number:
+    """What a plan costs."""
+    return problem.costs.total(problem.costs.ratios(costs_of_pairs(problem, rows, columns)))

@@ -156,7 +156,7 @@ def names_of(parts: List[Any], engine: Engine, options: Options) -> Tuple[List[A
     rows: Set[Any] = set()
     columns: Set[Any] = set()
     tasks: List[Tuple[Any, ...]] = [(source, part) for part in range(len(parts))]
-    for some_rows, some_columns in engine.run(partition_names, tasks, options.end):
+    for some_rows, some_columns in engine.run(Partitions.names, tasks, options.end):
         rows |= some_rows
         columns |= some_columns
     return sorted_names(rows), sorted_names(columns)
@@ -165,11 +165,6 @@ def names_of(parts: List[Any], engine: Engine, options: Options) -> Tuple[List[A
 def sorted_names(names: Set[Any]) -> List[Any]:
     """Names in their order; as texts where some are."""
     return sorted(map(str, names)) if any(isinstance(name, str) for name in names) else sorted(names)
-
-
-def partition_names(source: Any, part: int) -> Any:
-    """The task of `names_of`."""
-    return source.names(part)
 
 
 def options_of(maximize: bool, progress: Progress, timeout: Optional[float],

@@ -1,5 +1,6 @@
 """What runs tasks: this process, or the workers of a cluster. An engine has two words: `share`, the same value to all;
 and `run`, these tasks, whose answers come in any order. Tasks have no state, so that any of them may run again."""
+import contextlib
 import importlib
 import time
 from typing import Any, Callable, Iterator, List, Optional, Protocol, Tuple
@@ -52,7 +53,7 @@ class Cluster:
                 done = self._done(list(waiting))
                 if end is not None and time.monotonic() >= end:
                     raise TimeoutError
-                if done or self._has_workers():
+                if done or self.client.scheduler_info()["workers"]:
                     without_workers = None
                 elif without_workers is None:
                     without_workers = time.monotonic()
@@ -75,16 +76,9 @@ class Cluster:
     def _done(self, futures: List[Any]) -> List[Any]:
         """Those that ended, after at most a second."""
         distributed: Any = importlib.import_module("distributed")
-        try:
+        with contextlib.suppress(TimeoutError, distributed.TimeoutError, distributed.CancelledError):
             distributed.wait(futures, timeout=1, return_when="FIRST_COMPLETED")
-        except (TimeoutError, distributed.TimeoutError):
-            pass
-        except distributed.CancelledError:
-            pass
         return [future for future in futures if future.status != "pending"]
-
-    def _has_workers(self) -> bool:
-        return bool(self.client.scheduler_info()["workers"])
 
 
 class Shared:

@@ -138,14 +138,12 @@ class Search:
         """What staying out costs each row, in whole units."""
         return self.units.whole(numpy.full(self.form.n, self.stay_cost)) if self.form.stay_out else None
 
-    def _start(self) -> Any:
-        return None if self.plan is None else (self.plan.columns, self.plan.duals)
-
     def solve_core(self) -> None:
         """The best plan of the core; where it has none, what it lacks is looked for in the blocks."""
         while True:
+            start = None if self.plan is None else (self.plan.columns, self.plan.duals)
             with self.limited():
-                found = self.core.solve(self.units.whole(self.core.costs), self._out(), self._start())
+                found = self.core.solve(self.units.whole(self.core.costs), self._out(), start)
             if isinstance(found, Plan):
                 self.plan = found
                 return
@@ -192,7 +190,9 @@ class Search:
         plan = self.plan
         assert plan is not None
         paid, duals = self.paid(plan), self.duals(plan)
-        numbers, rests = self._numbers(plan, paid, duals)
+        # The rows' own sums.
+        numbers, rests = (bounds.own_numbers(plan.columns, paid, duals) if self.units.are_doubles
+                          else (duals.numbers, None))
         is_exact = self.units.is_exact
         if is_exact:
             asked = Asked(duals.prices, numbers, rests, plan.columns, BETTER)
@@ -221,12 +221,6 @@ class Search:
         """A plan's duals in the unit of the costs."""
         duals: Duals = self.units.duals(plan.duals)
         return duals._replace(out=self.stay_cost) if self.form.stay_out else duals
-
-    def _numbers(self, plan: Plan, paid: Any, duals: Duals) -> Tuple[Any, Any]:
-        """The rows' numbers: their own sums."""
-        if not self.units.are_doubles:
-            return duals.numbers, None
-        return bounds.own_numbers(plan.columns, paid, duals)
 
     def judge(self, plan: Plan, paid: Any, duals: Duals, found: Passed, is_exact: bool) -> None:
         """Keeps the best plan and the best bound, and calls the caller's progress. Where the look was exact each row's

@@ -158,11 +158,14 @@ def source_of(costs: Any, shape: Any) -> Rows:
     if isinstance(costs, Rows):
         return costs
     if hasattr(costs, "shape") and hasattr(costs, "dtype"):
-        found = _with_shape(costs)
+        is_mapped = isinstance(costs, numpy.memmap) and isinstance(costs.base, mmap.mmap) and costs.filename is not None
+        found: Rows = Mapped(costs) if is_mapped else Delayed(costs) if hasattr(costs, "dask") else Sliced(costs)
         if shape is not None and tuple(shape) != found.shape:
             raise ValueError(f"costs have the shape {found.shape}, not {tuple(shape)}")
     elif callable(costs):
-        found = Called(costs, _given_shape(shape))
+        if shape is None or len(shape) != 2:
+            raise ValueError("a call needs its shape: how many rows and how many columns")
+        found = Called(costs, (int(shape[0]), int(shape[1])))
     else:
         raise TypeError(f"costs are {type(costs).__name__}: they must be an array of NumPy, zarr or dask, a memmap, or "
                         "a call of two row numbers")
@@ -175,18 +178,6 @@ def check_shape(shape: Tuple[int, int]) -> None:
     rows, columns = shape
     if not (1 <= rows <= MOST_PERSONS and 1 <= columns <= MOST_PERSONS):
         raise ValueError(f"costs have {rows} rows and {columns} columns: there may be 1 to {MOST_PERSONS} of each")
-
-
-def _with_shape(costs: Any) -> Rows:
-    if isinstance(costs, numpy.memmap) and isinstance(costs.base, mmap.mmap) and costs.filename is not None:
-        return Mapped(costs)
-    return Delayed(costs) if hasattr(costs, "dask") else Sliced(costs)
-
-
-def _given_shape(shape: Any) -> Tuple[int, int]:
-    if shape is None or len(shape) != 2:
-        raise ValueError("a call needs its shape: how many rows and how many columns")
-    return int(shape[0]), int(shape[1])
 
 
 def checked(costs: Any, shape: Tuple[int, int], first: int) -> Any:

@@ -248,16 +248,12 @@ class Doubles(ExactNumbers):
     def rounded(self, bits: int) -> Tuple[Any, int]:
         if not len(self.numbers):
             return self.numbers.astype("int64"), 0
-        shift = self.shift(bits)
+        shift = bits - math.frexp(self.size())[1]
         return in_fixed_point(self.numpy, self.numbers, shift), shift
 
     def size(self) -> float:
         """The greatest size of all."""
         return size_of(self.numbers) if self.most is None else self.most
-
-    def shift(self, bits: int) -> int:
-        """The shift that gives the greatest of all so many bits."""
-        return bits - math.frexp(self.size())[1]
 
     def sample(self) -> Any:
         """Some of the numbers."""

@@ -27,11 +27,6 @@ def _is_of_pandas(value: Any, kind: str) -> bool:
     return pandas is not None and isinstance(value, getattr(pandas, kind, ()))
 
 
-def _is_bool(value: Any) -> bool:
-    """Whether this is a bool, also one of NumPy's: as a label it is no number."""
-    return isinstance(value, bool) or getattr(getattr(value, "dtype", None), "kind", "") == "b"
-
-
 class Numbers:
     """The numbers of rows or columns that the caller gives one by one: a whole number is one, anything else a label of
     the frame. `fault` is raised where the frame hasn't this label, and ValueError where it has it several times."""
@@ -44,7 +39,9 @@ class Numbers:
 
     def of(self, value: Any, name: str) -> int:
         """The number of a row or column; `name` is what the caller calls it."""
-        if self.labels is None or hasattr(value, "__index__") and not _is_bool(value):
+        # As a label a bool, also one of NumPy's, is no number.
+        is_bool = isinstance(value, bool) or getattr(getattr(value, "dtype", None), "kind", "") == "b"
+        if self.labels is None or hasattr(value, "__index__") and not is_bool:
             return whole_number(value, name)
         number = self._number(value)
         if number is None:

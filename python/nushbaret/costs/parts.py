@@ -1,6 +1,6 @@
 """Steps over long arrays of NumPy's, a part at a time: a part stays in the processor's cache, and Ctrl-C is heeded in
 between."""
-from typing import Any, Callable, Iterator, List
+from typing import Any, Callable, Iterator
 
 PART = 2**16
 
@@ -22,16 +22,8 @@ def filled(numpy: Any, kind: Any, count: int, work: Work) -> Any:
 
 def places_where(numpy: Any, count: int, work: Work) -> Any:
     """The places, of so many, where `work` says yes for a part."""
-    return joined(numpy, numpy.intp, [work(part).nonzero()[0] + part.start for part in parts(count)])
-
-
-def joined(numpy: Any, kind: Any, arrays: List[Any]) -> Any:
-    """Arrays one after the other."""
-    found, begin = numpy.empty(sum(map(len, arrays)), kind), 0
-    for array in arrays:
-        found[begin:begin + len(array)] = array
-        begin += len(array)
-    return found
+    found = [work(part).nonzero()[0] + part.start for part in parts(count)]
+    return numpy.concatenate(found) if found else numpy.empty(0, numpy.intp)
 
 
 def in_order(numpy: Any, values: Any) -> Any:

@@ -69,14 +69,11 @@ def of_buffer(values: Any) -> Any:
     other values as they are."""
     letter = getattr(values, "typecode", None) or getattr(values, "format",
                                                           None) or getattr(getattr(values, "dtype", None), "char", None)
-    if letter not in _LETTERS or getattr(values, "ndim", 1) != 1 or _has_mask(values):
+    numpy: Any = sys.modules.get("numpy")
+    if letter not in _LETTERS or getattr(values, "ndim", 1) != 1 or (
+            hasattr(numpy, "ma") and isinstance(values, numpy.ma.MaskedArray)):
         return values
     return [shortest(value, letter) for value in values.tolist()]
-
-
-def _has_mask(values: Any) -> bool:
-    numpy = sys.modules.get("numpy")
-    return hasattr(numpy, "ma") and isinstance(values, numpy.ma.MaskedArray)  # type: ignore[union-attr]
 
 
 @lru_cache(maxsize=1)

@@ -53,7 +53,7 @@ class AssignmentProblem(NamedTuple):
 
     def numbers(self, values: Sequence[int]) -> Any:
         """Row or column numbers, as an array if the costs are one."""
-        return in_array(self.arrays, values)
+        return values if self.arrays is None else self.arrays.array(values, self.arrays.intp)
 
     def row_name(self, row: int) -> Any:
         """A row's label, or else its number."""
@@ -62,11 +62,6 @@ class AssignmentProblem(NamedTuple):
     def column_name(self, column: int) -> Any:
         """A column's label, or else its number."""
         return self.labels[1][column] if self.labels else column
-
-
-def in_array(numpy: Any, values: Sequence[int]) -> Any:
-    """Row or column numbers in an array of NumPy's, or as they are without NumPy."""
-    return values if numpy is None else numpy.array(values, numpy.intp)
 
 
 def _place_in(n_columns: int, labels: Labels) -> exact.Where:

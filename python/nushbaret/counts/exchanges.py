@@ -5,7 +5,7 @@ to a column that it could take, and back where it has it. One more vertex is whe
 or less, begin and end. The numbers that prove a plan best are potentials under which no arrow costs less than 0."""
 from collections import Counter, deque
 from heapq import heappop, heappush
-from typing import Any, Dict, List, NamedTuple, Optional, Sequence, Set, Tuple
+from typing import Any, Collection, Dict, Iterator, List, NamedTuple, Optional, Sequence, Set, Tuple
 
 from .counted import Bounds, Counted, Pair, RowGroup
 
@@ -118,7 +118,7 @@ def free_pairs(exchanges: Exchanges) -> List[List[Pair]]:
     potentials = exchanges.potentials
     tight = [[end for end, cost in ends.items() if potentials[begin] + cost == potentials[end]]
              for begin, ends in enumerate(exchanges.arrows)]
-    part = strong_parts(tight)
+    part = _strong_parts(tight)
     groups: Dict[int, List[Pair]] = {}
     for pair, (begin, end) in sorted(exchanges.ends.items()):
         begin, end = (end, begin) if pair in exchanges.chosen else (begin, end)
@@ -201,37 +201,41 @@ def _way(back: Dict[State, Optional[State]], last: State) -> List[int]:
     return way[::-1]
 
 
-def strong_parts(leads: Sequence[Sequence[int]]) -> List[int]:
+def _strong_parts(leads: Sequence[Collection[int]]) -> List[int]:
     """A number for each vertex of a graph: the same for two exactly where arrows lead from each to the other (Sharir
     1981)."""
-    back: List[List[int]] = [[] for _ in leads]
-    for begin, ends in enumerate(leads):
-        for end in ends:
-            back[end].append(begin)
-    part = [-1] * len(leads)
-    for first in reversed(_finished(leads)):
-        waiting = [first] if part[first] < 0 else []
-        while waiting:
-            vertex = waiting.pop()
-            if part[vertex] < 0:
-                part[vertex] = first
-                waiting += back[vertex]
+    part = [0] * len(leads)
+    done = [vertex for tree in _trees(leads, range(len(leads))) for vertex in tree]
+    for number, tree in enumerate(_trees(turned(leads), done[::-1])):
+        for vertex in tree:
+            part[vertex] = number
     return part
 
 
-def _finished(leads: Sequence[Sequence[int]]) -> List[int]:
-    """The vertices in the order in which a search into the depth is done with them."""
-    seen, order = [False] * len(leads), []
-    for first in range(len(leads)):
+def turned(arrows: Sequence[Collection[int]]) -> List[List[int]]:
+    """The arrows the other way round."""
+    found: List[List[int]] = [[] for _ in arrows]
+    for begin, ends in enumerate(arrows):
+        for end in ends:
+            found[end].append(begin)
+    return found
+
+
+def _trees(leads: Sequence[Collection[int]], order: Sequence[int]) -> Iterator[List[int]]:
+    """What searches into the depth find from one vertex after the other, in the order in which they are done with
+    it."""
+    seen = [False] * len(leads)
+    for first in order:
+        tree: List[int] = []
         way: List[Tuple[int, Any]] = [] if seen[first] else [(first, iter(leads[first]))]
         seen[first] = True
         while way:
             vertex, ends = way[-1]
             end = next((end for end in ends if not seen[end]), None)
             if end is None:
-                order.append(vertex)
+                tree.append(vertex)
                 way.pop()
             else:
                 seen[end] = True
                 way.append((end, iter(leads[end])))
-    return order
+        yield tree

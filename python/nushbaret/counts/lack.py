@@ -7,8 +7,9 @@ short, in connected parts."""
 from collections import Counter
 from typing import Any, Collection, Dict, List, NamedTuple, Sequence, Set
 
+from ..lap.matching import connected
 from .counted import Bounds, Counted, Marked, RowGroup, solved
-from .exchanges import exchanges_of
+from .exchanges import exchanges_of, turned
 from .narrowed import Part, narrowed
 
 
@@ -46,18 +47,9 @@ def _of_side(counted: Counted, of_columns: bool) -> List[Lack]:
     arrows: Sequence[Collection[int]] = exchanges_of(own, chosen, found.row_numbers, found.column_numbers).arrows
     had, n_rows, n_columns = Counter(pair[of_columns] for pair in chosen), len(sides[0]), len(sides[1])
     starts = [number + n_rows * of_columns for number, bound in enumerate(needs) if had[number] < bound.most]
-    reached = _reached(_turned(arrows) if of_columns else arrows, starts, n_rows + n_columns)
+    reached = _reached(turned(arrows) if of_columns else arrows, starts, n_rows + n_columns)
     return _parted(counted, of_columns, {vertex for vertex in reached if vertex < n_rows},
                    {vertex - n_rows for vertex in reached if n_rows <= vertex < n_rows + n_columns})
-
-
-def _turned(arrows: Sequence[Collection[int]]) -> List[List[int]]:
-    """The arrows the other way round."""
-    turned: List[List[int]] = [[] for _ in arrows]
-    for begin, ends in enumerate(arrows):
-        for end in ends:
-            turned[end].append(begin)
-    return turned
 
 
 def _reached(arrows: Sequence[Collection[int]], starts: List[int], barred: int) -> Set[int]:
@@ -81,8 +73,8 @@ def _parted(counted: Counted, of_columns: bool, rows: Set[int], columns: Set[int
             limits[column].add(row if row in rows else row_group)
         elif not of_columns and row in rows:
             limits[row].add(row_group if row_group in outside else column)
-    return [_lack(counted, of_columns, sorted(names), set().union(*map(limits.__getitem__, names)))
-            for names in _parts(limits)]
+    return [_lack(counted, of_columns, names, set().union(*map(limits.__getitem__, names)))
+            for names in connected(limits)]
 
 
 def _lack(counted: Counted, of_columns: bool, names: List[int], limits: Set[Any]) -> Lack:
@@ -93,25 +85,6 @@ def _lack(counted: Counted, of_columns: bool, names: List[int], limits: Set[Any]
         needs, most = most, needs
     wanted, had = sum(needs[name].least for name in names), sum(most[other].most for other in others) + len(once)
     return Lack(of_columns, *((others, names) if of_columns else (names, others)), once, wanted, had)
-
-
-def _parts(links: Dict[int, Set[Any]]) -> List[Set[int]]:
-    """The connected parts of names, by what they are linked to, in the order of the first ones."""
-    back: Dict[Any, List[int]] = {}
-    for name, ends in links.items():
-        for end in ends:
-            back.setdefault(end, []).append(name)
-    parts: List[Set[int]] = []
-    seen: Set[int] = set()
-    for first in links:
-        part, waiting = {first}, [] if first in seen else [first]
-        while waiting:
-            fresh = {name for end in links[waiting.pop()] for name in back.pop(end, ())} - part
-            part |= fresh
-            waiting += fresh
-        parts += [] if first in seen else [part]
-        seen |= part
-    return parts
 
 
 class Cut(NamedTuple):

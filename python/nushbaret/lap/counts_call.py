@@ -2,7 +2,7 @@
 import ctypes
 from array import array
 from itertools import chain
-from typing import Any, Callable, List, NamedTuple, NoReturn, Optional, Sequence, Tuple
+from typing import Any, Callable, List, NamedTuple, Optional, Sequence, Tuple
 
 from .library import PIECES, Pace, address, address_and_count, look_at_time
 
@@ -66,10 +66,8 @@ def searched_counts(given: Sequence[Any], n: int, m: int, after: Optional[Callab
         code = loaded()(int(maximize), *words, pace.budget(), ctypes.addressof(record), ctypes.addressof(info))
         if code in (BEST, STOPPED) and after is not None:
             after(plan)
-    return Written(code, plan, numbers, marks) if code in (BEST, ROWS_LACK, COLUMNS_LACK) else _refuse(code)
-
-
-def _refuse(code: int) -> NoReturn:
     if code == _MEMORY:
         raise MemoryError("the library was refused memory")
-    raise RuntimeError(f"the library gives no answer to counts, by its code {code}: please report this problem")
+    if code not in (BEST, ROWS_LACK, COLUMNS_LACK):
+        raise RuntimeError(f"the library gives no answer to counts, by its code {code}: please report this problem")
+    return Written(code, plan, numbers, marks)

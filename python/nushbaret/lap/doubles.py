@@ -44,16 +44,12 @@ def search(sense: bool, n: int, m: int, costs: Any, objects: Any, prices: Any) -
     """A plan that the library proves best for doubles, from these objects (0: nobody's) and prices, which are written;
     None where it finds none, or none that it can prove. MemoryError where memory is refused."""
     info, persons = DoublesInfo(), array("I", bytes(4 * n))
-    lists = [word for values in (costs, objects, persons, prices) for word in _address_and_count(values)]
+    lists = [word for values in (costs, objects, persons, prices) for word in (
+        values.buffer_info() if isinstance(values, array) else (values.ctypes.data, values.size))]
     code = _call()(int(sense), n, m, *lists, ctypes.addressof(info))
     if code == library.CODES.index("MEMORY"):
         raise MemoryError("the library was refused memory")
     return None if code else DoublesPlan(objects, prices, bool(info.by_margin))
-
-
-def _address_and_count(values: Any) -> Tuple[int, int]:
-    """Address and count of an array of either kind."""
-    return values.buffer_info() if isinstance(values, array) else (values.ctypes.data, values.size)
 
 
 def start(sense: bool, n: int, m: int, costs: Any, longest: Optional[int] = None) -> Tuple[Any, Any]:

@@ -20,7 +20,7 @@ from typing import Any, List, NamedTuple, Optional, Sequence, Tuple, Union
 
 from ..costs import parts
 from ..costs.kinds import WholeNumbers
-from ..costs.numbers import Ratio, in_unit, unit_of
+from ..costs.numbers import in_unit, unit_of
 from ..costs.problem import AssignmentProblem
 from . import proved, units, wide
 
@@ -41,7 +41,9 @@ class Level(NamedTuple):
 def answer(problem: AssignmentProblem, assigned: Optional[int]) -> Union[proved.Assignment, proved.HallSet]:
     """The best plan of so many pairs, and its prices."""
     with problem.numpy.errstate(all="ignore") if problem.numpy else contextlib.nullcontext():
-        costs, places = units.whole_costs(problem.costs), _places(problem)
+        costs, numpy, count = units.whole_costs(problem.costs), problem.numpy, len(problem.costs)
+        # The places of the costs, in their stead; that of a dummy's is -1.
+        places = WholeNumbers(numpy.arange(count) if numpy else array("q", range(count)), numpy=numpy)
         asked = proved.instance_of(problem._replace(costs=places), assigned, -1)
         numbers = costs.numbers[:-1] if asked.costs is places.numbers else costs.at(asked.costs)
         found = wide.solved(problem.maximize, asked._replace(costs=wide.words_of(numbers)))
@@ -50,12 +52,6 @@ def answer(problem: AssignmentProblem, assigned: Optional[int]) -> Union[proved.
         if costs.is_exact:
             return _in_unit(problem, asked, found, costs.part)
         return _finer(problem, asked, costs.part, found, _near(problem, asked, numbers, found))
-
-
-def _places(problem: AssignmentProblem) -> WholeNumbers:
-    """The places of the costs, in their stead; that of a dummy's is -1."""
-    numpy, count = problem.numpy, len(problem.costs)
-    return WholeNumbers(numpy.arange(count) if numpy else array("q", range(count)), numpy=numpy)
 
 
 def _in_unit(problem: AssignmentProblem, asked: proved.Instance, plan: wide.WidePlan,
@@ -126,7 +122,10 @@ def _own(own: Sequence[int], persons: Sequence[int], objects: Sequence[int], pai
 def _finer(problem: AssignmentProblem, asked: proved.Instance, part: Fraction, plan: wide.WidePlan,
            places: Any) -> proved.Assignment:
     """The answer by the exact costs of the pairs at some places, from the plan and the prices of rounded ones."""
-    ratios = _ratios_at(problem, _at(asked.costs, places))
+    wanted = _at(asked.costs, places)
+    held = _at(problem.costs.numbers, problem.numpy.array(wanted, problem.numpy.intp) if problem.numpy else wanted)
+    # Those of dummies, at -1, are 0.
+    ratios = problem.costs.ratios_in_unit([0 if place < 0 else cost for cost, place in zip(held, wanted)])
     unit = unit_of(set((1, denominator) for _, denominator in ratios), True)
     if unit.denominator * part < 1:
         unit = unit._replace(denominator=unit.denominator * 10**len(str(int(1 / (part * unit.denominator)))))
@@ -137,12 +136,6 @@ def _finer(problem: AssignmentProblem, asked: proved.Instance, part: Fraction, p
     level = Level(asked.n, asked.m, *_pairs(asked, places), costs, wide.WidePlan(plan.objects, prices),
                   int(scaled) + 1)
     return _in_unit(problem, asked, _settled(level), Fraction(1, unit.denominator))
-
-
-def _ratios_at(problem: AssignmentProblem, places: Sequence[int]) -> List[Ratio]:
-    """The costs at some places, in the unit of the costs; 0 for those of dummies, at -1."""
-    held = _at(problem.costs.numbers, problem.numpy.array(places, problem.numpy.intp) if problem.numpy else places)
-    return problem.costs.ratios_in_unit([0 if place < 0 else cost for cost, place in zip(held, places)])
 
 
 # From level to level, in whole numbers.

@@ -3,7 +3,7 @@ these are all nodes that an unmatched one reaches, in connected parts."""
 from array import array
 from itertools import compress, islice
 from operator import le
-from typing import Any, Dict, List, NamedTuple, Set, Tuple
+from typing import Any, Dict, Iterable, List, Mapping, NamedTuple, Set, Tuple
 
 from ..costs.problem import AssignmentProblem
 from . import library
@@ -57,7 +57,7 @@ def short_groups(problem: AssignmentProblem) -> List[Tuple[List[int], List[int]]
     count, other = sorted((problem.n_rows, problem.n_columns))
     nodes, others = (problem.objects, problem.persons) if of_columns else (problem.persons, problem.objects)
     lists = _reached(count, other, *by_nodes(nodes, others))
-    groups = _parts(sorted(lists), lists)
+    groups = [Group(part, sorted(set().union(*map(lists.__getitem__, part)))) for part in connected(lists)]
     for group in groups:
         prove_short(group, lists)
     return [(group.few, group.many) if of_columns else (group.many, group.few) for group in groups]
@@ -76,30 +76,23 @@ def _reached(count: int, other: int, nodes: Any, others: Any) -> Lists:
     return lists
 
 
-def _parts(reached: List[int], lists: Lists) -> List[Group]:
-    """The connected parts of some nodes with what they list."""
-    who: Dict[int, List[int]] = {}
-    for node in reached:
-        for item in lists[node]:
-            who.setdefault(item, []).append(node)
-    left, parts = set(reached), []
-    for first in reached:
-        if first in left:
-            parts.append(_part(first, left, lists, who))
+def connected(links: Mapping[int, Iterable[Any]]) -> List[List[int]]:
+    """The connected parts of names, by what they are linked to, in the order of the first ones."""
+    back: Dict[Any, List[int]] = {}
+    for name, ends in links.items():
+        for end in ends:
+            back.setdefault(end, []).append(name)
+    parts: List[List[int]] = []
+    seen: Set[int] = set()
+    for first in links:
+        part, waiting = {first}, [] if first in seen else [first]
+        while waiting:
+            fresh = {name for end in links[waiting.pop()] for name in back.pop(end, ())} - part
+            part |= fresh
+            waiting += fresh
+        parts += [] if first in seen else [sorted(part)]
+        seen |= part
     return parts
-
-
-def _part(first: int, left: Set[int], lists: Lists, who: Dict[int, List[int]]) -> Group:
-    left.discard(first)
-    waiting, many, few = [first], [first], set()
-    while waiting:
-        fresh = [item for item in lists[waiting.pop()] if item not in few]
-        few.update(fresh)
-        near = sorted({node for item in fresh for node in who[item] if node in left})
-        left.difference_update(near)
-        many += near
-        waiting += near
-    return Group(sorted(many), sorted(few))
 
 
 def prove_short(group: Group, lists: Lists) -> None:

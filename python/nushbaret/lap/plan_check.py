@@ -33,9 +33,7 @@ def check_wholly(problem: AssignmentProblem, rows: Sequence[int], columns: Seque
     if not found or count == min(problem.n_rows, problem.n_columns):
         return found
     most = most_assigned(problem)
-    if most > count:
-        return CheckOutcome(f"{counted(count, 'row')} of {problem.n_rows} {_has(count)} a column, and {most} can")
-    return found
+    return _too_few(problem, count, most) if most > count else found
 
 
 def check_problem(problem: AssignmentProblem, rows: Sequence[int], columns: Sequence[int],
@@ -43,7 +41,9 @@ def check_problem(problem: AssignmentProblem, rows: Sequence[int], columns: Sequ
     """As `check_wholly`, among plans of as many pairs."""
     pairs = list(zip(rows, columns))
     if not pairs:
-        return _of_none(problem)
+        can_none = not min(problem.n_rows, problem.n_columns) or problem.persons is not None and not len(
+            problem.persons)
+        return CheckOutcome("" if can_none else "no row has a column")
     costs = costs_of_pairs(problem, rows, columns)
     given_columns = set()
     for (row, column), cost in zip(pairs, costs):
@@ -55,8 +55,7 @@ def check_problem(problem: AssignmentProblem, rows: Sequence[int], columns: Sequ
         given_columns.add(column)
     most = min(problem.n_rows, problem.n_columns)
     if problem.persons is None and len(pairs) < most:
-        return CheckOutcome(f"{counted(len(pairs), 'row')} of {problem.n_rows} {_has(len(pairs))} a column, and {most} "
-                            "can")
+        return _too_few(problem, len(pairs), most)
     found = None
     if problem.costs.of_64_bits() is not None:
         found = _judged(problem, pairs, costs, prices)
@@ -67,14 +66,9 @@ def counted(count: int, word: str) -> str:
     return f"{count} {word}" if count == 1 else f"{count} {word}s"
 
 
-def _has(count: int) -> str:
-    return "has" if count == 1 else "have"
-
-
-def _of_none(problem: AssignmentProblem) -> CheckOutcome:
-    if not min(problem.n_rows, problem.n_columns) or problem.persons is not None and not len(problem.persons):
-        return CheckOutcome()
-    return CheckOutcome("no row has a column")
+def _too_few(problem: AssignmentProblem, count: int, most: int) -> CheckOutcome:
+    has = "has" if count == 1 else "have"
+    return CheckOutcome(f"{counted(count, 'row')} of {problem.n_rows} {has} a column, and {most} can")
 
 
 def _judged(problem: AssignmentProblem, pairs: List[Tuple[int, int]], costs: List[int],
@@ -170,17 +164,13 @@ def _judged_exactly(problem: AssignmentProblem, pairs: List[Tuple[int, int]], co
     used = {column for _, column in pairs}
     overpriced = {column: price - lowest for column, price in enumerate(prices) if column not in used}
     whole = sum(slack.values()) + sum(overpriced.values())
-    if not whole or whole * _unit_of_all(problem).denominator < unit.denominator:
+    # All costs are multiples of this unit.
+    if not whole or whole * in_whole_numbers(problem).unit.denominator < unit.denominator:
         return CheckOutcome()
     row = next((row for row, more in slack.items() if more), None)
     if row is not None:
         return _better_off(problem, row, rows[row].column)  # type: ignore[union-attr]
     return _overpriced(problem, prices, next(column for column, more in overpriced.items() if more))
-
-
-def _unit_of_all(problem: AssignmentProblem) -> Unit:
-    """The unit of which all costs are multiples."""
-    return in_whole_numbers(problem).unit
 
 
 Bests = Tuple[Unit, List[Optional[_Best]]]

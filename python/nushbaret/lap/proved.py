@@ -6,7 +6,7 @@ persons are to stay out. Then at least the requested number of pairs is made, an
 more."""
 from array import array
 from fractions import Fraction
-from typing import Any, List, NamedTuple, NoReturn, Optional, Sequence, Tuple, Union
+from typing import Any, Dict, List, NamedTuple, NoReturn, Optional, Sequence, Tuple, Union
 
 from ..costs import naming
 from ..costs.limits import GREATEST_PRICE, MOST_PERSONS, Numbers, TooLarge
@@ -152,14 +152,27 @@ def is_only(problem: AssignmentProblem, best: Assignment) -> Optional[bool]:
 
 def groups(problem: AssignmentProblem, best: Assignment) -> Optional[Numbers]:
     """The number of each object's group, by `nushbaret_groups`: the same for two that can change places without another
-    cost. None where it can't be asked."""
-    about = _asked_about(problem, best)
+    cost; dummies are among them. None where it can't be asked."""
+    most = max(problem.n_rows, problem.n_columns)
+    about = _asked_about(problem, best._replace(m=most))
     if about is None:
         return None
-    sense, n, m, lists, objects, prices = about
-    found = array("I", bytes(4 * m))
-    code, info = library.call("groups", sense, n, m, *lists, objects, prices, found)
+    sense, n, _, lists, objects, prices = about
+    out = {person: item for person, item in enumerate(objects, 1) if item > most}
+    if out:
+        lists = [joined(problem.numpy, own, more) for own, more in zip(lists, _exchanged(n, out))]
+    found = array("I", bytes(4 * best.m))
+    code, info = library.call("groups", sense, n, best.m, *lists, objects, prices, found)
     return found if code == "BEST" else refuse(code, info)
+
+
+def _exchanged(n: int, out: Dict[int, int]) -> Tuple[Any, Any, Any]:
+    """Persons, objects and costs of pairs with the dummies of who stays out, by which all can be exchanged: everybody
+    lists the first one, and who has that lists all others."""
+    (first, dummy), *others = out.items()
+    persons = array("I", [*range(1, n + 1), *(person for person, _ in others), *[first] * len(others)])
+    objects = array("I", [dummy] * n + [item for _, item in others] * 2)
+    return persons, objects, array("q", bytes(8 * len(persons)))
 
 
 def next_objects(problem: AssignmentProblem, best: Assignment) -> Tuple[str, Any]:
@@ -218,14 +231,6 @@ class ResultParts(NamedTuple):
     columns: Any
     costs: List[Any]
     as_arrays: bool
-
-    def without_pairs(self) -> "ResultParts":
-        """The same without the lists that follow from the answer."""
-        return self._replace(rows=None, columns=None)
-
-    def with_pairs(self, rows: Any, columns: Any) -> "ResultParts":
-        """The same with these lists again."""
-        return self._replace(rows=rows, columns=columns)
 
 
 # Duals in the field's words, in whole costs.

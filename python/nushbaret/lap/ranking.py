@@ -167,7 +167,10 @@ class Ranking:
     def _reduced(self, problem: AssignmentProblem) -> Window:
         """All pairs of a problem."""
         problem, n_columns = in_whole_numbers(problem), problem.n_columns
-        unit = _common(problem.unit, self.unit_of_duals)
+        # The greatest unit of which both are multiples, which shows numbers as that of the costs does.
+        unit = problem.unit
+        if unit.denominator % self.unit_of_duals.denominator:
+            unit = unit_of(((1, own.denominator) for own in (unit, self.unit_of_duals)), unit.decimals is None)
         times, of_duals = (unit.denominator // own.denominator for own in (problem.unit, self.unit_of_duals))
         rows, columns, out = ([of_duals * dual for dual in own] for own in (*self.duals[:2], [self.duals.unmatched]))
         pairs: Dict[Tuple[int, int], int] = {}
@@ -394,10 +397,3 @@ def _bound(numpy: Any, reduced: Any, count: int, error: float) -> float:
     """A bound up to which so many of some reduced costs are, and what is off by an error."""
     usual = float(numpy.partition(reduced, count - 1)[count - 1]) if count else 0.0
     return max(usual, 0.0) + 2 * error
-
-
-def _common(first: Unit, second: Unit) -> Unit:
-    """The greatest unit of which two are multiples, which shows numbers as the first does."""
-    if first.denominator % second.denominator == 0:
-        return first
-    return unit_of(((1, first.denominator), (1, second.denominator)), first.decimals is None)

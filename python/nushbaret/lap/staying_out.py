@@ -2,7 +2,7 @@
 often as persons stay out, and the library's call on counts solves that."""
 from array import array
 from itertools import compress
-from typing import Any, List, Optional, Sequence
+from typing import Any, Optional, Sequence
 
 from ..costs.limits import GREATEST_COST
 from ..costs.orientation import oriented
@@ -34,20 +34,12 @@ def solved_by_counts(problem: AssignmentProblem, assigned: int) -> Optional[Assi
     more = array("I", range(1, n + 1)), array("I", [out]) * n, array("q", [0]) * n
     lists = by_nodes(*(joined(problem.numpy, own, others) for own, others in zip(
         (*oriented(problem, problem.persons, problem.objects), costs), more)))
-    written = searched_counts([*lists, *_counts(n, out, dummies), more[0][:0]], n, out, _shown(n), problem.maximize)
+    none, one, progress = array("I", [0]), array("I", [1]), progress_asked()
+    shown = None if progress is None else lambda plan: progress(sum(plan), n)
+    # Least and greatest counts of persons, and of objects, whose last one is that of staying out.
+    counts = one * n, one * n, none * out, one * (out - 1) + array("I", [dummies])
+    written = searched_counts([*lists, *counts, none[:0]], n, out, shown, problem.maximize)
     return _assignment(lists, written, out, m) if written.code == BEST else None
-
-
-def _counts(n: int, out: int, dummies: int) -> List[Any]:
-    """Least and greatest counts of persons, and of objects, whose last one is that of staying out."""
-    none, one = array("I", [0]), array("I", [1])
-    return [one * n, one * n, none * out, one * (out - 1) + array("I", [dummies])]
-
-
-def _shown(n: int) -> Any:
-    """What calls `progress`, where it was asked for."""
-    progress = progress_asked()
-    return None if progress is None else lambda plan: progress(sum(plan), n)
 
 
 def _assignment(lists: Sequence[Any], written: Written, out: int, m: int) -> Assignment:

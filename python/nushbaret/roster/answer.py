@@ -12,9 +12,9 @@ from ..lap.matching import short_groups
 from ..lap.ranking import plans_in_order
 from ..lap.solving import BestPlan, best_plan, rents_of
 from .groups import Paired, missing_of, order_of
-from .names import SHARED, NamesShown, joined, numbered, said
+from .names import SHARED, NamesShown, first_of, numbered, said
 from .roster import OldPlan, PlanLine, Roster
-from .single_nodes import RosterNodes, Swap, changed, kept_most, least_costs, nodes_without, problem_of, swaps_of
+from .single_nodes import RosterNodes, Swap, changed, kept_most, nodes_without, problem_of, swaps_of
 
 MOST_NAMES_SHOWN = 20
 # A person and an object, by number.
@@ -92,17 +92,13 @@ class Request(NamedTuple):
     plans: int = 1
 
 
-def nodes_around(roster: Roster, fixed: Sequence[PlanLine]) -> RosterNodes:
-    """What is left to solve around the fixed pairs."""
-    nodes = RosterNodes(list(range(len(roster.persons))), list(range(len(roster.objects))), roster.of_persons,
-                        roster.of_objects, roster.costs, roster.is_full)
-    return nodes_without(nodes, [(pair.person, pair.object) for pair in fixed]) if fixed else nodes
-
-
 def answer_of(roster: Roster, request: Request) -> Answer:
     """The answer to a roster in which each name counts once; TooLarge where it is so for the library."""
-    nodes = nodes_around(roster, request.fixed)
-    costs = least_costs(nodes, request.maximize)
+    nodes = RosterNodes(list(range(len(roster.persons))), list(range(len(roster.objects))), roster.of_persons,
+                        roster.of_objects, roster.costs, roster.is_full)
+    if request.fixed:
+        nodes = nodes_without(nodes, pairs_of(request.fixed))
+    costs = array("q", map(int.__neg__, nodes.costs)) if request.maximize else nodes.costs
     if request.kept is not None and request.change:
         costs = changed(nodes, costs, request.kept, request.change)
     problem = problem_of(nodes, costs)
@@ -229,8 +225,7 @@ def plural(word: str) -> str:
 
 def listed(names: List[str], numbers: List[int]) -> str:
     """Names in a row, the first twenty of many."""
-    more = len(numbers) - MOST_NAMES_SHOWN
-    return joined([names[number] for number in numbers[:MOST_NAMES_SHOWN]]) + (f" and {more} more" if more > 0 else "")
+    return first_of([names[number] for number in numbers], MOST_NAMES_SHOWN)
 
 
 def named(numbers: List[int], word: str, names: List[str]) -> str:

@@ -10,21 +10,25 @@ from .answer import Answer, Request, ShortGroup, plan_of, with_following
 from .names import said
 from .roster import PlanLine, Roster
 from .sentences import sentence_of
-from .single_nodes import swaps_of_pairs
+from .single_nodes import Swap
 
 
 def answer_by_counts(roster: Roster, request: Request) -> Answer:
     """The answer to a roster with counts or groups; TooLarge where it is so for the library."""
     counted = counted_of(roster, request)
     lacks, plans = planned(counted, request.fullest)
-    groups = [_short(roster, counted, lack, _around(roster, request.fixed)) for lack in lacks]
+    # What stands, and is planned around, in words.
+    is_past = {pair.object in roster.past for pair in request.fixed}
+    names = [said("the past")] * (True in is_past) + [said("the fixed pairs")] * (False in is_past)
+    around = said("around", said("and").join(names)) if names else ""
+    groups = [_short(roster, counted, lack, around) for lack in lacks]
     if plans is None:
         return Answer(None, groups)
     if request.kept is not None and request.change is not None:
         return Answer(plan_of(roster, request.fixed, plans.pairs()), groups)
     if request.kept is not None:
         plans = with_fewest_changes(plans, request.kept)
-    swaps = swaps_of_pairs(plans.free_pairs())
+    swaps = [Swap(*(sorted(set(side)) for side in zip(*pairs))) for pairs in plans.free_pairs()]
     plan = plan_of(roster, request.fixed, plans.pairs())._replace(swaps=swaps, is_only_one=not swaps)
     count = max(request.plans - 1, int(request.others and not swaps))
     following = [plan_of(roster, request.fixed, sorted(other.pairs)) for other in islice(plans.after(), count)]
@@ -34,7 +38,9 @@ def answer_by_counts(roster: Roster, request: Request) -> Answer:
 def counted_of(roster: Roster, request: Request) -> Counted:
     """What is left to plan around the fixed pairs, with costs that are to be least. Where changes cost, these are
     doubled: half of what a change costs is that of a pair that comes, and of one that goes."""
-    group_of, n_groups = _groups(roster)
+    # Objects in no group come after the groups that were given.
+    n_groups, in_group = (len(roster.groups.names), roster.groups.of_objects) if roster.groups else (0, {})
+    group_of = [in_group.get(object_, n_groups + object_) for object_ in range(len(roster.objects))]
     taken = {(pair.person, group_of[pair.object]) for pair in request.fixed}
     sign = -1 if request.maximize else 1
     rows: List[int] = []
@@ -51,15 +57,6 @@ def counted_of(roster: Roster, request: Request) -> Counted:
     return Counted(*bounds_around(roster, request.fixed), group_of, n_groups, rows, columns, costs)
 
 
-def _groups(roster: Roster) -> Tuple[List[int], int]:
-    """The group of each object, and how many were given; objects in none come after these."""
-    groups = roster.groups
-    if groups is None:
-        return list(range(len(roster.objects))), 0
-    count = len(groups.names)
-    return [groups.of_objects.get(object_, count + object_) for object_ in range(len(roster.objects))], count
-
-
 def bounds_around(roster: Roster, fixed: Sequence[PlanLine]) -> Tuple[List[Bounds], List[Bounds]]:
     """How many each person and each object takes in addition to fixed pairs, in the past none. With single numbers the
     smaller side takes all."""
@@ -72,13 +69,6 @@ def bounds_around(roster: Roster, fixed: Sequence[PlanLine]) -> Tuple[List[Bound
     assigned = persons if sum(own.most for own in persons) <= sum(own.most for own in objects) else objects
     assigned[:] = [Bounds(own.most, own.most) for own in assigned]
     return persons, objects
-
-
-def _around(roster: Roster, fixed: Sequence[PlanLine]) -> str:
-    """What stands, and is planned around, in words."""
-    is_past = {pair.object in roster.past for pair in fixed}
-    names = [said("the past")] * (True in is_past) + [said("the fixed pairs")] * (False in is_past)
-    return said("around", said("and").join(names)) if names else ""
 
 
 def _short(roster: Roster, counted: Counted, lack: Lack, around: str) -> ShortGroup:

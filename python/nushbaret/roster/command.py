@@ -60,7 +60,8 @@ def main(words: Optional[Sequence[str]] = None) -> int:
     except WordsFault as fault:
         return _refused(fault, WORDS)
     except (OSError, OutputFault) as fault:
-        return _refused(_device(fault), DEVICE)
+        return _refused(f"{shown_path(str(fault.filename))}: {fault.strerror}" if isinstance(fault, OSError)
+                        and fault.filename is not None else fault, DEVICE)
     except MemoryError:
         return _refused("memory refused", DEVICE)
     except KeyboardInterrupt:
@@ -81,12 +82,6 @@ def _own_fault(fault: Exception) -> int:
 def _refused(fault: object, status: int) -> int:
     _say(str(fault))
     return status
-
-
-def _device(fault: Exception) -> str:
-    if isinstance(fault, OSError) and fault.filename is not None:
-        return f"{shown_path(str(fault.filename))}: {fault.strerror}"
-    return str(fault)
 
 
 def _run(options: Options) -> int:
@@ -138,11 +133,15 @@ def _report(options: Options, roster: Roster) -> Report:
     # Counts may have changed since an earlier plan: what of it can't be any more is changed.
     kept = read_old_plan(options.keep, roster, not roster.ruled) if options.keep else None
     roster, kept, past = _read_past(options, roster, kept)
-    fixed = _read_fixed(options.fixed, roster) if options.fixed else []
+    fixed = read_plan(options.fixed, roster) if options.fixed else []
+    refuse_two_of_a_group(options.fixed or "", roster, fixed)
     if past is not None:
         from .past import with_fixed
         fixed = with_fixed(roster, past, fixed, options.fixed or "")
-    ruling = _read_rules(options, roster)
+    ruling: Optional["Ruling"] = None
+    if options.rules is not None:
+        from .rules.ruling import read_ruling
+        ruling = read_ruling(options, roster, _say)
     hand = _read_hand(options.compare, roster, fixed, ruling) if options.compare else None
     pairs = None if kept is None else {(pair.person, pair.object) for pair in kept.known}
     request = Request(fixed, options.max, options.as_many_as_can, pairs, change_cost(options, roster), options.others,
@@ -163,14 +162,6 @@ def _report(options: Options, roster: Roster) -> Report:
     return Report(options, roster, answer, kept, hand, fair, proved, ruling)
 
 
-def _read_rules(options: Options, roster: Roster) -> Optional["Ruling"]:
-    """The rules of a file, if there is one."""
-    if options.rules is None:
-        return None
-    from .rules.ruling import read_ruling
-    return read_ruling(options, roster, _say)
-
-
 def _read_hand(path: str, roster: Roster, fixed: List[PlanLine], ruling: Optional["Ruling"]) -> Hand:
     """The plan that is to be compared, and the rules that it breaks."""
     from .rules.broken_rules import broken_rules, lack_of
@@ -178,10 +169,9 @@ def _read_hand(path: str, roster: Roster, fixed: List[PlanLine], ruling: Optiona
     broken = broken_rules(roster, plan, repeated, fixed)
     missed = 0
     if ruling is not None:
-        from .rules.ruling import broken_rules_of, missed_cost_of
-        pairs = [*plan.known, *(PlanLine(*pair, 0) for pair in plan.forbidden)]
-        broken += broken_rules_of(ruling, roster, pairs)
-        missed = missed_cost_of(ruling, roster, pairs)
+        from .rules.ruling import judged
+        more, missed = judged(ruling, roster, [*plan.known, *(PlanLine(*pair, 0) for pair in plan.forbidden)])
+        broken += more
     return Hand(plan, broken, lack_of(roster, plan.known, fixed), missed=missed)
 
 
@@ -224,8 +214,10 @@ def _read(options: Options) -> Roster:
         _refuse_without_groups(options, roster)
         roster = with_rules(roster, tasks, capacities, read_groups(options.groups, roster, options.before is not None)
                             if options.groups else None)
-        if capacities is not None and tasks is None and not any(bounds.least for bounds in capacities.bounds.values()):
-            _say_nobody(roster, capacities.path)
+        takes_nobody = not any(roster.of_object(object_).least for object_ in range(len(roster.objects)))
+        if (capacities is not None and tasks is None and not any(bounds.least for bounds in capacities.bounds.values())
+                and roster.has_bounds and takes_nobody and not roster.wanted):
+            _say(f"{capacities.path}: each place may stay empty, and without --tasks nobody has to be placed")
         forgotten = [forgotten_line(roster, counts, side) for side, counts in ((1, capacities), (0, tasks))
                      if counts is not None]
     finally:
@@ -244,24 +236,11 @@ def _refuse_without_groups(options: Options, roster: Roster) -> None:
             raise WordsFault("nushbaret: --past needs --keep and --groups")
 
 
-def _say_nobody(roster: Roster, path: str) -> None:
-    """Says that no plan has to have anybody, where all that places take is nobody at least."""
-    takes_nobody = not any(roster.of_object(object_).least for object_ in range(len(roster.objects)))
-    if roster.has_bounds and takes_nobody and not roster.wanted:
-        _say(f"{path}: each place may stay empty, and without --tasks nobody has to be placed")
-
-
 def _say(line: str) -> None:
     """Prints a line on standard error, if that is open."""
     if sys.stderr is not None:
         with contextlib.suppress(OSError):
             print(line, file=sys.stderr)
-
-
-def _read_fixed(path: str, roster: Roster) -> List[PlanLine]:
-    fixed = read_plan(path, roster)
-    refuse_two_of_a_group(path, roster, fixed)
-    return fixed
 
 
 def change_cost(options: Options, roster: Roster) -> Optional[int]:
@@ -337,12 +316,6 @@ def _lines_on_each(report: Report) -> List[str]:
             else lines_on_calendars(report.roster, plan, folder))
 
 
-def title_of(options: Options, output: Output) -> str:
-    """The title of a page: its file's name without its end; of a page on a device or a pipe that of the roster."""
-    return (heading_of(options.roster) if output.is_standard or is_device(output.path)
-            else os.path.splitext(os.path.basename(output.path))[0])
-
-
 def content_of(report: Report, lines: List[str], output: Output) -> bytes:
     """What is written to an output. Standard output is UTF-8."""
     kind = output.kind
@@ -351,7 +324,9 @@ def content_of(report: Report, lines: List[str], output: Output) -> bytes:
         return as_json(report, lines).encode()
     if kind == "html":
         from .output.page import page
-        return page(report, title_of(report.options, output)).encode()
+        is_file = not output.is_standard and not is_device(output.path)
+        return page(report, os.path.splitext(os.path.basename(output.path))[0] if is_file
+                    else heading_of(report.options.roster)).encode()
     plan = report.answer.plan
     if plan is None:
         raise ValueError("there is no plan")

@@ -69,7 +69,8 @@ def read_daily_lines(sheet: Sheet, costs: CostColumn) -> Daily:
     _, title = sheet.title()
     rows = list(sheet.body(_COLUMNS))
     day = 2 if _are_dates([cells[2] for _, cells in rows]) and not _are_dates([cells[1] for _, cells in rows]) else 1
-    titles = [sheet.name(cell, 1, column) if cell else _named(column) for column, cell in enumerate(title, 1)]
+    titles = [sheet.name(cell, 1, column) if cell else TITLES[2 if column == _COLUMNS else 0]
+              for column, cell in enumerate(title, 1)]
     persons, objects = Names(sheet, "persons"), _Objects(sheet, titles[day])
     of_persons, of_objects = array("I"), array("I")
     before: Dict[Tuple[int, int], int] = {}
@@ -86,10 +87,6 @@ def read_daily_lines(sheet: Sheet, costs: CostColumn) -> Daily:
                  objects.groups)
 
 
-def _named(column: int) -> str:
-    return TITLES[2] if column == _COLUMNS else TITLES[0]
-
-
 def _are_dates(cells: Sequence[str]) -> bool:
     return dates_of(list(dict.fromkeys(cells))).all is not None
 
@@ -101,11 +98,6 @@ class _Heads(NamedTuple):
     corner: str
     days: List[str]
     shifts: List[str]
-
-
-def two_titles(sheet: Sheet) -> bool:
-    """Whether a matrix begins with two title rows."""
-    return _heads(sheet) is not None
 
 
 def _heads(sheet: Sheet) -> Optional[_Heads]:
@@ -128,10 +120,11 @@ def _heads(sheet: Sheet) -> Optional[_Heads]:
     return _Heads((upper_line, line), lower[0] or upper[0], days, shifts)
 
 
-def read_daily_matrix(sheet: Sheet, costs: CostColumn) -> Daily:
-    """Reads a matrix with two title rows."""
+def read_daily_matrix(sheet: Sheet, costs: CostColumn) -> Optional[Daily]:
+    """Reads a matrix with two title rows; None where it begins otherwise."""
     heads = _heads(sheet)
-    assert heads is not None
+    if heads is None:
+        return None
     persons, objects = Names(sheet, "persons"), _Objects(sheet, _DAY)
     columns: List[int] = []
     for column, (day, shift) in enumerate(zip(heads.days, heads.shifts), 2):

@@ -6,6 +6,7 @@ from typing import NamedTuple, NoReturn, Optional
 from .names import SHARED, said
 
 SAVE = said("save")
+_SAVE_OR_NAME = f"{SAVE}, or name its encoding by --encoding"
 WESTERN = "Windows-1252"
 # Four bytes go first: the shorter marks begin as they do.
 BOMS = ((b"\xff\xfe\x00\x00", "utf-32"), (b"\x00\x00\xfe\xff", "utf-32"), (b"\xef\xbb\xbf", "utf-8-sig"),
@@ -53,8 +54,7 @@ def decoded(data: bytes, named: Optional[str]) -> Decoded:
     if named is not None:
         text = _strictly(data, named)
         if "\0" in text:
-            raise Undecodable(f"NUL characters, which no text in {named} has: {SAVE}, or name its encoding by "
-                              "--encoding")
+            raise Undecodable(f"NUL characters, which no text in {named} has: {_SAVE_OR_NAME}")
         return Decoded(text, named)
     if data.startswith(SPREADSHEETS):
         raise Undecodable(f"a spreadsheet that is no .xlsx, and no text: save it as .xlsx, or {SAVE}")
@@ -63,7 +63,12 @@ def decoded(data: bytes, named: Optional[str]) -> Decoded:
     try:
         return Decoded(data.decode(), "utf-8")
     except UnicodeDecodeError:
-        return Decoded(_western(data), WESTERN, is_guess=True)
+        # All bytes above 127 must be likely in western text of Windows.
+        odd = NOT_PLAUSIBLE.search(data) or QUOTE_IN_WORD.search(data)
+        if odd is not None:
+            raise Undecodable(f"bytes that are no UTF-8 and no western text in {WESTERN}: {_SAVE_OR_NAME}",
+                              odd.start())
+        return Decoded(data.decode(WESTERN), WESTERN, is_guess=True)
 
 
 def _refuse_nuls(data: bytes) -> NoReturn:
@@ -71,9 +76,9 @@ def _refuse_nuls(data: bytes) -> NoReturn:
     sample = data[:SAMPLE]
     least, most = sorted((sample[::2].count(0), sample[1::2].count(0)))
     if most >= max(4, len(sample) / 16, 8 * least):
-        raise Undecodable(f"{said('UTF-16')}: {SAVE}, or name its encoding by --encoding")
+        raise Undecodable(f"{said('UTF-16')}: {_SAVE_OR_NAME}")
     what = said("NUL" if data.strip(b"\0") else "NUL alone")
-    raise Undecodable(f"{what}: {SAVE}, or name its encoding by --encoding", data.index(b"\0"))
+    raise Undecodable(f"{what}: {_SAVE_OR_NAME}", data.index(b"\0"))
 
 
 def _strictly(data: bytes, encoding: str) -> str:
@@ -81,16 +86,6 @@ def _strictly(data: bytes, encoding: str) -> str:
         return data.decode(encoding)
     except UnicodeDecodeError as error:
         name = encoding.replace("-sig", "").upper() if encoding.startswith("utf") else encoding
-        raise Undecodable(f"{said('no encoding', name)}: {SAVE}, or name its encoding by --encoding",
-                          error.start) from error
+        raise Undecodable(f"{said('no encoding', name)}: {_SAVE_OR_NAME}", error.start) from error
     except UnicodeError as error:
-        raise Undecodable(f"{said('no encoding', encoding)}: {SAVE}, or name its encoding by --encoding") from error
-
-
-def _western(data: bytes) -> str:
-    """Bytes as western text of Windows, if all above 127 are likely there."""
-    odd = NOT_PLAUSIBLE.search(data) or QUOTE_IN_WORD.search(data)
-    if odd is not None:
-        raise Undecodable(f"bytes that are no UTF-8 and no western text in {WESTERN}: {SAVE}, or name its encoding by "
-                          "--encoding", odd.start())
-    return data.decode(WESTERN)
+        raise Undecodable(f"{said('no encoding', encoding)}: {_SAVE_OR_NAME}") from error

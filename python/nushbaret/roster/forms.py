@@ -67,19 +67,19 @@ def read_roster(path: str, form: Optional[str], decimals: Optional[int], comma: 
     """
     sheet = Sheet(path, comma, sheet_name, skipped, reading)
     costs = CostColumn(sheet, decimals, comma, rounds)
-    is_matrix, groups = form == MATRIX or form is None and not _may_be_lines(sheet), None
+    is_matrix = form == MATRIX or form is None and not _may_be_lines(sheet)
+    by_days: Optional[daily.Daily] = None
     if form != MATRIX and daily.are_daily_lines(sheet):
-        is_matrix, (found, groups) = False, daily.read_daily_lines(sheet, costs)
-    elif is_matrix and daily.two_titles(sheet):
-        found, groups = daily.read_daily_matrix(sheet, costs)
-    else:
-        found = (_read_matrix if is_matrix else _read_lines if form else _read_sure_lines)(sheet, costs)
-    titles, persons, objects, of_persons, of_objects = found
+        is_matrix, by_days = False, daily.read_daily_lines(sheet, costs)
+    elif is_matrix:
+        by_days = daily.read_daily_matrix(sheet, costs)
+    read = _read_matrix if is_matrix else _read_lines if form else _read_sure_lines
+    titles, persons, objects, of_persons, of_objects = by_days.read if by_days else read(sheet, costs)
     used, scaled = costs.scaled()
     return Roster(persons.list, objects.list, persons.numbers, objects.numbers, of_persons, of_objects, scaled, used,
                   titles, sheet.separator, comma, rounded=costs.rounded, has_bom=sheet.has_bom, is_matrix=is_matrix,
                   by_persons=is_matrix or all(map(le, of_persons, islice(of_persons, 1, None))),
-                  groups=groups, encoding=sheet.encoding, reading=reading)
+                  groups=by_days and by_days.groups, encoding=sheet.encoding, reading=reading)
 
 
 def _may_be_lines(sheet: Sheet) -> bool:

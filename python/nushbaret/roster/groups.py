@@ -48,9 +48,11 @@ def read_counts(path: str, roster: Roster, of_objects: bool) -> Counts:
     teams: Dict[Tuple[str, str], List[int]] = {}
     first = len(title) if of_objects else _first_team(sheet, title)
     of_kinds: Dict[str, Bounds] = {}
+    # In a roster by days kinds that are no objects.
+    kinds = set(roster.groups.kinds.values()).difference(roster.object_numbers) if roster.groups else set()
     for line, cells in _lines(sheet, len(title), first):
         others, cells = (cells[first:], cells[:first]) if first < len(title) else ([], cells)
-        if of_objects and _is_kind(roster, cells[0]) and cells[0] not in of_kinds:
+        if of_objects and cells[0] in kinds and cells[0] not in of_kinds:
             of_kinds[cells[0]] = _bounds(sheet, cells[1:], limit, line)
             are_ranges = are_ranges or len(cells) == 3
             continue
@@ -66,12 +68,6 @@ def read_counts(path: str, roster: Roster, of_objects: bool) -> Counts:
         for number, kind in roster.groups.kinds.items():
             bounds.update({number: of_kinds[kind]} if kind in of_kinds and number not in bounds else {})
     return Counts(bounds, are_ranges, path, teams=teams, title=title[0])
-
-
-def _is_kind(roster: Roster, name: str) -> bool:
-    """Whether a name is a kind of a roster by days, and no object."""
-    return (roster.groups is not None and name not in roster.object_numbers
-            and name in roster.groups.kinds.values())
 
 
 def _first_team(sheet: Sheet, title: Sequence[str]) -> int:

@@ -81,6 +81,12 @@ def joined(names: Sequence[str]) -> str:
     return ("; " if any("," in name for name in names) else ", ").join(names)
 
 
+def first_of(names: Sequence[str], most: int = MOST_NAMES, more: str = "more") -> str:
+    """Names in a row; of many the first, and how many more there are."""
+    others = len(names) - most
+    return joined(names[:most]) + (f" and {others} {more}" if others > 0 else "")
+
+
 class NamesShown:
     """The names that a sentence shows: persons and objects share eight, and each side may have four at least. Each is
     to be asked for once."""

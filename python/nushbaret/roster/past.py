@@ -65,11 +65,14 @@ def with_past(roster: Roster, groups: Groups, kept: OldPlan, name: str, rounds: 
     had = Counter(person for person, _ in pairs)
     passing = [person for person in sorted(had) if had[person] > roster.tasks_of(person)]
     lines = [_first_line(roster, groups, kept, name, earlier, len(pairs)), *_forbidden_lines(roster, kept, added),
-             *(_most_line(roster, kept, person, had[person]) for person in passing
-               if roster.persons[person] not in kept.gone)]
+             *(f"{shown_path(kept.path)}: " + said("past beyond most", roster.persons[person], counted(
+                 had[person], roster.titles[1]), roster.tasks_of(person), had[person])
+               for person in passing if roster.persons[person] not in kept.gone)]
     costs = roster.costs_of(set(pairs))
     lines_of_past = [PlanLine(*pair, own.line, costs[pair]) for pair, own in zip(pairs, named)]
-    roster = _with_counts(roster, {person: had[person] for person in passing})
+    # These are their greatest counts, and the past has no least ones.
+    roster = _with_bounds(roster, {person: Bounds(roster.of_person(person).least, had[person]) for person in passing},
+                          {object_: Bounds(0, roster.capacity_of(object_)) for object_ in roster.past})
     past = Past(earlier, lines_of_past, lines)
     return roster, old_plan_of(kept.path, roster, kept.named, False)._replace(gone=kept.gone), past
 
@@ -96,13 +99,6 @@ def _with_pairs(roster: Roster, added: Sequence[Triple]) -> Roster:
     of_persons, of_objects, costs = (type(old)(old.typecode, new)
                                      for old, new in zip((roster.of_persons, roster.of_objects, roster.costs), lists))
     return roster._replace(of_persons=of_persons, of_objects=of_objects, costs=costs)
-
-
-def _with_counts(roster: Roster, most: Dict[int, int]) -> Roster:
-    """The roster with some greatest counts of persons, and no least counts in the past."""
-    return _with_bounds(roster, {person: Bounds(roster.of_person(person).least, count)
-                                 for person, count in most.items()},
-                        {object_: Bounds(0, roster.capacity_of(object_)) for object_ in roster.past})
 
 
 def _with_bounds(roster: Roster, persons: Dict[int, Bounds], objects: Dict[int, Bounds]) -> Roster:
@@ -141,12 +137,6 @@ def _forbidden_lines(roster: Roster, kept: OldPlan, added: Sequence[Triple]) -> 
     begin = shown_path(kept.path)
     return [f"{begin}: {said('kept though forbidden', roster.persons[person], '; '.join(pairs))}"
             for person, pairs in own.items()]
-
-
-def _most_line(roster: Roster, kept: OldPlan, person: int, had: int) -> str:
-    text = said("past beyond most", roster.persons[person], counted(had, roster.titles[1]), roster.tasks_of(person),
-                had)
-    return f"{shown_path(kept.path)}: {text}"
 
 
 def with_fixed(roster: Roster, past: Past, fixed: Sequence[PlanLine], path: str) -> List[PlanLine]:

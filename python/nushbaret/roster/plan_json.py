@@ -44,7 +44,8 @@ def plan_of_json(path: str) -> List[NamedPair]:
         raise RosterFault(path, said("no plan", found))
     form = plan.get("format", FORMAT)
     if isinstance(form, bool) or not isinstance(form, int) or not 1 <= form <= FORMAT:
-        raise RosterFault(path, said("format", _shown(form), FORMAT))
+        shown = quoted(form) if isinstance(form, str) else str(form) if isinstance(form, (int, float)) else _kind(form)
+        raise RosterFault(path, said("format", shown, FORMAT))
     return [_pair(path, pair, number) for number, pair in enumerate(plan["pairs"], 1)]
 
 
@@ -79,7 +80,8 @@ def _parsed(path: str) -> Any:
     try:
         text = data.decode("utf-8-sig")
     except UnicodeDecodeError as fault:
-        raise RosterFault(path, f"no JSON: bytes that are no UTF-8, in line {_line(data, fault.start)}") from None
+        line = data.count(b"\n", 0, fault.start) + 1
+        raise RosterFault(path, f"no JSON: bytes that are no UTF-8, in line {line}") from None
     try:
         return json.loads(text, object_pairs_hook=_object, parse_constant=_constant, parse_int=_integer,
                           parse_float=_fraction)
@@ -91,10 +93,6 @@ def _parsed(path: str) -> Any:
         raise RosterFault(path, said("no JSON", fault)) from None
     except RecursionError:
         raise RosterFault(path, "no plan: lists and objects in one another, too deep") from None
-
-
-def _line(data: bytes, place: int) -> int:
-    return data.count(b"\n", 0, place) + 1
 
 
 def _object(pairs: List[Tuple[str, Any]]) -> Dict[str, Any]:
@@ -125,7 +123,3 @@ def _fraction(word: str) -> float:
 def _kind(value: Any) -> str:
     """What a value is."""
     return next((said(name) for kind, name in KINDS if isinstance(value, kind)), "null")
-
-
-def _shown(value: Any) -> str:
-    return quoted(value) if isinstance(value, str) else str(value) if isinstance(value, (int, float)) else _kind(value)

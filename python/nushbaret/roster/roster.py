@@ -223,6 +223,10 @@ class Roster(NamedTuple):
         """A cost or a rent as the roster writes it."""
         return decimal_text(units, self.decimals, "," if self.comma else ".")
 
+    def plain(self, units: int) -> str:
+        """A cost or a rent with a point, for other programs."""
+        return decimal_text(units, self.decimals, ".")
+
     def shown_halves(self, count: int) -> str:
         """So many halves of a unit, as the roster writes costs."""
         if count % 2 == 0:

@@ -6,7 +6,7 @@ from typing import Dict, Iterator, List, Sequence, Tuple
 from ..counts.lack import Lack
 from ..counts.counted import Bounds, Counted
 from .answer import counted, few
-from .names import MOST_NAMES, NamesShown, joined, marked, numbered, said, with_counts
+from .names import NamesShown, first_of, marked, numbered, said, with_counts
 from .roster import Roster
 
 # So many objects are listed even where they are all of their groups.
@@ -49,7 +49,7 @@ def _of_persons(roster: Roster, problem: Counted, lack: Lack) -> str:
     reasons = [*_most(roster.objects, problem.column_bounds, lack.columns, shown, 1)]
     groups = sorted({group for _, group in lack.once if group < problem.n_groups})
     rules = [f"{said('one of each', roster.groups.title)} "
-             f"({_first(numbered(roster.groups.names, groups))})"] if groups and roster.groups else []
+             f"({first_of(numbered(roster.groups.names, groups))})"] if groups and roster.groups else []
     rules += ([said("once at each", roster.titles[1]) + shown.bracketed(1, numbered(roster.objects, single))] if single
               else [])
     if rules:
@@ -79,14 +79,7 @@ def _objects(roster: Roster, problem: Counted, objects: List[int], shown: NamesS
 
 def _groups(title: str, names: List[str]) -> str:
     """Groups by name, the first of many."""
-    return f"{title} {names[0]}" if len(names) == 1 else f"{counted(len(names), title)} ({_first(names)})"
-
-
-def _first(names: List[str]) -> str:
-    """The first of many groups."""
-    more = len(names) - MOST_NAMES
-    first = joined(names[:MOST_NAMES])
-    return said("and more", first, more) if more > 0 else first
+    return f"{title} {names[0]}" if len(names) == 1 else f"{counted(len(names), title)} ({first_of(names)})"
 
 
 def _at_most(count: int, own: Sequence[int]) -> str:

@@ -132,13 +132,11 @@ class Scan:
         # A formula whose value is an empty text says so by its type.
         if self._has_formula and (self._is_stale or not value and kind != "str"):
             self.unvalued.append((self._row, self._column))
-        if kind == "s" and value and self._texts is not None and not self._is_text(value):
+        is_text = re.fullmatch("[0-9]{1,9}", value.strip()) is not None and int(value) < (self._texts or 0)
+        if kind == "s" and value and self._texts is not None and not is_text:
             raise WorkbookFault(f"it names the text {value[:20]!r}, and the workbook has {self._texts} texts, from 0",
                                 self._row + 1, self._column + 1)
         self._cell, self._value = None, ""
-
-    def _is_text(self, value: str) -> bool:
-        return re.fullmatch("[0-9]{1,9}", value.strip()) is not None and int(value) < (self._texts or 0)
 
 
 def well_formed(part: IO[bytes]) -> None:

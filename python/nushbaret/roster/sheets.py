@@ -240,9 +240,8 @@ class Sheet:
         begin, line = yield from self._plain_blocks(width)
         begun = begin > 0
         for lines, rows in self._raw_blocks(begin, line):
-            columns = _columns(rows, width) if begun and not self.has_guards else None
-            if columns is not None:
-                yield lines, columns
+            if begun and not self.has_guards and set(map(len, rows)) == {width}:
+                yield lines, list(zip(*rows))
                 continue
             records = [(line, cells) for line, cells in zip(lines, map(self._cleaned, rows)) if any(cells)
                        and not self._is_hint(line)]
@@ -391,8 +390,3 @@ def _plain_columns(piece: str, separator: str, width: int) -> Optional[List[Sequ
         return None
     cells = piece[:-1].replace("\n", separator).split(separator)
     return [cells[column::width] for column in range(width)]
-
-
-def _columns(rows: List[List[str]], width: int) -> Optional[List[Sequence[str]]]:
-    """The cells column by column, if each record has so many."""
-    return list(zip(*rows)) if set(map(len, rows)) == {width} else None

@@ -6,7 +6,7 @@ import os
 import pathlib
 import re
 import sys
-from typing import Any, Callable, Dict, List, NamedTuple, NoReturn, Optional, Sequence, Tuple
+from typing import Any, Callable, Dict, Iterator, List, NamedTuple, NoReturn, Optional, Sequence, Tuple
 
 from ..costs.reading import MOST_UNIT_DECIMALS
 from ..lap.library import VERSION
@@ -50,21 +50,26 @@ class Value(NamedTuple):
 
 
 class Option(NamedTuple):
-    """An option: its word; what it does, in the words of the help; the section of the help; the field of Options that
-    it sets; what stands after it, None for nothing; what it sets where nothing does; whether it may stand several
-    times; and what is set where it doesn't stand. Of the options of one `choice` only one may stand. `short` is a word
-    of one letter for it."""
+    """An option: its word; what it does, in the words of the help; the section of the help; what stands after it, None
+    for nothing; what it sets where nothing does; whether it may stand several times; and what is set where it doesn't
+    stand. Of the options of one `choice` only one may stand. `short` is a word of one letter for it, and `of` the field
+    of Options that it sets, where this isn't called as the word is."""
 
     word: str
     help: str
     section: str
-    field: str
     value: Optional[Value] = None
     sets: Any = True
     repeats: bool = False
     choice: str = ""
     default: Any = None
     short: str = ""
+    of: str = ""
+
+    @property
+    def field(self) -> str:
+        """The field of Options that it sets."""
+        return self.of or self.word[2:].replace("-", "_")
 
 
 class Options(NamedTuple):
@@ -122,10 +127,6 @@ def _output(path: str) -> Output:
     return Output(path, kind)
 
 
-def _page(path: str) -> Output:
-    return Output(path, "html")
-
-
 def _number(least: int, most: int) -> Callable[[str], int]:
     """What reads a whole number of a range."""
     def read(word: str) -> int:
@@ -157,64 +158,60 @@ READING, COUNTING, PLANNING, SHOWING, WRITING = ("The roster", "Counts and rules
                                                  "What is written")
 SECTIONS = (READING, COUNTING, PLANNING, SHOWING, WRITING)
 
-OPTIONS = (Option("--lines", "the roster has lines", READING, "form", sets=LINES, choice="form"),
-           Option("--matrix", "the roster is a matrix", READING, "form", sets=MATRIX, choice="form"),
-           Option("--decimals", f"costs have at most K decimal places, 0 to {MOST_UNIT_DECIMALS} (else as many as the "
-                  "roster uses)", READING, "decimals", COUNT_OF_DECIMALS, choice="decimals"),
-           Option("--round", "round costs to K decimal places, and say by how much that may matter", READING, "round",
-                  COUNT_OF_DECIMALS, choice="decimals"), Option("--decimal-comma", "costs are written as 2,50", READING,
-                                                            "decimal_comma"),
-           Option("--encoding", f"files of text are in this encoding (else UTF-8, or plain {WESTERN})", READING,
-                  "encoding", Value("NAME", read=_encoding)), Option("--sheet", "read this sheet of the roster's "
-                                                                     "workbook (else the first); FILE.xlsx#SHEET names "
-                                                                     "one of any file", READING, "sheet",
-                                                                     Value("NAME")),
-           Option("--skip-rows", "skip so many rows above the titles", READING, "skip_rows",
-                  Value("K", read=_number(0, 10**6)), default=0), Option("--places", "lines of an object and how many "
-                                                                         "persons it takes (else one): a number, or at "
-                                                                         "least and at most", COUNTING, "places",
-                                                                         COUNTS),
-           Option("--tasks", "lines of a person and how many objects it takes (else one): a number, or at least and at "
-                  "most", COUNTING, "tasks", COUNTS), Option("--groups", "lines of an object and its group: nobody "
-                                                             "takes two objects of one group", COUNTING, "groups",
-                                                             COUNTS),
-           Option("--rules", "lines of a rule, its value and names: rest, runs, weeks, free weekends, hours and "
-                  "others; needs --groups, and SciPy", COUNTING, "rules", COUNTS),
-           Option("--before", "with --rules: what was worked on earlier days (.csv, .json or .xlsx), whose objects the "
-                  "file of groups lists too", COUNTING, "before", PLAN),
-           Option("--max", "find the plan of greatest cost", PLANNING, "max"),
-           Option("--fair", "make the dearest pair as cheap as possible, and then the sum", PLANNING, "fair"),
-           Option("--fixed", "keep the pairs of this plan (.csv, .json or .xlsx)", PLANNING, "fixed", PLAN),
-           Option("--as-many-as-can", "where there is no plan for all, find the fullest", PLANNING, "as_many_as_can"),
-           Option("--keep", "of all best plans take one with the fewest changes from this one (.csv, .json or .xlsx)",
-                  PLANNING, "keep", PLAN), Option("--past", "with --keep: what the plan has in the groups before this "
-                                                  "one stays, and the rest is planned", PLANNING, "past",
-                                                  Value("GROUP")),
-           Option("--change-cost", "weigh changes from the kept plan: half of C for each pair that comes, and for each "
-                  "that goes", PLANNING, "change_cost", Value("C")), Option("--time", "with --rules: find and prove "
-                                                                            "for at most S seconds (else 60)", PLANNING,
-                                                                            "time", Value("S", read=_number(1, 10**6))),
-           Option("--compare", "list the rules that this plan (.csv, .json or .xlsx) breaks, and by how much it is "
-                  "worse than the best", SHOWING, "compare", PLAN), Option("--others", "show who could change places "
-                                                                           "at no cost, or the next best plan", SHOWING,
-                                                                           "others"),
-           Option("--plans", f"show the K best plans, 2 to {MOST_PLANS}: each as what differs from the first", SHOWING,
-                  "plans", Value("K", read=_number(2, MOST_PLANS)), default=1),
-           Option("--rents", "print the rents of the objects too", SHOWING, "rents"),
-           Option("--print", "write the plan to standard output as csv or json, and what is printed else to standard "
-                  "error", SHOWING, "print", Value("KIND", choices=("csv", "json"))),
-           Option("--output", "write the plan as .csv, .json, .html or .xlsx; may be given several times", WRITING,
-                  "outputs", Value("FILE", True, tuple("." + kind for kind in KINDS), read=_output), repeats=True,
-                  short="-o"), Option("--html", "draw the plan as a page", WRITING, "outputs",
-                                      Value("FILE", True, (".html",), read=_page), repeats=True),
-           Option("--plan-only", "leave wishes, costs, hints and other plans out of pages, as for the wall", WRITING,
-                  "plan_only"), Option("--each", "write for each person a page and, where groups are dates, a calendar "
-                                       "(.ics) into this folder", WRITING, "each", Value("FOLDER", True)),
-           Option("--certificate", "with --rules: write what proves the answer; --check FILE checks it alone", WRITING,
-                  "certificate", Value("FILE", True)),
-           Option("--quiet", "print the cost alone, or who is short", WRITING, "quiet", short="-q"),
-           Option("--force", "overwrite an output that exists", WRITING, "force"),)
-
+OPTIONS = (
+    Option("--lines", "the roster has lines", READING, sets=LINES, choice="form", of="form"),
+    Option("--matrix", "the roster is a matrix", READING, sets=MATRIX, choice="form", of="form"),
+    Option("--decimals", f"costs have at most K decimal places, 0 to {MOST_UNIT_DECIMALS} (else as many as the roster "
+           "uses)", READING, COUNT_OF_DECIMALS, choice="decimals"),
+    Option("--round", "round costs to K decimal places, and say by how much that may matter", READING,
+           COUNT_OF_DECIMALS, choice="decimals"),
+    Option("--decimal-comma", "costs are written as 2,50", READING),
+    Option("--encoding", f"files of text are in this encoding (else UTF-8, or plain {WESTERN})", READING,
+           Value("NAME", read=_encoding)),
+    Option("--sheet", "read this sheet of the roster's workbook (else the first); FILE.xlsx#SHEET names one of any "
+           "file", READING, Value("NAME")),
+    Option("--skip-rows", "skip so many rows above the titles", READING, Value("K", read=_number(0, 10**6)), default=0),
+    Option("--places", "lines of an object and how many persons it takes (else one): a number, or at least and at most",
+           COUNTING, COUNTS),
+    Option("--tasks", "lines of a person and how many objects it takes (else one): a number, or at least and at most",
+           COUNTING, COUNTS),
+    Option("--groups", "lines of an object and its group: nobody takes two objects of one group", COUNTING, COUNTS),
+    Option("--rules", "lines of a rule, its value and names: rest, runs, weeks, free weekends, hours and others; needs "
+           "--groups, and SciPy", COUNTING, COUNTS),
+    Option("--before", "with --rules: what was worked on earlier days (.csv, .json or .xlsx), whose objects the file "
+           "of groups lists too", COUNTING, PLAN),
+    Option("--max", "find the plan of greatest cost", PLANNING),
+    Option("--fair", "make the dearest pair as cheap as possible, and then the sum", PLANNING),
+    Option("--fixed", "keep the pairs of this plan (.csv, .json or .xlsx)", PLANNING, PLAN),
+    Option("--as-many-as-can", "where there is no plan for all, find the fullest", PLANNING),
+    Option("--keep", "of all best plans take one with the fewest changes from this one (.csv, .json or .xlsx)",
+           PLANNING, PLAN),
+    Option("--past", "with --keep: what the plan has in the groups before this one stays, and the rest is planned",
+           PLANNING, Value("GROUP")),
+    Option("--change-cost", "weigh changes from the kept plan: half of C for each pair that comes, and for each that "
+           "goes", PLANNING, Value("C")),
+    Option("--time", "with --rules: find and prove for at most S seconds (else 60)", PLANNING,
+           Value("S", read=_number(1, 10**6))),
+    Option("--compare", "list the rules that this plan (.csv, .json or .xlsx) breaks, and by how much it is worse than "
+           "the best", SHOWING, PLAN),
+    Option("--others", "show who could change places at no cost, or the next best plan", SHOWING),
+    Option("--plans", f"show the K best plans, 2 to {MOST_PLANS}: each as what differs from the first", SHOWING,
+           Value("K", read=_number(2, MOST_PLANS)), default=1),
+    Option("--rents", "print the rents of the objects too", SHOWING),
+    Option("--print", "write the plan to standard output as csv or json, and what is printed else to standard error",
+           SHOWING, Value("KIND", choices=("csv", "json"))),
+    Option("--output", "write the plan as .csv, .json, .html or .xlsx; may be given several times", WRITING,
+           Value("FILE", True, tuple("." + kind for kind in KINDS), read=_output), repeats=True, short="-o",
+           of="outputs"),
+    Option("--html", "draw the plan as a page", WRITING,
+           Value("FILE", True, (".html",), read=lambda path: Output(path, "html")), repeats=True, of="outputs"),
+    Option("--plan-only", "leave wishes, costs, hints and other plans out of pages, as for the wall", WRITING),
+    Option("--each", "write for each person a page and, where groups are dates, a calendar (.ics) into this folder",
+           WRITING, Value("FOLDER", True)),
+    Option("--certificate", "with --rules: write what proves the answer; --check FILE checks it alone", WRITING,
+           Value("FILE", True)),
+    Option("--quiet", "print the cost alone, or who is short", WRITING, short="-q"),
+    Option("--force", "overwrite an output that exists", WRITING))
 
 # The options that need no roster, with their short words and what stands after them, if any, after the one for help.
 GENERAL = (("-V", "--version", "", "show program's version number and exit"),
@@ -260,32 +257,14 @@ class _Parser(argparse.ArgumentParser):
         self.exit(2, f"{NAME}: {text}\n")
 
 
-class _Guide(argparse.Action):
-    """Prints the guide, and ends."""
-
-    def __init__(self, option_strings: Sequence[str], dest: str, **words: Any) -> None:
-        super().__init__(option_strings, argparse.SUPPRESS, nargs=0, **words)
+class _Alone(argparse.Action):
+    """Prints what a call says, given as `const`, and ends with the status that it says."""
 
     def __call__(self, parser: argparse.ArgumentParser, namespace: argparse.Namespace, values: Any,
                  option_string: Optional[str] = None) -> None:
         try:
-            print_content(guide())
-        except (OSError, OutputFault) as fault:
-            parser.exit(4, f"{NAME}: {fault}\n")
-        parser.exit()
-
-
-class _Check(argparse.Action):
-    """Checks a certificate, and ends."""
-
-    def __init__(self, option_strings: Sequence[str], dest: str, **words: Any) -> None:
-        super().__init__(option_strings, argparse.SUPPRESS, **words)
-
-    def __call__(self, parser: argparse.ArgumentParser, namespace: argparse.Namespace, values: Any,
-                 option_string: Optional[str] = None) -> None:
-        try:
-            status, line = checked(str(values))
-            print_content(line + "\n")
+            status, text = self.const(values)
+            print_content(text + "\n")
         except (OSError, OutputFault) as fault:
             parser.exit(4, f"{NAME}: {fault}\n")
         parser.exit(status)
@@ -303,9 +282,8 @@ def guide() -> str:
 
 
 def _guide_of(texts: List[pathlib.Path], page: pathlib.Path, examples: pathlib.Path) -> str:
-    lines = [*(text.read_text(encoding="utf-8") for text in texts), f"This guide as a page: {page}",
-             f"The examples in it: {examples}", ""]
-    return "\n".join(lines)
+    return "\n".join([*(text.read_text(encoding="utf-8") for text in texts), f"This guide as a page: {page}",
+                      f"The examples in it: {examples}"])
 
 
 def checked(path: str) -> Tuple[int, str]:
@@ -346,10 +324,11 @@ def parser_of(options: Sequence[Option] = OPTIONS) -> _Parser:
     """The parser of a table of options."""
     parser = _Parser(prog=NAME, allow_abbrev=False, description=SUMMARY, epilog=STATUSES, formatter_class=_Help)
     parser.add_argument("roster", metavar="ROSTER", help=ROSTER)
-    (short, version, _, version_help), (_, guide, _, guide_help), (_, check, file, check_help) = GENERAL
+    (short, version, _, version_help), (_, word, _, guide_help), (_, check, file, check_help) = GENERAL
     parser.add_argument(short, version, action="version", version=f"{NAME} {VERSION}", help=version_help)
-    parser.add_argument(guide, action=_Guide, help=guide_help)
-    parser.add_argument(check, action=_Check, metavar=file, help=check_help)
+    parser.add_argument(word, action=_Alone, nargs=0, const=lambda _: (0, guide()), default=argparse.SUPPRESS,
+                        help=guide_help)
+    parser.add_argument(check, action=_Alone, const=checked, default=argparse.SUPPRESS, metavar=file, help=check_help)
     sections = {name: parser.add_argument_group(name) for name in SECTIONS}
     choices: Dict[str, Any] = {}
     for option in options:
@@ -381,7 +360,10 @@ def read_words(words: Optional[Sequence[str]]) -> Options:
     words = sys.argv[1:] if words is None else words
     _refuse_unknown(words, parser)
     options = with_sheets(Options(**vars(parser.parse_args(words))))
-    _judge(options, parser.refuse)
+    for is_so, text in _faults(options):
+        if is_so:
+            parser.refuse(text)
+    _judge_files(options, parser.refuse)
     return options
 
 
@@ -405,9 +387,8 @@ def with_sheets(options: Options) -> Options:
     rest = [name for name in names if name.strip().casefold() not in _SHEETS]
     if not own or not rest:
         return options
-    return options._replace(sheet=options.sheet or rest[0], places=options.places or own.get("places"),
-                            tasks=options.tasks or own.get("tasks"), groups=options.groups or own.get("groups"),
-                            rules=options.rules or own.get("rules"))
+    read: Dict[str, Any] = {word: getattr(options, word) or own.get(word) for word in _SHEETS}
+    return options._replace(sheet=options.sheet or rest[0], **read)
 
 
 def _refuse_unknown(words: Sequence[str], parser: argparse.ArgumentParser) -> None:
@@ -419,17 +400,14 @@ def _refuse_unknown(words: Sequence[str], parser: argparse.ArgumentParser) -> No
     words = words[:words.index("--")] if "--" in words else words
     for before, word in zip((NAME, *words), words):
         name = word.partition("=")[0]
-        if (before in valued or not _looks_like_option(name) or name in known or name[:2] in known
+        # An option begins with a dash of any length, and isn't a number.
+        is_like_one = name[:1] in tuple(DASHES) and name.strip(DASHES) and not re.fullmatch("-[0-9.,]+", name)
+        if (before in valued or not is_like_one or name in known or name[:2] in known
             and "--" + name[1:] not in known):
             continue
         near = _nearest(name.strip(DASHES), [word for word in known if word.startswith("--")])
         if near or word[0] == "-":
             parser.error(f"no option {name}" + (f": did you mean {near}?" if near else ""))
-
-
-def _looks_like_option(word: str) -> bool:
-    """Whether a word begins with a dash of any length, and isn't a number."""
-    return word[:1] in tuple(DASHES) and word.strip(DASHES) != "" and re.fullmatch("-[0-9.,]+", word) is None
 
 
 def _nearest(name: str, known: Sequence[str]) -> Optional[str]:
@@ -441,47 +419,27 @@ def _nearest(name: str, known: Sequence[str]) -> Optional[str]:
     return found[0] if found else None
 
 
-def _judge(options: Options, refuse: Callable[[str], NoReturn]) -> None:
-    """Refuses options that don't go together."""
-    if options.change_cost is not None and not options.keep:
-        refuse("--change-cost needs --keep")
-    if options.past is not None and not options.keep:
-        refuse("--past needs --keep and --groups")
-    if options.others and options.change_cost is not None:
-        refuse("--others compares costs alone: not with --change-cost")
-    if options.plans > 1 and options.change_cost is not None:
-        refuse("--plans compares costs alone: not with --change-cost")
-    if options.fair:
-        _judge_fair(options, refuse)
-    _judge_rules(options, refuse)
-    if options.plan_only and all(output.kind != "html" for output in options.outputs):
-        refuse("--plan-only is of pages: name one, such as --output plan.html")
-    if options.print and any(output.is_standard for output in options.outputs):
-        refuse("standard output takes one thing: --print, or an output")
-    if options.rents and (options.places or options.tasks or options.groups):
-        refuse("--rents are of single places and tasks: not with --places, --tasks or --groups")
-    _judge_files(options, refuse)
-
-
-def _judge_fair(options: Options, refuse: Callable[[str], NoReturn]) -> None:
-    """Refuses what is of all pairs, where --fair leaves the dear ones out."""
-    for word, is_given in (("--others", options.others), ("--plans", options.plans > 1), ("--compare", options.compare),
-                           ("--change-cost", options.change_cost), ("--rents", options.rents)):
-        if is_given:
-            refuse(f"{word} is of the least sum of all pairs: not with --fair")
-
-
-def _judge_rules(options: Options, refuse: Callable[[str], NoReturn]) -> None:
-    """Refuses what doesn't go with rules, and what needs them."""
-    if options.rules is None:
-        for word, value in (("--before", options.before), ("--time", options.time),
-                            ("--certificate", options.certificate)):
-            if value is not None:
-                refuse(f"{word} needs --rules")
-        return
+def _faults(options: Options) -> Iterator[Tuple[object, str]]:
+    """What of options may not go together, in the order in which it is refused: whether it is so, and what is said."""
+    yield options.change_cost is not None and not options.keep, "--change-cost needs --keep"
+    yield options.past is not None and not options.keep, "--past needs --keep and --groups"
+    of_sums: Sequence[Tuple[str, object]] = (
+        ("--others", options.others), ("--plans", options.plans > 1), ("--compare", options.compare),
+        ("--change-cost", options.change_cost), ("--rents", options.rents))
+    for word, is_given in of_sums[:2]:
+        yield is_given and options.change_cost is not None, f"{word} compares costs alone: not with --change-cost"
+    for word, is_given in of_sums:
+        yield options.fair and is_given, f"{word} is of the least sum of all pairs: not with --fair"
+    for word, value in (("--before", options.before), ("--time", options.time), ("--certificate", options.certificate)):
+        yield options.rules is None and value is not None, f"{word} needs --rules"
     for word, is_given in (("--fair", options.fair), ("--rents", options.rents)):
-        if is_given:
-            refuse(f"{word} is of plans without rules: not with --rules")
+        yield options.rules is not None and is_given, f"{word} is of plans without rules: not with --rules"
+    yield (options.plan_only and all(output.kind != "html" for output in options.outputs),
+           "--plan-only is of pages: name one, such as --output plan.html")
+    yield (options.print and any(output.is_standard for output in options.outputs),
+           "standard output takes one thing: --print, or an output")
+    yield (options.rents and (options.places or options.tasks or options.groups),
+           "--rents are of single places and tasks: not with --places, --tasks or --groups")
 
 
 def _judge_files(options: Options, refuse: Callable[[str], NoReturn]) -> None:

@@ -1,11 +1,10 @@
 """The check of certificates: by the library's proved check, `nushbaret_rows`, or here in Python's whole numbers."""
 import ctypes
 from array import array
-from itertools import chain
 from typing import Any, Dict, Iterable, Iterator, List, NamedTuple, Optional, Sequence, Tuple
 
 from ..lap.library import LibraryNotFound, address
-from .certificates import Lists, certificate_of, refuse_unfit
+from .certificates import Lists, certificate_of, lists_of, refuse_unfit
 from .model import Certificate, Limits, Terms, bounds_costs
 
 MOST_DEPTH = 1000
@@ -33,18 +32,6 @@ def _rows_call() -> Any:
     return _call[0]
 
 
-def _lists(certificate: Certificate) -> Tuple["array[Any]", ...]:
-    """The lists as the library takes them; raises OverflowError where a number is beyond 64 bits."""
-    rows = certificate.rows
-    starts = array("Q", [0])
-    for row in rows:
-        starts.append(starts[-1] + len(row.terms))
-    terms = list(chain.from_iterable(row.terms for row in rows))
-    return (starts, array("I", [variable for variable, _ in terms]), array("q", [factor for _, factor in terms]),
-            _bounds((row.least for row in rows), _NO_LEAST), _bounds((row.most for row in rows), _NO_MOST),
-            array("B", certificate.plan or ()), array("q", certificate.tree))
-
-
 def _bounds(values: Iterable[Optional[int]], absent: int) -> "array[int]":
     """Bounds of 64 bits with `absent` where there is none. A bound that is that number itself can't be said."""
     numbers = [absent if value is None else value for value in values]
@@ -54,16 +41,14 @@ def _bounds(values: Iterable[Optional[int]], absent: int) -> "array[int]":
 def shown_by_library(certificate: Certificate) -> Optional[bool]:
     """Whether the library shows a certificate's claim; None where it can't decide: it isn't there, or a number is too
     great."""
-    if _says_no_bound(certificate) or (certificate.plan is not None and certificate.variables == 0):
+    if certificate.plan is not None and certificate.variables == 0:
         return None
-    try:
-        return _shown(certificate.variables, _lists(certificate))
-    except (OverflowError, ValueError):
-        return None
+    return lists_shown_by_library(lists_of(certificate))
 
 
 def lists_shown_by_library(lists: Lists) -> Optional[bool]:
     """The same of a certificate's lists, which fit one another."""
+    # These bounds the library takes for none.
     if _NO_LEAST in lists.least or _NO_MOST in lists.most:
         return None
     try:
@@ -85,11 +70,6 @@ def _shown(variables: int, lists: Tuple["array[Any]", ...]) -> Optional[bool]:
         arguments += (values.buffer_info()[0] if values else spare.buffer_info()[0], len(values))
     code = call(variables, *arguments, ctypes.byref(info))
     return None if code in _UNDECIDED else bool(code == SHOWN)
-
-
-def _says_no_bound(certificate: Certificate) -> bool:
-    """Whether a row has a bound that the library takes for none."""
-    return any(row.least == _NO_LEAST or row.most == _NO_MOST for row in certificate.rows)
 
 
 class WrongTree(ValueError):
@@ -186,17 +166,12 @@ def _is_shown(leaf: _TreeNode, rows: Sequence[Limits], path: Sequence[Limits]) -
         if not 0 <= number < len(rows) + len(path):
             raise WrongTree
         row = rows[number] if number < len(rows) else path[number - len(rows)]
-        side = _side(row, factor)
+        side = 0 if factor == 0 else row.least if factor > 0 else row.most
         if side is None:
             return False
         bound += factor * side
         _add(weights, row.terms, factor)
     return sum(weight for weight in weights.values() if weight > 0) < bound
-
-
-def _side(row: Limits, factor: int) -> Optional[int]:
-    """The bound that a multiplier takes; 0 where the multiplier is 0."""
-    return 0 if factor == 0 else row.least if factor > 0 else row.most
 
 
 def _add(weights: Dict[int, int], terms: Terms, factor: int) -> None:

@@ -90,11 +90,6 @@ def certificate_text(certificate: Certificate) -> str:
     return "\n".join(lines) + "\n"
 
 
-def certificate_from(text: str) -> Certificate:
-    """The certificate of a file's text. Raises `CertificateFault` for the first line that is wrong."""
-    return certificate_of(lists_from(text))
-
-
 def lists_from(text: str) -> Lists:
     """The lists of a file's text, as they stand there. Raises `CertificateFault` for the first line that is wrong."""
     lines = text.split("\n", len(_LISTS) + 1)
@@ -170,11 +165,6 @@ def write_certificate(path: Union[str, "pathlib.Path"], certificate: Certificate
     """Writes a certificate. Raises `CertificateFault` and writes nothing where a number is beyond 64 bits, OSError
     where it can't be written."""
     pathlib.Path(path).write_bytes(certificate_text(certificate).encode("ascii"))
-
-
-def read_certificate(path: Union[str, "pathlib.Path"]) -> Certificate:
-    """Reads a certificate. Raises `CertificateFault` where the file is none, OSError where it can't be read."""
-    return certificate_of(read_lists(path))
 
 
 def read_lists(path: Union[str, "pathlib.Path"]) -> Lists:

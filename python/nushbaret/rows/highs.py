@@ -5,7 +5,7 @@ from typing import Any, List, NamedTuple, Optional, Sequence
 
 from .certificate_check import meets
 from .model import Limits, Model
-from .neighbourhoods import Neighbourhoods, whole_plan
+from .neighbourhoods import Neighbourhoods
 from .persons import cost_of, cost_row, limits_of, matrix_of, side_of
 from .process import Channel
 
@@ -100,7 +100,9 @@ class Finder:
         self.say(found.plan)
         self.is_over = found.is_over
         if self.is_over:
-            self.channel.say_over()
+            # No plan is better than the one known, as it seems.
+            self.channel.is_over = True
+            self.channel.say(over=True)
 
     def search(self) -> None:
         """Searches around the best plan, or around months that keep their own rows, until nothing better comes
@@ -121,7 +123,7 @@ class Finder:
             until = min(self.deadline, time.monotonic() + _AROUND_PART * self.seconds) if is_better else until
             point = other or point
             if is_better and not point.missed:
-                self.say(whole_plan(point))
+                self.say([int(value > 0.5) for value in point.plan])
 
 
 def look_for_plans(model: Model, channel: Channel, deadline: float,

@@ -3,7 +3,7 @@ NumPy and SciPy."""
 import importlib
 import random
 import time
-from typing import Any, List, NamedTuple, Optional, Sequence
+from typing import Any, NamedTuple, Optional, Sequence
 
 from .model import Model
 from .persons import blocks_of, limits_of, matrix_of, side_of
@@ -162,8 +162,3 @@ def _least(matrix: Any, low: Any, high: Any, costs: Any, whole: Any, seconds: fl
                           bounds=optimize.Bounds(0, np.where(whole > 0, 1, np.inf)),
                           options={"time_limit": max(0.05, seconds), "mip_rel_gap": 0, "node_limit": _NODES})
     return None if found.x is None else _Taken(found.x, found.status == 0)
-
-
-def whole_plan(point: Point) -> List[int]:
-    """The plan of a point as whole numbers."""
-    return [int(value > 0.5) for value in point.plan]

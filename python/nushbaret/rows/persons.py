@@ -27,28 +27,18 @@ def limits_of(row: Row) -> Limits:
 def blocks_of(model: Model) -> Tuple[List[PersonBlock], List[int]]:
     """The persons' blocks, a variable of nobody being one of its own, and the numbers of the rows over several blocks
     or none."""
-    block_of, variables = _blocks_of_variables(model)
-    numbers: List[List[int]] = [[] for _ in variables]
+    known: Dict[Tuple[bool, int], int] = {}
+    block_of = [known.setdefault((person is None, variable if person is None else person), len(known))
+                for variable, person in enumerate(model.persons)]
+    variables: List[List[int]] = [[] for _ in known]
+    for variable, block in enumerate(block_of):
+        variables[block].append(variable)
+    numbers: List[List[int]] = [[] for _ in known]
     shared: List[int] = []
     for number, row in enumerate(model.rows):
         blocks = {block_of[variable] for variable, _ in row.terms}
         (numbers[blocks.pop()] if len(blocks) == 1 else shared).append(number)
     return [_block(model, own, rows) for own, rows in zip(variables, numbers)], shared
-
-
-def _blocks_of_variables(model: Model) -> Tuple[List[int], List[List[int]]]:
-    block_of: List[int] = []
-    variables: List[List[int]] = []
-    known: Dict[Tuple[str, int], int] = {}
-    for variable, person in enumerate(model.persons):
-        key = ("nobody", variable) if person is None else ("person", person)
-        if key not in known:
-            known[key] = len(variables)
-            variables.append([variable])
-        else:
-            variables[known[key]].append(variable)
-        block_of.append(known[key])
-    return block_of, variables
 
 
 def _block(model: Model, variables: List[int], numbers: List[int]) -> PersonBlock:

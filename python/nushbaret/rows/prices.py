@@ -11,7 +11,7 @@ from typing import Any, Callable, Dict, Iterator, List, NamedTuple, Optional, Se
 
 from .diagrams import Diagram, diagram_of, narrowed
 from .masters import Master, MasterProblem, PricedMonth
-from .model import Limits, Model
+from .model import Model
 from .persons import PersonBlock, blocks_of, limits_of, matrix_of, side_of
 from .stacked import TOO_MUCH, Stacked
 from .templates import Templates, keys_of
@@ -81,7 +81,9 @@ class Pricing:
             count = len(block.variables)
             exact = (templates.diagram_of(number) or diagram_of(count, block.rows)) if is_exact else None
             is_exact = exact is not None and time.monotonic() < exact_until
-            diagram = exact or diagram_of(count, [row for row in block.rows if not _weighs(row)])
+            # Rows that count some variables more than others weigh them.
+            diagram = exact or diagram_of(count, [row for row in block.rows
+                                                  if len({abs(factor) for _, factor in row.terms}) < 2])
             if diagram is None or time.monotonic() > deadline:
                 raise TooWide
             found.append(diagram)
@@ -265,8 +267,3 @@ class Pricing:
         for block, least in zip(self.blocks, bound.least):
             found[:, block.variables] -= least
         return np.minimum(found, TOO_MUCH) + bound.value
-
-
-def _weighs(row: Limits) -> bool:
-    """Whether a row counts some variables more than others."""
-    return len({abs(factor) for _, factor in row.terms}) > 1

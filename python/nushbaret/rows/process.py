@@ -152,11 +152,6 @@ class Channel:
             time.sleep(_SHORT_WAIT)
         return self._goes_on
 
-    def say_over(self) -> None:
-        """Reports that no plan is better than the one known, as it seems."""
-        self.is_over = True
-        self.say(over=True)
-
     def say(self, **told: Any) -> None:
         self.out.write(json.dumps(told) + "\n")
         self.out.flush()

@@ -217,7 +217,7 @@ class Prover:
         """Looks for plans at the bound and near it; the best prices. Where a search says that there is none at the
         bound, and none is known, a proof of that comes before those near it."""
         reaches = pricing.reaches(best)
-        if not self.is_known(least):
+        if self.channel.cost is None or self.channel.cost > least:
             self.look_near(reaches, least, _AT_BOUND_PART)
         if self.channel.cost is None and self.none == least:
             best = self.close_by_prices(pricing, best)
@@ -227,10 +227,6 @@ class Prover:
         if self.channel.cost is not None and self.has_to_look():
             self.look_near(reaches, self.channel.cost - 1, _NEAR_PART)
         return best
-
-    def is_known(self, cost: int) -> bool:
-        """Whether a plan that costs so little is known."""
-        return self.channel.cost is not None and self.channel.cost <= cost
 
     def look_near(self, reaches: Any, most: int, part: float) -> None:
         """Looks in a part of the time for a plan that costs `most` at most, among the variables that the prices leave

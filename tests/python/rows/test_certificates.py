@@ -65,7 +65,7 @@ class Shown(unittest.TestCase):
             self.assertFalse(shows_here(certificate) or models.shows(certificate))
             with self.assertRaisesRegex(files.CertificateFault, "with a plan the last row bounds its cost: it needs an "
                                                                 "upper bound, and no lower one"):
-                files.certificate_from(files.certificate_text(certificate))
+                files.certificate_of(files.lists_from(files.certificate_text(certificate)))
 
     def test_drawn_trees(self):
         draw, counts = random.Random(1), [0, 0]
@@ -143,17 +143,18 @@ class Files(unittest.TestCase):
     def test_text(self):
         self.assertEqual(files.certificate_text(TRIANGLE), TEXT)
         for certificate in (TRIANGLE, EVEN, Certificate(0, (), None, (0, 0))):
-            self.assertEqual(files.certificate_from(files.certificate_text(certificate)), certificate)
-        self.assertEqual(files.certificate_from(TEXT.replace("\n", "\r\n")), TRIANGLE)
+            self.assertEqual(files.certificate_of(files.lists_from(files.certificate_text(certificate))), certificate)
+        self.assertEqual(files.certificate_of(files.lists_from(TEXT.replace("\n", "\r\n"))), TRIANGLE)
 
     def test_files(self):
         with tempfile.TemporaryDirectory() as place:
             path = pathlib.Path(place) / "best.txt"
             files.write_certificate(path, TRIANGLE)
-            self.assertEqual((path.read_bytes(), files.read_certificate(path)), (TEXT.encode(), TRIANGLE))
+            self.assertEqual(path.read_bytes(), TEXT.encode())
+            self.assertEqual(files.certificate_of(files.read_lists(path)), TRIANGLE)
             path.write_bytes(b"\xff")
             with self.assertRaises(files.CertificateFault):
-                files.read_certificate(path)
+                files.read_lists(path)
 
     def test_work_of_long_files(self):
         """Numbers are read many at a time, whatever parts them: calls are counted."""
@@ -185,7 +186,7 @@ class Files(unittest.TestCase):
                                        (7, "plan 0 1 2", "the plan isn't 3 times 0 or 1"),
                                        (9, "more", "there must be 9 lines")):
             with self.subTest(instead=instead), self.assertRaises(files.CertificateFault) as caught:
-                files.certificate_from("\n".join(lines[:line] + [instead] + lines[line + 1:]))
+                files.certificate_of(files.lists_from("\n".join(lines[:line] + [instead] + lines[line + 1:])))
             self.assertEqual(str(caught.exception), message)
         with self.assertRaisesRegex(files.CertificateFault, "a number of the list tree is beyond 64 bits"):
             files.certificate_text(EVEN._replace(tree=(0, 1, 0, 2**63)))

@@ -67,7 +67,7 @@ def calendar(person: str, events: Sequence[Event], first: date, older: Optional[
         is_same = older.live == set(own) and all(older.events[uid] == lines for uid, lines in own.items())
         sequence = older.sequence + (not is_same)
     lines = ["BEGIN:VCALENDAR", "VERSION:2.0", f"PRODID:-//Nushbaret//Nushbaret {VERSION}//EN", "CALSCALE:GREGORIAN",
-             f"X-WR-CALNAME:{_text(person)}"]
+             f"X-WR-CALNAME:{person.translate(ESCAPES)}"]
     version = [f"SEQUENCE:{sequence}"] if sequence else []
     for event in own.values():
         lines += [*event[:-1], *version, event[-1]]
@@ -87,7 +87,7 @@ def _event(person: str, event: Event) -> List[str]:
         begin, end = (midnight + timedelta(minutes=minutes) for minutes in event.times)
         span = [f"DTSTART:{begin:%Y%m%dT%H%M%S}", f"DTEND:{end:%Y%m%dT%H%M%S}"]
     return ["BEGIN:VEVENT", f"UID:{_uid(person, event.object, event.day)}", f"DTSTAMP:{_stamp(event.day)}", *span,
-            f"SUMMARY:{_text(event.label)}", "END:VEVENT"]
+            f"SUMMARY:{event.label.translate(ESCAPES)}", "END:VEVENT"]
 
 
 def _uid(person: str, object_: str, day: date) -> str:
@@ -97,10 +97,6 @@ def _uid(person: str, object_: str, day: date) -> str:
 
 def _stamp(day: date) -> str:
     return f"{day:%Y%m%d}T000000Z"
-
-
-def _text(text: str) -> str:
-    return text.translate(ESCAPES)
 
 
 def _folded(line: str) -> Iterator[str]:

@@ -94,7 +94,8 @@ def _write_persons(sheet: Any, looks: Looks, columns: Sequence[Column]) -> None:
     found = {mark for column in columns for marked in column.cells for mark in marked.marks}
     for row, text in enumerate((text for mark, text in LEGENDS if mark in found), top + len(columns[0].cells) + 1):
         sheet.cell(row, 1, text)
-    _size(sheet, top, [column.cells for column in columns])
+    set_widths(sheet, top, [column.cells for column in columns])
+    set_to_print(sheet, top, 1)
 
 
 def _write_weeks(sheet: Any, looks: Looks, columns: Sequence[Column]) -> None:
@@ -119,7 +120,8 @@ def _write_days(sheet: Any, looks: Looks, roster: Roster, blocks: Sequence[Block
     for row, line in enumerate(lines, 1):
         for column, marked in enumerate(line, 1):
             looks.put(sheet, row, column, marked)
-    _size(sheet, 1, [list(cells) for cells in zip(*lines)])
+    set_widths(sheet, 1, [list(cells) for cells in zip(*lines)])
+    set_to_print(sheet, 1, 1)
 
 
 def _line(block: Block, column: int, day: Day, labels: Sequence[str]) -> List[Marked]:
@@ -136,9 +138,3 @@ def _staff(staff: Optional[Staff], base: Tuple[str, ...]) -> Marked:
         return Marked("", base)
     missing = [f"{staff.missing[0]} of {staff.missing[1]}"] if staff.missing else []
     return Marked(", ".join([*staff.persons, *missing]), (*base, "missing") if missing else base)
-
-
-def _size(sheet: Any, top: int, columns: Sequence[Sequence[Marked]]) -> None:
-    """Makes columns wide enough, and sets the sheet to print with the titles and the first column on each page."""
-    set_widths(sheet, top, columns)
-    set_to_print(sheet, top, 1)

@@ -4,7 +4,7 @@ from math import ceil
 from typing import FrozenSet, Iterator, List, NamedTuple, Optional, Sequence, Tuple
 
 from ..answer import NamedPlan
-from ..day_tables import Block, Cell, Day, PersonRow, Staff, blocks_of
+from ..day_tables import Block, Cell, Day, Staff, blocks_of
 from ..roster import OldPlan, Roster
 from .html import classes, name, ours, scrolling
 
@@ -43,15 +43,12 @@ def _persons(block: Block, title: str, roster: Roster, shown: Shown) -> Iterator
     yield _head(block, title, roster, shown, "", _size(names, lines, len(block.days)))
     for row in block.persons:
         cells = "".join(_cell(row.person, cell, day, shown) for cell, day in zip(row.cells, block.days))
-        yield f'<tr><th scope="row">{escape(row.name)}</th>{cells}<td class="total">{_total(row, shown)}</td></tr>\n'
+        total = f"{row.total} {ours(f'of {row.whole}')}" if shown.is_part else str(row.total)
+        yield f'<tr><th scope="row">{escape(row.name)}</th>{cells}<td class="total">{total}</td></tr>\n'
     totals = "".join(f'<td{classes("weekend" if day.is_weekend else "")}>{total}</td>'
                      for total, day in zip(block.totals, block.days))
     yield (f'<tr class="totals"><th scope="row" lang="en">total</th>{totals}<td '
            f'class="total">{sum(block.totals)}</td></tr>\n' "</tbody>\n</table>\n")
-
-
-def _total(row: PersonRow, shown: Shown) -> str:
-    return f"{row.total} {ours(f'of {row.whole}')}" if shown.is_part else str(row.total)
 
 
 def _objects(block: Block, title: str, roster: Roster, shown: Shown) -> Iterator[str]:
@@ -98,17 +95,13 @@ def _cell(person: int, cell: Cell, day: Day, shown: Shown) -> str:
     if not day.has_objects:
         return '<td class="none"></td>'
     fixed = not shown.plan_only and any(entry.is_fixed for entry in cell.entries)
-    lines = [escape(entry.label) + _marks(entry.is_fixed and not shown.plan_only, entry.is_new)
-             for entry in cell.entries]
+    lines = [escape(entry.label) + (" " + ours("fixed") if entry.is_fixed and not shown.plan_only else "")
+             + (" " + ours("new") if entry.is_new else "") for entry in cell.entries]
     lines += [f"<s>{escape(label)}</s>" for label in cell.gone] + [ours("breaks a rule")] * is_broken
     if not cell.entries:
         lines.insert(0, ours("off") if cell.is_off and not shown.plan_only else "\u2013")
         kinds.append("free")
     return f'<td{classes(*kinds, "fixed" if fixed else "")}>{"<br>".join(lines)}</td>'
-
-
-def _marks(is_fixed: bool, is_new: bool) -> str:
-    return (" " + ours("fixed") if is_fixed else "") + (" " + ours("new") if is_new else "")
 
 
 def _texts(cell: Cell, shown: Shown) -> List[str]:

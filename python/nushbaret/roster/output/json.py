@@ -1,12 +1,12 @@
 """The whole answer in JSON, for other programs. Costs and rents stand in quotes, exactly, with a point."""
 import json
 from collections import Counter
-from typing import Callable, Dict, List, Sequence
+from typing import Dict, List, Sequence
 
 from ..answer import NamedPlan, Pair, ShortGroup, by_person, changes_of
 from ..groups import missing_of
 from ..plan_json import FORMAT
-from ..roster import OldPlan, Roster, decimal_text
+from ..roster import Roster
 from .texts import Hand, Report, only_there, worse_by
 
 Content = Dict[str, object]
@@ -52,10 +52,7 @@ def as_json(report: Report, lines: Sequence[str]) -> str:
 
 def _plan(report: Report, plan: NamedPlan) -> Content:
     """The plan, who and what stays out, and what there is to say of it, as far as it was asked for."""
-    roster, options = report.roster, report.options
-
-    def text(units: int) -> str:
-        return decimal_text(units, roster.decimals, ".")
+    roster, options, text = report.roster, report.options, report.roster.plain
 
     def pairs(those: Sequence[Pair]) -> List[Content]:
         return [_pair(roster, pair, text(pair.cost)) for pair in those]
@@ -73,9 +70,12 @@ def _plan(report: Report, plan: NamedPlan) -> Content:
     if plan.following:
         content["following"] = [{"cost": text(other.cost), "pairs": pairs(other.pairs)} for other in plan.following]
     if report.kept:
-        content["keep"] = _changes(roster, plan, report.kept)
+        found = changes_of(roster, plan, report.kept)
+        content["keep"] = {"plan": report.kept.path, "gone": report.kept.gone,
+                           "changes": [own._asdict() for own in by_person(roster, found)],
+                           "not_possible": [lost._asdict() for lost in found.lost]}
     if report.hand:
-        content["compare"] = _comparison(report, plan, report.hand, text)
+        content["compare"] = _comparison(report, plan, report.hand)
     return content
 
 
@@ -93,21 +93,14 @@ def _outside(roster: Roster, plan: NamedPlan) -> Content:
     return content
 
 
-def _changes(roster: Roster, plan: NamedPlan, kept: OldPlan) -> Content:
-    """What goes and what comes from an earlier plan, by person; and what can't be any more."""
-    found = changes_of(roster, plan, kept)
-    return {"plan": kept.path, "gone": kept.gone, "changes": [own._asdict() for own in by_person(roster, found)],
-            "not_possible": [lost._asdict() for lost in found.lost]}
-
-
 def _broken(hand: Hand) -> Content:
     """A plan from elsewhere, and which rules it breaks."""
     return {"plan": hand.plan.path, "gone": hand.plan.gone, "broken": [broken._asdict() for broken in hand.broken]}
 
 
-def _comparison(report: Report, plan: NamedPlan, hand: Hand, text: Callable[[int], str]) -> Content:
+def _comparison(report: Report, plan: NamedPlan, hand: Hand) -> Content:
     """How a plan from elsewhere compares; `worse` where it breaks no rules that the best plan keeps."""
-    roster = report.roster
+    roster, text = report.roster, report.roster.plain
     content: Content = {**_broken(hand), "cost": text(sum(pair.cost for pair in hand.plan.known))}
     if hand.is_comparable:
         content["worse"] = text(worse_by(report, plan, hand))

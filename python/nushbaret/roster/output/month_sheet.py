@@ -10,6 +10,7 @@ from ..names import said
 from ..roster import Roster
 from ..rules.rule_file import HOURS, MONTHLY
 from ..rules.rule_rows import hours_of
+from ..rules.rules_kept import decimal
 from .texts import Report
 
 if TYPE_CHECKING:
@@ -104,15 +105,9 @@ def _staff_of(roster: Roster, block: Block, column: int, kind: str) -> Optional[
     staff = next((row.staff[column] for row in block.objects if row.label == kind), None)
     if staff is None:
         return None
-    wanted, number = _wanted(roster, staff.object), len(staff.persons)
+    least, number = roster.of_object(staff.object).least if roster.has_bounds else None, len(staff.persons)
+    wanted = roster.wanted[staff.object].number if staff.object in roster.wanted else least
     return StaffCell(number, wanted, wanted is not None and number < wanted)
-
-
-def _wanted(roster: Roster, object_: int) -> Optional[int]:
-    """How many are wanted, or needed at least; None where nothing says it."""
-    if object_ in roster.wanted:
-        return roster.wanted[object_].number
-    return roster.of_object(object_).least if roster.has_bounds else None
 
 
 def _columns(report: Report, plan: NamedPlan, days: Sequence[Day], kinds: Sequence[str],
@@ -168,17 +163,12 @@ def _hours(roster: Roster, ruling: "Ruling", plan: NamedPlan) -> List[SheetColum
             worked[pair.person] += hours_of(rules, month.shifts[pair.object])
     for (person, _), hours in rules.credits.items():
         worked[person] += hours
-    texts = [f"{_number(hours)}" + (f" ({_bounds(due[person].least, due[person].most)})" if person in due else "")
+    texts = [decimal(hours) + (f" ({_bounds(due[person].least, due[person].most)})" if person in due else "")
              for person, hours in worked.items()]
     return [SheetColumn("hours", "hours (due)", texts)]
 
 
 def _bounds(least: Optional[Fraction], most: Optional[Fraction]) -> str:
     if least is None or most is None or least == most:
-        return _number(least if least is not None else most or Fraction(0)) + ("-" if most is None else "")
-    return f"{_number(least)}-{_number(most)}"
-
-
-def _number(value: Fraction) -> str:
-    """Hours with as many decimal places as they need, two at most."""
-    return f"{float(value):.2f}".rstrip("0").rstrip(".")
+        return decimal(least if least is not None else most or Fraction(0)) + ("-" if most is None else "")
+    return f"{decimal(least)}-{decimal(most)}"

@@ -1,11 +1,11 @@
 """A month as the first sheet of a workbook: on one page of A4."""
-from typing import Any, Dict, List, Optional
+from typing import Any, Dict, List
 
 from ..answer import NamedPlan
 from ..dates import DAY_NAMES
 from ..day_tables import Cell, Day
 from ..names import said
-from .month_sheet import MonthSheet, StaffCell, month_sheet
+from .month_sheet import MonthSheet, month_sheet
 from .sheet_looks import FONT, LINE, WEEKEND, letter, put_text, set_to_print
 from .texts import Report
 
@@ -61,7 +61,9 @@ def add_month(book: Any, styles: Any, report: Report, plan: NamedPlan) -> None:
     for row, (kind, staff) in enumerate(found.staff, len(found.persons) + 2):
         looks.put(sheet, row, 1, kind, bold=True).alignment = looks.left
         for column, (count, day) in enumerate(zip(staff, found.days), 2):
-            _write_staff(sheet, looks, row, column, count, day)
+            is_short = count is not None and count.is_short
+            looks.put(sheet, row, column, "" if count is None else count.text, day.is_weekend, bold=is_short,
+                      color=_ALARM if is_short else None)
     _write_legend(sheet, looks, found, colours)
     _size(sheet, found)
 
@@ -89,12 +91,6 @@ def _write_cell(sheet: Any, looks: _Looks, row: int, column: int, found: MonthSh
         own.fill = looks.fill(_KINDS[number])
     if cell.is_changed:
         own.border = looks.changed
-
-
-def _write_staff(sheet: Any, looks: _Looks, row: int, column: int, count: Optional[StaffCell], day: Day) -> None:
-    is_short = count is not None and count.is_short
-    looks.put(sheet, row, column, "" if count is None else count.text, day.is_weekend, bold=is_short,
-              color=_ALARM if is_short else None)
 
 
 def _write_legend(sheet: Any, looks: _Looks, found: MonthSheet, colours: Dict[str, int]) -> None:

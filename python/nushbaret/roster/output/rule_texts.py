@@ -1,9 +1,9 @@
 """What is said of an answer to a roster with rules: exactly what was proved."""
-from typing import Callable, Dict, Iterator, List, Optional, Tuple
+from typing import Dict, Iterator, List, Optional, Tuple
 
 from ..answer import NamedPlan
-from ..names import MOST_NAMES, joined
-from ..roster import Roster, decimal_text
+from ..names import MOST_NAMES, first_of
+from ..roster import Roster
 from ..rules.rules_kept import Missed
 from ..rules.short_sums import MOST_LINES
 from ..rules.stages import BEST, BY_COUNTS, IMPOSSIBLE, UNDECIDED, Next, Proved, Reason, Why
@@ -55,9 +55,7 @@ def _indented(why: Why) -> List[str]:
 
 def sentence_of(reason: Reason) -> str:
     """A sentence with those that it is about, the first of many."""
-    more = len(reason.about) - MOST_NAMES
-    names = joined(reason.about[:MOST_NAMES]) + (f" and {more} others" if more > 1 else f" and {more} other" if more > 0
-                                                 else "")
+    names = first_of(reason.about, more="others" if len(reason.about) > MOST_NAMES + 1 else "other")
     return f"{reason.sentence} ({names})" if reason.about else reason.sentence
 
 
@@ -160,15 +158,12 @@ def missed_lines(roster: Roster, proved: Proved) -> List[str]:
         return []
     if not proved.missed:
         return ["missed: nothing that has a price"]
-    return [f"missed: {roster.shown(proved.missed_cost)} in all", *map(missed_text(roster), proved.missed)]
+    return [f"missed: {roster.shown(proved.missed_cost)} in all", *(_missed(roster, one) for one in proved.missed)]
 
 
-def missed_text(roster: Roster) -> Callable[[Missed], str]:
-    """What is said of one that is missed."""
-    def text(one: Missed) -> str:
-        times = f"{one.amount} times {roster.shown(one.cost // one.amount)}, " if one.amount > 1 else ""
-        return f"{one.broken.sentence}: {times}{roster.shown(one.cost)}"
-    return text
+def _missed(roster: Roster, one: Missed) -> str:
+    times = f"{one.amount} times {roster.shown(one.cost // one.amount)}, " if one.amount > 1 else ""
+    return f"{one.broken.sentence}: {times}{roster.shown(one.cost)}"
 
 
 def _otherwise(roster: Roster, cost: str, other: Proved, maximize: bool) -> str:
@@ -194,16 +189,16 @@ def as_content(roster: Roster, proved: Proved) -> Content:
     if proved.missing:
         content["missing"], content["least_missing"] = proved.missing, proved.least_missing
     if proved.has_prices:
-        content["missed_cost"] = decimal_text(proved.missed_cost, roster.decimals, ".")
-        content["missed"] = [{**one.broken._asdict(), "amount": one.amount,
-                              "cost": decimal_text(one.cost, roster.decimals, ".")} for one in proved.missed]
+        content["missed_cost"] = roster.plain(proved.missed_cost)
+        content["missed"] = [{**one.broken._asdict(), "amount": one.amount, "cost": roster.plain(one.cost)}
+                             for one in proved.missed]
     if proved.even:
         content["even"], content["is_most_even"] = [even._asdict() for even in proved.even], proved.is_most_even
     if proved.following:
         content["following"] = [_next_content(roster, found) for found in proved.following]
     if proved.otherwise is not None and proved.otherwise_cost is not None:
         without = as_content(roster, proved.otherwise)
-        without["cost"] = decimal_text(proved.otherwise_cost, roster.decimals, ".")
+        without["cost"] = roster.plain(proved.otherwise_cost)
         content["without_evenness"] = without
     return content
 
@@ -212,14 +207,8 @@ def _next_content(roster: Roster, found: Next) -> Content:
     """A next plan, for JSON: its pairs, what it costs and misses, and by how much others after it may be better."""
     if found.plan is None:
         return {"proved": IMPOSSIBLE if found.is_none else UNDECIDED}
-    cost = found.plan.cost
-
-    def text(units: int) -> str:
-        return decimal_text(units, roster.decimals, ".")
-
-    pairs = [{"person": roster.persons[pair.person], "object": roster.objects[pair.object], "cost": text(pair.cost)}
-             for pair in found.plan.pairs]
-    content: Content = {"cost": text(cost), "missed_cost": text(found.missed_cost), "pairs": pairs}
-    if found.better is not None:
-        content["better"] = text(found.better)
-    return content
+    pairs = [{"person": roster.persons[pair.person], "object": roster.objects[pair.object],
+              "cost": roster.plain(pair.cost)} for pair in found.plan.pairs]
+    content: Content = {"cost": roster.plain(found.plan.cost), "missed_cost": roster.plain(found.missed_cost),
+                        "pairs": pairs}
+    return content if found.better is None else {**content, "better": roster.plain(found.better)}

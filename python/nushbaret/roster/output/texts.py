@@ -2,10 +2,10 @@
 import csv
 import io
 from collections import Counter
-from typing import TYPE_CHECKING, Dict, Iterable, Iterator, List, NamedTuple, Optional, Sequence, Tuple
+from typing import TYPE_CHECKING, Dict, Iterable, List, NamedTuple, Optional, Sequence, Tuple
 
-from ..answer import (MOST_NAMES_SHOWN, PLURALS, Answer, Fair, Lost, NamedPlan, OfPerson, Pair, by_person, changes_of,
-    counted, left_out, named, sentence)
+from ..answer import (MOST_NAMES_SHOWN, PLURALS, Answer, Fair, Lost, NamedPlan, Pair, by_person, changes_of, counted,
+    left_out, named, sentence)
 from ..groups import Broken, Counts, order_of
 from ..names import guarded, joined, marked, quoted, said, shown_path, with_names_marked
 from ..roster import CHANGE, COMES, GOES, NOT_POSSIBLE, TITLES, OldPlan, PlanLine, Roster, alike, like
@@ -69,7 +69,9 @@ def read_lines(path: str, roster: Roster, on_terminal: bool) -> List[str]:
     if on_terminal:
         persons, objects = counted(len(roster.persons), roster.titles[0]), counted(len(roster.objects),
                                                                                    roster.titles[1])
-        lines.append(f"{persons}, {objects}, {counted(len(roster.costs), 'pair')}{_rule(roster)}")
+        rule = ("" if not roster.ruled else "; bounds: each name's counts are kept" if roster.has_bounds
+                else "; single counts: the side with the smaller sum takes all")
+        lines.append(f"{persons}, {objects}, {counted(len(roster.costs), 'pair')}{rule}")
     groups = alike(roster.persons) + alike(roster.objects)
     lines += [f"{shown_path(path)}: {said('alike', ', '.join(map(quoted, group)))}"
               for group in groups[:MOST_NAMES_SHOWN]]
@@ -87,14 +89,11 @@ def with_marks(report: Report) -> Report:
         kept = kept._replace(named=[pair._replace(person=marked(pair.person), object=marked(pair.object))
                                     for pair in kept.named], gone=list(map(marked, kept.gone)))
     if hand is not None:
-        hand = hand._replace(broken=[broken._replace(sentence=with_names_marked(broken.sentence,
-                                                                                (*broken.persons, *broken.objects)))
-                                     for broken in hand.broken])
+        hand = hand._replace(broken=list(map(_broken_marked, hand.broken)))
     proved = report.proved
     if proved is not None:
         named = [*report.roster.persons, *report.roster.objects]
-        missed = [one._replace(broken=one.broken._replace(sentence=with_names_marked(
-            one.broken.sentence, (*one.broken.persons, *one.broken.objects)))) for one in proved.missed]
+        missed = [one._replace(broken=_broken_marked(one.broken)) for one in proved.missed]
         proved = proved._replace(missed=missed, whys=[why._replace(reasons=[
             reason._replace(sentence=with_names_marked(reason.sentence, named), about=list(map(marked, reason.about)))
             for reason in why.reasons]) for why in proved.whys])
@@ -106,6 +105,10 @@ def with_marks(report: Report) -> Report:
     return report._replace(roster=roster, kept=kept, hand=hand, proved=proved)
 
 
+def _broken_marked(broken: Broken) -> Broken:
+    return broken._replace(sentence=with_names_marked(broken.sentence, (*broken.persons, *broken.objects)))
+
+
 def _title(title: str) -> str:
     """A title with marks, unless it is a word of ours."""
     return title if title in PLURALS or title in TITLES else marked(title)
@@ -113,14 +116,6 @@ def _title(title: str) -> str:
 
 def _numbers_of(names: List[str]) -> Dict[str, int]:
     return {name: number for number, name in enumerate(names)}
-
-
-def _rule(roster: Roster) -> str:
-    """Which rule decides, where names may count several times."""
-    if not roster.ruled:
-        return ""
-    return ("; single counts: the side with the smaller sum takes all" if not roster.has_bounds
-            else "; bounds: each name's counts are kept")
 
 
 def forgotten_line(roster: Roster, counts: Counts, side: int) -> Optional[str]:
@@ -164,7 +159,10 @@ def _cost_line(report: Report, plan: NamedPlan) -> str:
     which, title, own = "greatest" if options.max else "least", roster.titles[2], roster.shown(plan.cost)
     if report.answer.groups:
         title = said("of pairs that miss least" if roster.has_bounds else "of pairs", title, len(plan.pairs))
-    title += _bound(report, report.fair) if report.fair else ""
+    if report.fair:
+        bound = report.fair.pair and roster.shown(report.fair.pair.cost)
+        side = f" {_not_fixed(report.answer.plan)}{'below' if options.max else 'above'} {bound}" if bound else ""
+        title += " with no pair" + side
     if options.change_cost is not None:
         return f"{title}: {own}, the {which} with changes at {options.change_cost} each"
     return f"{which} {title}: {own}"
@@ -195,14 +193,6 @@ def _most_pairs(roster: Roster, plan: NamedPlan) -> int:
     of_objects = sum(roster.capacity_of(object_) for object_ in range(len(roster.objects))
                      if object_ not in roster.past)
     return sum(past.values()) + min(allowed, of_persons, of_objects)
-
-
-def _bound(report: Report, fair: Fair) -> str:
-    """What no pair costs more than."""
-    if fair.pair is None:
-        return " with no pair"
-    side = "below" if report.options.max else "above"
-    return f" with no pair {_not_fixed(report.answer.plan)}{side} {report.roster.shown(fair.pair.cost)}"
 
 
 def _not_fixed(plan: Optional[NamedPlan]) -> str:
@@ -253,16 +243,12 @@ def rows_of(roster: Roster, plan: NamedPlan) -> List[str]:
     """Each person with all of its own, then, if any object may have several, each object with all of its own."""
     own: Dict[int, List[str]] = {}
     for pair in plan.pairs:
-        text = f"{roster.objects[pair.object]}, {roster.shown(pair.cost)}{_why_fixed(roster, pair)}"
-        own.setdefault(pair.person, []).append(text)
+        why = "" if not pair.fixed else " (past)" if pair.object in roster.past else " (fixed)"
+        own.setdefault(pair.person, []).append(f"{roster.objects[pair.object]}, {roster.shown(pair.cost)}{why}")
     lines = [f"{roster.persons[person]}{_times(roster, len(texts))}: {'; '.join(texts)}"
              for person, texts in own.items()]
     return lines + [f"at {roster.objects[object_]}{_times(roster, len(who))}: {joined(who)}"
                     for object_, who in persons_at(roster, plan)]
-
-
-def _why_fixed(roster: Roster, pair: Pair) -> str:
-    return "" if not pair.fixed else " (past)" if pair.object in roster.past else " (fixed)"
 
 
 def persons_at(roster: Roster, plan: NamedPlan) -> List[Tuple[int, List[str]]]:
@@ -345,18 +331,15 @@ def changes(roster: Roster, plan: NamedPlan, kept: OldPlan) -> Note:
     found = changes_of(roster, plan, kept)
     goes = str(len(found.goes)) if found.comes else counted(len(found.goes), "pair")
     counts = _moved("come", found.comes, counted(len(found.comes), "pair")) + _moved("go", found.goes, goes)
-    details = [f"{own.person}: {'; '.join(_words_of(own))}" for own in by_person(roster, found)]
+    details = [f"{own.person}: " + "; ".join(_moved("go", own.goes, joined(own.goes))
+                                             + _moved("come", own.comes, joined(own.comes)))
+               for own in by_person(roster, found)]
     return Note(f"{shown_path(kept.path)}: {', '.join(counts) or said('no change')}", details + _lost_lines(found.lost))
 
 
 def _moved(way: str, those: Sequence[object], what: str) -> List[str]:
     """What comes, or goes."""
     return [said(f"{way} alone" if len(those) == 1 else way, what)] if those else []
-
-
-def _words_of(own: OfPerson) -> List[str]:
-    """What goes and what comes."""
-    return _moved("go", own.goes, joined(own.goes)) + _moved("come", own.comes, joined(own.comes))
 
 
 def _lost_lines(lost: Sequence[Lost]) -> List[str]:
@@ -411,7 +394,8 @@ def compared(report: Report, plan: NamedPlan, hand: Hand) -> Note:
 def as_csv(roster: Roster, plan: NamedPlan) -> str:
     """The pairs as a roster of lines, with the titles, the separator and the decimal mark of the roster that was
     read."""
-    return _csv(roster, roster.titles, _lines_of(roster, plan))
+    return _csv(roster, roster.titles, ((roster.persons[pair.person], roster.objects[pair.object],
+                                         roster.shown(pair.cost)) for pair in plan.pairs))
 
 
 def changes_as_csv(roster: Roster, plan: NamedPlan, kept: OldPlan) -> str:
@@ -430,16 +414,12 @@ def _csv(roster: Roster, titles: Sequence[str], lines: Iterable[Sequence[str]]) 
     text = io.StringIO()
     text.write("\ufeff" if roster.has_bom else "")
     # Readers take the separator from the title line, so no other may seem to be there.
+    is_quoted = any(mark in title for mark in SEPARATORS for title in roster.titles)
     csv.writer(text, delimiter=roster.separator, lineterminator="\n",
-               quoting=_title_quoting(roster)).writerow(map(guarded, titles))
+               quoting=csv.QUOTE_ALL if is_quoted else csv.QUOTE_MINIMAL).writerow(map(guarded, titles))
     writer = csv.writer(text, delimiter=roster.separator, lineterminator="\n")
     writer.writerows(map(guarded, line) for line in lines)
     return text.getvalue()
-
-
-def _lines_of(roster: Roster, plan: NamedPlan) -> Iterator[Tuple[str, ...]]:
-    for pair in plan.pairs:
-        yield roster.persons[pair.person], roster.objects[pair.object], roster.shown(pair.cost)
 
 
 def in_encoding_of(roster: Roster, text: str) -> bytes:
@@ -448,7 +428,3 @@ def in_encoding_of(roster: Roster, text: str) -> bytes:
         return text.encode(roster.encoding)
     except UnicodeEncodeError:
         return text.encode("utf-8-sig")
-
-
-def _title_quoting(roster: Roster) -> int:
-    return csv.QUOTE_ALL if any(mark in title for mark in SEPARATORS for title in roster.titles) else csv.QUOTE_MINIMAL

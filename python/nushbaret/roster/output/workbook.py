@@ -7,7 +7,7 @@ from typing import Any, List
 from ..answer import NamedPlan, left_out
 from ..files import OutputFault
 from ..names import kept_apart, shown_path
-from ..roster import PLAN_SHEET, Roster, decimal_text
+from ..roster import PLAN_SHEET, Roster
 from .day_sheets import add_days
 from .month_workbook import add_month
 from .page import MOST_CELLS, costs_by_person, frame_of
@@ -128,7 +128,7 @@ def _put(sheet: Any, row: int, column: int, text: str) -> None:
 
 def _put_cost(sheet: Any, row: int, column: int, roster: Roster, units: int) -> Any:
     """Writes a cost: as a number, where a spreadsheet's numbers have its digits."""
-    text = decimal_text(units, roster.decimals, ".")
+    text = roster.plain(units)
     if len(str(abs(units))) > MOST_DIGITS:
         _put(sheet, row, column, text)
         return sheet.cell(row, column)

@@ -17,7 +17,9 @@ def broken_rules(roster: Roster, hand: OldPlan, repeated: Sequence[NamedPair],
     pairs."""
     pairs = sorted([*hand.known, *(PlanLine(*pair, 0) for pair in hand.forbidden)])
     return [*_not_listed(roster, hand), *_repeated(hand, repeated), *_two_of_a_group(roster, pairs),
-            *_too_many(roster, pairs), *_too_few(roster, pairs, fixed), *_not_as_fixed(roster, pairs, fixed)]
+            *_too_many(roster, pairs), *(_of_count(roster, "least", lack.side, lack.number, lack.had, "at least "
+                                                   f"{lack.least}") for lack in lacking(roster, pairs, fixed)),
+            *_not_as_fixed(roster, pairs, fixed)]
 
 
 def _not_listed(roster: Roster, hand: OldPlan) -> Iterator[Broken]:
@@ -82,11 +84,6 @@ def lacking(roster: Roster, pairs: Sequence[Paired], fixed: Sequence[PlanLine]) 
 def lack_of(roster: Roster, pairs: Sequence[Paired], fixed: Sequence[PlanLine]) -> int:
     """By how much pairs miss least counts, in all."""
     return sum(missing.least - missing.had for missing in lacking(roster, pairs, fixed))
-
-
-def _too_few(roster: Roster, pairs: Sequence[Paired], fixed: Sequence[PlanLine]) -> Iterator[Broken]:
-    for missing in lacking(roster, pairs, fixed):
-        yield _of_count(roster, "least", missing.side, missing.number, missing.had, f"at least {missing.least}")
 
 
 def _of_count(roster: Roster, rule: str, side: int, number: int, had: int, bound: str) -> Broken:

@@ -73,10 +73,8 @@ def _measured(making: Making, rule: Rule) -> Dict[int, int]:
 
 def _less(own: Sum, factors: Dict[int, int]) -> Sum:
     """A sum less some variables with their factors."""
-    found = Sum()
-    found.terms, found.past, found.is_open = {**own.terms,
-                                              **{variable: -factor
-                                                 for variable, factor in factors.items()}}, own.past, True
+    found = Sum(True)
+    found.terms, found.past = {**own.terms, **{variable: -factor for variable, factor in factors.items()}}, own.past
     return found
 
 

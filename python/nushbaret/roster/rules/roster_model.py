@@ -167,8 +167,7 @@ def _one_of_each(making: Making) -> None:
 def _own(making: Making, rows: Sequence[OwnRow], past: Set[Pair]) -> None:
     """Rows of somebody's own rules. Pairs that aren't allowed are in no plan."""
     for row in rows:
-        own = Sum()
-        own.is_open = True
+        own = Sum(True)
         for pair, factor in row.terms:
             own.past += factor if pair in past else 0
             if pair in making.work.variables:

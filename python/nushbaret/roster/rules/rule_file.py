@@ -125,8 +125,8 @@ def rules_of(path: str, lines: Sequence[RuleLine], roster: Roster, month: Month)
 
 
 PATTERNS: Sequence[Tuple[str, str]] = (
-    ("rest", "rest"), ("hours of", "hours_of"), ("holiday", "holiday"), ("no single", "no_single"), ("apart", "apart"),
-    ("together", "together"), ("whole weekends?", "whole"), ("free weekends?", "free"), ("even", "even"),
+    ("rest", "rest"), ("hours of", "hours_of"), ("holiday", "holiday"), ("no single", "no_single"),
+    ("apart|together", "with_others"), ("whole weekends?", "whole"), ("free weekends?", "free"), ("even", "even"),
     (r"at (least|most) ([0-9]{1,4}) on", "staff"), ("days off in a row", "off"), ("weekends in a row", "weekend_run"),
     ("same kind in a row", "same"), ("(.+) in a row", "run"), (r"(.+) in ([0-9]{1,3}) days", "window"),
     ("free after(?: (.+))?", "after"), ("credit", "credit"), ("hours per (week|month)", "per_hours"),
@@ -369,15 +369,9 @@ class _RuleReader:
         self._add(line, Rule(STAFF, f"at {side} {words[2]} of {who} on {line.value or 'each'}", persons, kinds, None,
                              least, most))
 
-    def _apart(self, line: RuleLine, words: Match[str]) -> None:
-        self._with_others(line, APART)
-
-    def _together(self, line: RuleLine, words: Match[str]) -> None:
-        self._with_others(line, TOGETHER)
-
-    def _with_others(self, line: RuleLine, what: str) -> None:
+    def _with_others(self, line: RuleLine, words: Match[str]) -> None:
         self._no_value(line)
-        persons = self._several(line)
+        persons, what = self._several(line), words[0].casefold()
         self._add(line, Rule(what, f"{what}: {', '.join(self._roster.persons[person] for person in persons)}", persons))
 
     def _even(self, line: RuleLine, words: Match[str]) -> None:

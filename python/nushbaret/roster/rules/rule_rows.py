@@ -220,8 +220,8 @@ def _pause(making: Making, rule: Rule) -> None:
                 gap = rule.length - (other - day) * MINUTES
                 short: Optional[int] = None
                 for end in sorted({ends(shift) for shift in work.shifts(person, day)}):
-                    own = work.sum_where(person, day, _ends_from(end), Sum())
-                    own = work.sum_where(person, other, _begins_before(end + gap), own)
+                    own = work.sum_where(person, day, lambda shift: ends(shift) >= end, Sum())
+                    own = work.sum_where(person, other, lambda shift: begins(shift) < end + gap, own)
                     short = _not_both(making, rule, own, short, person)
 
 
@@ -236,14 +236,6 @@ def _not_both(making: Making, rule: Rule, own: Sum, short: Optional[int], person
         short = making.rows.helper(person, rule.price) if short is None else short
         making.rows.add(own.add(short, -1), None, 1, said, person)
     return short
-
-
-def _ends_from(minute: int) -> Callable[[Shift], bool]:
-    return lambda shift: ends(shift) >= minute
-
-
-def _begins_before(minute: int) -> Callable[[Shift], bool]:
-    return lambda shift: begins(shift) < minute
 
 
 def ends(shift: Shift) -> int:
@@ -281,8 +273,7 @@ def _free(making: Making, rule: Rule) -> None:
     if making.month.are_past(weekends):
         return
     for person in rule.persons:
-        said, free = making.said(rule, person), Sum()
-        free.is_open = True
+        said, free = making.said(rule, person), Sum(True)
         for days in weekends:
             variable = making.rows.helper(person)
             free.add(variable)
@@ -350,8 +341,7 @@ def _both_or_none(making: Making, own: Sum, alone: Optional[int], said: Said) ->
 
 def _at(making: Making, persons: Sequence[int], object_: int) -> Sum:
     """How many of some persons an object has."""
-    found = Sum()
-    found.is_open = True
+    found = Sum(True)
     for person in persons:
         variable = making.work.variables.get((person, object_))
         if variable is not None:
@@ -359,7 +349,6 @@ def _at(making: Making, persons: Sequence[int], object_: int) -> Sum:
     return found
 
 
-MAKERS: Dict[str, Callable[[Making, Rule], None]] = {RUN: _run, COUNT: _count, HOURS: _hours, FREE: _free,
-                                                     WHOLE: _whole, STAFF: _staff, APART: _apart, TOGETHER: _together,
-                                                     WINDOW: _window, OFF: _off, AFTER: _after, PAUSE: _pause,
-                                                     WEEKEND_RUN: _weekend_run}
+MAKERS: Dict[str, Callable[[Making, Rule], None]] = {
+    RUN: _run, COUNT: _count, HOURS: _hours, FREE: _free, WHOLE: _whole, STAFF: _staff, APART: _apart,
+    TOGETHER: _together, WINDOW: _window, OFF: _off, AFTER: _after, PAUSE: _pause, WEEKEND_RUN: _weekend_run}

@@ -3,6 +3,7 @@ rules to the solver. And what rules don't look at, or otherwise than it seems: o
 an earlier plan the roster or its groups don't have, kinds that are hardly two, holidays on other days, and words for
 days of the week."""
 from fractions import Fraction
+from itertools import chain
 from math import ceil
 from typing import Callable, Dict, Iterable, Iterator, List, NamedTuple, Optional, Sequence, Set, Tuple
 
@@ -67,6 +68,11 @@ class DailyPlan(NamedTuple):
         return Breach(Broken(rule.what, [self.roster.persons[person] for person in persons], names,
                              f"{text} ({rule.sentence})"), amount)
 
+    def by_person(self, rule: Rule, person: int, own: Iterable[Had], text: str, amount: int = 1) -> Breach:
+        """That a rule is broken by a person at some shifts."""
+        return self.broken(rule, [person], [object_ for _, object_ in own], f"{self.roster.persons[person]}: {text}",
+                           amount)
+
     def called(self, own: Had) -> str:
         """What a shift is called: its object's name; of an earlier day its kind and day."""
         shift, object_ = own
@@ -121,8 +127,8 @@ def _rest(plan: DailyPlan, rule: Rule) -> Iterator[Breach]:
         for day in range(month.known, month.last):
             first, second = plan.on(person, day, rule.kinds), plan.on(person, day + 1, rule.after)
             if first and second and not month.is_past(day + 1):
-                text = f"{plan.roster.persons[person]}: {plan.called(second[0])} after {plan.called(first[0])}"
-                yield plan.broken(rule, [person], [first[0][1], second[0][1]], text)
+                yield plan.by_person(rule, person, [first[0], second[0]],
+                                     f"{plan.called(second[0])} after {plan.called(first[0])}")
 
 
 def _runs(plan: DailyPlan, person: int, kinds: Kinds) -> Iterator[range]:
@@ -142,10 +148,9 @@ def _run(plan: DailyPlan, rule: Rule) -> Iterator[Breach]:
             too_long = [day for day in beyond if not plan.month.is_past(day)]
             is_short = rule.least is not None and len(run) < rule.least and _is_cut(plan, rule, person, run)
             if too_long or is_short:
-                text = f"{plan.roster.persons[person]}: {len(run)} in a row, {_from_to(plan.month, run)}"
-                amount = len(too_long) if too_long else len(_lacking(plan, rule, person, run))
-                yield plan.broken(rule, [person], [object_ for _, object_ in plan.all_on(person, run, rule.kinds)],
-                                  text, amount)
+                yield plan.by_person(rule, person, plan.all_on(person, run, rule.kinds),
+                                     f"{len(run)} in a row, {_from_to(plan.month, run)}",
+                                     len(too_long or _lacking(plan, rule, person, run)))
 
 
 def _lacking(plan: DailyPlan, rule: Rule, person: int, run: range) -> List[int]:
@@ -199,14 +204,13 @@ def _bounded(plan: DailyPlan, rule: Rule, of: Callable[[Sequence[Had]], Fraction
             too_many = rule.most is not None and total > rule.most and planned > 0
             too_few = is_whole and rule.least is not None and total < rule.least and bool(still)
             if too_many or too_few:
-                text = f"{plan.roster.persons[person]}: {_decimal(total)} {word}{where}"
                 amount = min(total - (rule.most or 0), planned) if too_many else (rule.least or 0) - total
-                yield plan.broken(rule, [person], [object_ for _, object_ in own], text, ceil(amount))
+                yield plan.by_person(rule, person, own, f"{decimal(total)} {word}{where}", ceil(amount))
 
 
-def _decimal(number: Fraction) -> str:
+def decimal(number: Fraction) -> str:
     """A number as people write it, with two decimals at most."""
-    return str(number.numerator) if number.denominator == 1 else f"{float(number):.2f}".rstrip("0")
+    return f"{float(number):.2f}".rstrip("0").rstrip(".")
 
 
 def _outside(rule: Rule, number: int) -> int:
@@ -237,8 +241,7 @@ def _window(plan: DailyPlan, rule: Rule) -> Iterator[Breach]:
             too_few = rule.least is not None and len(own) < rule.least and not month.is_past(days[-1])
             if too_many or too_few:
                 amount = min(len(own) - (rule.most or 0), planned) if too_many else (rule.least or 0) - len(own)
-                yield plan.broken(rule, [person], [object_ for _, object_ in own], f"{plan.roster.persons[person]}: "
-                                  f"{len(own)} in {_from_to(month, days)}", int(amount))
+                yield plan.by_person(rule, person, own, f"{len(own)} in {_from_to(month, days)}", int(amount))
 
 
 def _off(plan: DailyPlan, rule: Rule) -> Iterator[Breach]:
@@ -247,16 +250,16 @@ def _off(plan: DailyPlan, rule: Rule) -> Iterator[Breach]:
     for person in rule.persons:
         worked = [day for day in range(month.known, month.last + 1) if plan.on(person, day)]
         for before, after in zip([month.known - 1, *worked], [*worked, month.last + 1]):
-            off, name = range(before + 1, after), plan.roster.persons[person]
+            off = range(before + 1, after)
             over = [day for day in off[int(rule.most):] if not month.is_past(day)] if rule.most is not None else []
             if over:
-                yield plan.broken(rule, [person], [], f"{name}: {len(off)} days off, {_from_to(month, off)}", len(over))
+                yield plan.by_person(rule, person, [], f"{len(off)} days off, {_from_to(month, off)}", len(over))
             early = [day for day in range(after, min(before + 1 + int(rule.least or 0), month.last + 1))
                      if plan.on(person, day) and not month.is_past(day)]
             if early and off and before >= month.known:
-                yield plan.broken(rule, [person], [object_ for _, object_ in plan.all_on(person, early)],
-                                  f"{name}: {len(off)} day{'s' if len(off) > 1 else ''} off, {_from_to(month, off)}",
-                                  len(early))
+                days = f"{len(off)} day{'s' if len(off) > 1 else ''}"
+                yield plan.by_person(rule, person, plan.all_on(person, early), f"{days} off, {_from_to(month, off)}",
+                                     len(early))
 
 
 def _after(plan: DailyPlan, rule: Rule) -> Iterator[Breach]:
@@ -266,9 +269,8 @@ def _after(plan: DailyPlan, rule: Rule) -> Iterator[Breach]:
             free = range(run[-1] + 1, min(run[-1] + 1 + int(rule.least or 0), month.last + 1))
             worked = [day for day in free if plan.on(person, day) and not month.is_past(day)]
             if len(run) >= rule.length and worked:
-                objects = [object_ for _, object_ in plan.all_on(person, worked)]
                 text = f"{plan.called(plan.on(person, worked[0])[0])} after {_from_to(month, run)}"
-                yield plan.broken(rule, [person], objects, f"{plan.roster.persons[person]}: {text}", len(worked))
+                yield plan.by_person(rule, person, plan.all_on(person, worked), text, len(worked))
 
 
 def _pause(plan: DailyPlan, rule: Rule) -> Iterator[Breach]:
@@ -280,8 +282,7 @@ def _pause(plan: DailyPlan, rule: Rule) -> Iterator[Breach]:
                          if (other - day) * MINUTES + begins(two[0]) - ends(one[0]) < rule.length]
                 if short and not month.is_past(other):
                     one, two = short[0]
-                    yield plan.broken(rule, [person], [one[1], two[1]], f"{plan.roster.persons[person]}: "
-                                      f"{plan.called(two)} after {plan.called(one)}")
+                    yield plan.by_person(rule, person, [one, two], f"{plan.called(two)} after {plan.called(one)}")
 
 
 def _weekend_run(plan: DailyPlan, rule: Rule) -> Iterator[Breach]:
@@ -294,9 +295,8 @@ def _weekend_run(plan: DailyPlan, rule: Rule) -> Iterator[Breach]:
             own = weekends[first:first + count]
             past = [[day for day in days if month.is_past(day)] for days in own]
             if all(plan.all_on(person, days) for days in own) and not all(plan.all_on(person, days) for days in past):
-                objects = [object_ for days in own for _, object_ in plan.all_on(person, days)]
-                yield plan.broken(rule, [person], objects, f"{plan.roster.persons[person]}: {count} weekends in a row, "
-                                  f"{_from_to(month, [own[0][0], own[-1][-1]])}")
+                text = f"{count} weekends in a row, {_from_to(month, [own[0][0], own[-1][-1]])}"
+                yield plan.by_person(rule, person, plan.all_on(person, chain(*own)), text)
 
 
 def _free(plan: DailyPlan, rule: Rule) -> Iterator[Breach]:
@@ -307,10 +307,8 @@ def _free(plan: DailyPlan, rule: Rule) -> Iterator[Breach]:
         worked = [days for days in weekends if plan.all_on(person, days)]
         free = len(weekends) - len(worked)
         if rule.least is not None and free < rule.least or rule.most is not None and free > rule.most:
-            objects = [object_ for days in worked for _, object_ in plan.all_on(person, days)]
-            amount = _outside(rule, free)
-            yield plan.broken(rule, [person], objects, f"{plan.roster.persons[person]}: {free} free "
-                              f"weekend{'' if free == 1 else 's'}", amount)
+            yield plan.by_person(rule, person, plan.all_on(person, chain(*worked)),
+                                 f"{free} free weekend{'' if free == 1 else 's'}", _outside(rule, free))
 
 
 def _whole(plan: DailyPlan, rule: Rule) -> Iterator[Breach]:
@@ -323,8 +321,8 @@ def _whole(plan: DailyPlan, rule: Rule) -> Iterator[Breach]:
                                                              and not plan.may(person, other, None))
                 if bool(own) != bool(others) and can_mend:
                     there, gone = (own, other) if own else (others, day)
-                    text = f"{plan.roster.persons[person]}: {plan.called(there[0])}, and none on {month.name(gone)}"
-                    yield plan.broken(rule, [person], [there[0][1]], text)
+                    yield plan.by_person(rule, person, there[:1],
+                                         f"{plan.called(there[0])}, and none on {month.name(gone)}")
 
 
 def _planned(plan: DailyPlan, kinds: Kinds) -> Iterator[int]:
@@ -360,11 +358,9 @@ def _together(plan: DailyPlan, rule: Rule) -> Iterator[Breach]:
             yield plan.broken(rule, there, [object_], text)
 
 
-READERS: Dict[str, Callable[[DailyPlan, Rule], Iterator[Breach]]] = {REST: _rest, RUN: _run, COUNT: _count,
-                                                                     HOURS: _hours, FREE: _free, WHOLE: _whole,
-                                                                     STAFF: _staff, APART: _apart, TOGETHER: _together,
-                                                                     WINDOW: _window, OFF: _off, AFTER: _after,
-                                                                     PAUSE: _pause, WEEKEND_RUN: _weekend_run}
+READERS: Dict[str, Callable[[DailyPlan, Rule], Iterator[Breach]]] = {
+    REST: _rest, RUN: _run, COUNT: _count, HOURS: _hours, FREE: _free, WHOLE: _whole, STAFF: _staff, APART: _apart,
+    TOGETHER: _together, WINDOW: _window, OFF: _off, AFTER: _after, PAUSE: _pause, WEEKEND_RUN: _weekend_run}
 
 
 def without_day(roster: Roster, lacks: str) -> Iterator[str]:

@@ -38,14 +38,10 @@ def read_ruling(options: Options, roster: Roster, say: Callable[[str], object]) 
     return Ruling(month._replace(holidays=rules.holidays), rules)
 
 
-def broken_rules_of(ruling: Ruling, roster: Roster, pairs: Sequence[Paired]) -> List[Broken]:
-    """The rules of the file that a plan breaks."""
-    return broken_by(plan_of(roster, ruling.rules, ruling.month, pairs))
-
-
-def missed_cost_of(ruling: Ruling, roster: Roster, pairs: Sequence[Paired]) -> int:
-    """What a plan misses costs of rules and counts with a price."""
-    return sum(one.cost for one in missed_by(plan_of(roster, ruling.rules, ruling.month, pairs)))
+def judged(ruling: Ruling, roster: Roster, pairs: Sequence[Paired]) -> Tuple[List[Broken], int]:
+    """The rules of the file that a plan breaks, and what it misses costs of rules and counts with a price."""
+    plan = plan_of(roster, ruling.rules, ruling.month, pairs)
+    return broken_by(plan), sum(one.cost for one in missed_by(plan))
 
 
 def answered_by(ruling: Ruling, roster: Roster, request: Request, options: Options,

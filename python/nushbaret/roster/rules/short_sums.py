@@ -5,7 +5,7 @@ from ...counts.lack import Lack
 from ...rows.model import Shortage
 from ..answer import counted
 from ..month import Month
-from ..names import MOST_NAMES, joined
+from ..names import MOST_NAMES, first_of, joined
 from ..roster import Roster
 from .roster_model import Built
 
@@ -55,21 +55,16 @@ class Short(NamedTuple):
 
 def shorts_of(found: Built, sums: Sequence[PlacesSum], shortages: Sequence[Shortage]) -> List[Short]:
     """The fewest and smallest sums that say the most, each of objects of its own."""
-    rows = found.rows.rows
+    rows, said = found.rows.rows, found.rows.said
     shorts = []
     for one in shortages:
         objects = sums[one.place].objects
         own = set(objects)
         persons = tuple(sorted({person for person, object_ in found.pairs if object_ in own}))
         wanted = sum(rows[row].least or 0 for row in sums[one.place].rows)
-        shorts.append(Short(objects, persons, wanted, one.had, _sentences(found, one.limits)))
+        limits = dict.fromkeys(said[text].sentence if text in said else text for text in one.limits)
+        shorts.append(Short(objects, persons, wanted, one.had, tuple(limits)))
     return chosen(shorts)
-
-
-def _sentences(found: Built, texts: Sequence[str]) -> Tuple[str, ...]:
-    """The sentences of rows, each once."""
-    said = found.rows.said
-    return tuple(dict.fromkeys(said[text].sentence if text in said else text for text in texts))
 
 
 def chosen(shorts: Sequence[Short]) -> List[Short]:
@@ -81,26 +76,17 @@ def chosen(shorts: Sequence[Short]) -> List[Short]:
     counts: Dict[Tuple[int, ...], int] = {}
     for is_last in (False, True):
         for short in by_size:
-            inside, rest = _parted(kept, short)
+            inside = [one for one in kept if set(short.objects).issuperset(one.objects)]
+            rest = [one for one in kept if one not in inside]
             lack, count = sum(one.lack for one in inside), sum(counts[one.objects] for one in inside)
             is_more = short.lack > lack
             is_fewer = len(inside) > 1 and (short.lack == lack and count > _MOST_ALIKE
                                             or is_last and len(kept) > MOST_LINES)
-            if (is_more or is_fewer) and not _overlap(rest, short):
+            if (is_more or is_fewer) and all(set(short.objects).isdisjoint(one.objects) for one in rest):
                 kept = [*rest, short]
                 counts[short.objects] = 1 if is_more else count
     kept.sort(key=lambda short: short.objects)
     return kept
-
-
-def _parted(kept: Sequence[Short], short: Short) -> Tuple[List[Short], List[Short]]:
-    own = set(short.objects)
-    inside = [one for one in kept if own.issuperset(one.objects)]
-    return inside, [one for one in kept if one not in inside]
-
-
-def _overlap(kept: Sequence[Short], short: Short) -> bool:
-    return any(not set(short.objects).isdisjoint(one.objects) for one in kept)
 
 
 def short_of_lack(lack: Lack) -> Short:
@@ -162,7 +148,7 @@ def _where(roster: Roster, month: Month, short: Short) -> str:
     kind = next(iter(kinds)) if len(kinds) == 1 else None
     if kind and set(objects) == {object_ for object_ in of_days if month.shifts[object_].kind == kind}:
         return f" ({kind}) {_span(month, days)}"
-    return f" ({_first([roster.objects[object_] for object_ in objects])})"
+    return f" ({first_of([roster.objects[object_] for object_ in objects])})"
 
 
 def _needed(roster: Roster, month: Month) -> Set[int]:
@@ -179,12 +165,7 @@ def _span(month: Month, days: Set[int]) -> str:
         return f"on {month.name(own[0])}"
     if held[held.index(own[0]):held.index(own[-1]) + 1] == own:
         return f"from {month.name(own[0])} to {month.name(own[-1])}"
-    return f"on {_first([month.name(day) for day in own])}"
-
-
-def _first(names: Sequence[str]) -> str:
-    more = len(names) - MOST_NAMES
-    return joined(names[:MOST_NAMES]) + (f" and {more} more" if more > 0 else "")
+    return f"on {first_of([month.name(day) for day in own])}"
 
 
 def _of_persons(roster: Roster, lack: Lack) -> str:

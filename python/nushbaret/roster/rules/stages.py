@@ -241,7 +241,10 @@ def _fullest(task: Task, why: Optional[Proved], end: float) -> Tuple[Answer, Pro
         return _by_costs(task, end)
     finding = stages.least_missing()
     if finding.plan is not None and not finding.cost:
-        return _unmissed(task, stages, finding, end)
+        # The plan of least cost, where one that misses nothing is known.
+        known = {pair for pair, value in zip(stages.built.pairs, finding.plan) if value}
+        whole = _Stages(task._replace(known=[known, *task.known]), end)
+        return whole.answer(whole.costs())
     if why is None:
         first = _Stages(task, time.monotonic() + WHY_SHARE * max(0.1, end - time.monotonic()))
         of_all = first.costs()
@@ -257,13 +260,6 @@ def _fullest(task: Task, why: Optional[Proved], end: float) -> Tuple[Answer, Pro
         return Answer(None, []), why._replace(is_fullest_open=True)
     answer, proved = stages.answer(finding)
     return answer, proved._replace(whys=why.whys, is_around_past=why.is_around_past)
-
-
-def _unmissed(task: Task, stages: "_Stages", finding: Finding, end: float) -> Tuple[Answer, Proved]:
-    """The plan of least cost, where one that misses nothing is known."""
-    known = {pair for pair, value in zip(stages.built.pairs, finding.plan or ()) if value}
-    whole = _Stages(task._replace(known=[known, *task.known]), end)
-    return whole.answer(whole.costs())
 
 
 def _reasons(found: Built, texts: Sequence[str]) -> List[Reason]:
@@ -309,15 +305,13 @@ class _Stages:
                 show(goal, done, cost, bound)
 
         self.sums = sums_of(self.built, self.task.month)
+        # The values of the pairs' variables in plans known before.
+        fixed = {(pair.person, pair.object) for pair in self.task.request.fixed}
+        known = [[int(pair in own or pair in fixed) for pair in self.built.pairs] for own in self.task.known]
         finding = find(self.built.rows.model(costs, self._rows), seconds, named, self._start,
-                       [own.rows for own in self.sums], self._known())
+                       [own.rows for own in self.sums], known)
         self._start = finding.plan if finding.plan is not None else self._start
         return finding
-
-    def _known(self) -> List[List[int]]:
-        """The values of the pairs' variables in plans known before."""
-        fixed = {(pair.person, pair.object) for pair in self.task.request.fixed}
-        return [[int(pair in own or pair in fixed) for pair in self.built.pairs] for own in self.task.known]
 
     def _weighed(self, factors: Dict[int, int]) -> List[int]:
         """Costs that are factors of some variables alone."""
@@ -456,11 +450,8 @@ class _Stages:
         request = self.task.request
         still = (request.kept or set()).intersection(self.built.pairs)
         still -= full_pairs(self.task.roster, request.fixed, still)
-        return (-1 if request.maximize else 1) * (cost + len(still) * (request.change or 0) + 2 * self._past_cost())
-
-    def _past_cost(self) -> int:
-        sign = -1 if self.task.request.maximize else 1
-        return sign * sum(pair.cost for pair in self.task.request.fixed if pair.object in self.task.roster.past)
+        past = sum(pair.cost for pair in request.fixed if pair.object in self.task.roster.past)
+        return (-1 if request.maximize else 1) * (cost + len(still) * (request.change or 0)) + 2 * past
 
     def _even(self, plan: NamedPlan) -> List[Evenness]:
         """How even a plan is."""

@@ -24,10 +24,10 @@ class Said(NamedTuple):
 class Sum:
     """A sum of variables, and of what is past. It is open if any of it can still be planned."""
 
-    def __init__(self) -> None:
+    def __init__(self, is_open: bool = False) -> None:
         self.terms: Dict[int, Number] = {}
         self.past: Number = 0
-        self.is_open = False
+        self.is_open = is_open
 
     def add(self, variable: int, factor: Number = 1) -> "Sum":
         """Adds a variable."""
