@@ -164,9 +164,10 @@ impl<'a> Work<'a> {
         Ok(Step::To(Stage::Finish))
     }
 
-    // Whether a copy with loss is faster than a core.
+    // Whether searches over a copy with loss can be faster than a core. With many more objects than persons
+    // those over all costs find an unowned object soon.
     pub fn may_shift<R: Reading<i64>>(&self, matrix: &Matrix<'_, i64, R>) -> bool {
-        self.may_copy && matrix.pairs() <= MOST_COPIED && matrix.persons > matrix.objects / 8 * 5
+        self.may_copy && matrix.pairs() <= MOST_COPIED && matrix.persons > matrix.objects / 8 * 7
     }
 
     // Whether searches over a copy can follow on a core. With more objects than persons larger cores

@@ -24,8 +24,8 @@ const RETRY_PASSES: u64 = 64;
 const SHIFT_PASSES: u64 = 8;
 
 // If bids leave more than this part of the persons, searches would take longer than a copy with loss: of
-// drawn costs they leave a twentieth, of points of the plane a fifth. In large problems a core is faster
-// up to a half.
+// drawn costs they leave a twentieth, of points of the plane a fifth. In large squares a core is faster up
+// to a half, and where objects stay unowned searches are.
 const PART_LEFT: usize = 6;
 
 const LARGE_PART_LEFT: usize = 2;
@@ -43,7 +43,12 @@ fn arc_scans_of_core<R: Reading<i64>>(matrix: &Matrix<'_, i64, R>) -> u64 {
 impl<'a> Work<'a> {
     // Whether bids left so many persons that a copy with loss is faster than searches.
     fn is_hard<R: Reading<i64>>(&self, matrix: &Matrix<'_, i64, R>) -> bool {
-        let part = if matrix.pairs() < MIDDLE { PART_LEFT } else { LARGE_PART_LEFT };
+        let is_square = matrix.persons == matrix.objects;
+        let part = if is_square && matrix.pairs() < MIDDLE {
+            PART_LEFT
+        } else {
+            LARGE_PART_LEFT
+        };
         let left = self.market.unassigned();
         matrix.pairs() >= SMALL && self.may_shift(matrix) && left > matrix.persons / part
     }
