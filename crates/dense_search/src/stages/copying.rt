@@ -16,7 +16,7 @@ const MOST_IN_PLACE: usize = 1 << 10;
 const MOST_NARROW: usize = 1 << 21;
 
 // Problems with more pairs aren't copied where a core isn't enough.
-const MOST_COPIED: usize = 1 << 24;
+pub const MOST_COPIED: usize = 1 << 24;
 
 // Whether searches over a copy in 32 bits are fastest. With many more objects than persons few pairs
 // are looked at, and a copy takes longer than these.
@@ -162,12 +162,6 @@ impl<'a> Work<'a> {
         }
         self.record.passes = 0;
         Ok(Step::To(Stage::Finish))
-    }
-
-    // Whether searches over a copy with loss can be faster than a core. With many more objects than persons
-    // those over all costs find an unowned object soon.
-    pub fn may_shift<R: Reading<i64>>(&self, matrix: &Matrix<'_, i64, R>) -> bool {
-        self.may_copy && matrix.pairs() <= MOST_COPIED && matrix.persons > matrix.objects / 8 * 7
     }
 
     // Whether searches over a copy can follow on a core. With more objects than persons larger cores

@@ -6,7 +6,7 @@ use super::super::reading::Reading;
 use super::super::record::{Ended, Outcome, Stage};
 use super::super::settling::settle_all;
 use super::beginning::MIDDLE;
-use super::copying::is_middle;
+use super::copying::{MOST_COPIED, is_middle};
 use super::kept::Kept;
 use super::{CORE_PASSES, Step, Work, after};
 use std::alloc::{AllocError, Global};
@@ -26,7 +26,7 @@ const SHIFT_PASSES: u64 = 8;
 // If bids leave more than this part of the persons, searches would take longer than a copy with loss: of
 // drawn costs they leave a twentieth, of points of the plane a fifth. In large squares a core is faster up
 // to a half, and where objects stay unowned searches are.
-const PART_LEFT: usize = 6;
+const PART_LEFT: usize = 7;
 
 const LARGE_PART_LEFT: usize = 2;
 
@@ -41,6 +41,15 @@ fn arc_scans_of_core<R: Reading<i64>>(matrix: &Matrix<'_, i64, R>) -> u64 {
 }
 
 impl<'a> Work<'a> {
+    // Whether searches over a copy with loss can be faster than a core. With many more objects than persons
+    // those over all costs find an unowned object soon.
+    fn may_shift<R: Reading<i64>>(&self, matrix: &Matrix<'_, i64, R>) -> bool {
+        self.may_copy
+            && matrix.pairs() >= SMALL
+            && matrix.pairs() <= MOST_COPIED
+            && matrix.persons > matrix.objects / 8 * 7
+    }
+
     // Whether bids left so many persons that a copy with loss is faster than searches.
     fn is_hard<R: Reading<i64>>(&self, matrix: &Matrix<'_, i64, R>) -> bool {
         let is_square = matrix.persons == matrix.objects;
@@ -50,7 +59,7 @@ impl<'a> Work<'a> {
             LARGE_PART_LEFT
         };
         let left = self.market.unassigned();
-        matrix.pairs() >= SMALL && self.may_shift(matrix) && left > matrix.persons / part
+        self.may_shift(matrix) && left > matrix.persons / part
     }
 
     // Searches for all persons from the bids, as far as a core isn't as fast.
