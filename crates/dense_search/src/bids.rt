@@ -49,16 +49,15 @@ pub fn give_unowned<K: Number, R: Reading<K>>(
 }
 
 // Gives each person an unowned object whose least cost is the person's, if there is one, at first
-// prices: the column reduction of Jonker and Volgenant. Returns the arc scans at pairs.
+// prices over these values of persons: the column reduction of Jonker and Volgenant. Returns the arc scans
+// at pairs.
 pub fn give_least<K: Number, R: Reading<K>>(
     matrix: &Matrix<'_, K, R>,
     market: &mut Market<'_, K>,
+    firsts: &[K],
 ) -> usize {
-    let are_rows_first = matrix.is_mostly_far();
-    for k in 0..matrix.persons {
-        let person = place_at(k);
-        let own = matrix.first_value(person, are_rows_first);
-        let _ = give_unowned(matrix, market, person, own);
+    for (k, own) in firsts.iter().enumerate() {
+        let _ = give_unowned(matrix, market, place_at(k), *own);
     }
     matrix.pairs()
 }

@@ -45,37 +45,43 @@ fn spread_of<K: Number, R: Reading<K>>(matrix: &Matrix<'_, K, R>) -> i64 {
 
 // First prices, and bids without slackness.
 fn begin_paths<K: Number, R: Reading<K>>(
+    alloc: Global,
     matrix: &Matrix<'_, K, R>,
     market: &mut Market<'_, K>,
     record: &mut Record,
     arc_scans: &mut ArcScans,
-) {
+) -> Result<(), AllocError> {
+    let firsts = matrix.first_values(alloc)?;
     market.release_all();
-    arc_scans.add(begin(matrix, market.prices));
+    arc_scans.add(begin(matrix, firsts.as_slice(), market.prices));
     let made = bid_without_slackness(matrix, market, matrix.persons / TRIAL, arc_scans);
     let assigned = matrix.persons.saturating_sub(market.unassigned());
     if matrix.persons == matrix.objects && assigned < made / POOR {
         market.release_all();
-        arc_scans.add(begin(matrix, market.prices));
-        arc_scans.add(give_least(matrix, market));
+        arc_scans.add(begin(matrix, firsts.as_slice(), market.prices));
+        arc_scans.add(give_least(matrix, market, firsts.as_slice()));
     }
     let most = matrix.persons.saturating_mul(BIDS);
     let _ = bid_without_slackness(matrix, market, most, arc_scans);
     record.passes = 0;
     record.bids = 0;
     record.stage = Stage::CopyPaths;
+    Ok(())
 }
 
 fn begin_auction<K: Number, R: Reading<K>>(
+    alloc: Global,
     matrix: &Matrix<'_, K, R>,
     market: &mut Market<'_, K>,
     record: &mut Record,
     arc_scans: &mut ArcScans,
-) {
-    arc_scans.add(begin(matrix, market.prices));
+) -> Result<(), AllocError> {
+    let firsts = matrix.first_values(alloc)?;
+    arc_scans.add(begin(matrix, firsts.as_slice(), market.prices));
     record.slackness = spread_of(matrix) / DIVISOR;
     record.bids = 0;
     record.stage = Stage::CopyAuction;
+    Ok(())
 }
 
 // Bids of one slackness, as far as the arc scans allow. Returns whether the phase is over.
@@ -174,7 +180,7 @@ fn search_from<K: Number, R: Reading<K>>(
         let Ended::Long = ended else {
             return Ok(ended);
         };
-        begin_auction(matrix, market, record, arc_scans);
+        begin_auction(alloc, matrix, market, record, arc_scans)?;
     }
     if let Stage::CopyAuction = record.stage {
         if !auction(matrix, market, record, arc_scans) {
@@ -196,7 +202,7 @@ pub fn search_market<K: Number, R: Reading<K>>(
     arc_scans: &mut ArcScans,
 ) -> Result<Ended, AllocError> {
     if !record.stage.is_copied() {
-        begin_paths(matrix, market, record, arc_scans);
+        begin_paths(alloc, matrix, market, record, arc_scans)?;
     }
     search_from(alloc, matrix, market, record, arc_scans)
 }

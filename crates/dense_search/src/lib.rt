@@ -24,6 +24,7 @@ mod reading;
 mod record;
 mod rows;
 mod settling;
+mod shifted;
 mod shortest;
 mod sorted;
 mod stages;

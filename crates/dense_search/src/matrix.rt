@@ -5,6 +5,7 @@ use super::number::{Number, greater, lesser};
 use super::reading::{AsCosts, Magnified, Reading};
 use assign_core::Sense;
 use search_base::place_at;
+use std::alloc::{AllocError, Global};
 
 // So many persons show whether nearly all pairs are far, where there are at least so many pairs. If they
 // are, values are first reduced by persons. Else an object without a near pair is priced far below the
@@ -94,7 +95,7 @@ impl<'a, K: Number, R: Reading<K>> Matrix<'a, K, R> {
     }
 
     // Whether nearly all pairs are as bad as any, like forbidden ones, as some persons show.
-    pub fn is_mostly_far(&self) -> bool {
+    fn is_mostly_far(&self) -> bool {
         if self.pairs() < LEAST_SAMPLED {
             return false;
         }
@@ -106,12 +107,21 @@ impl<'a, K: Number, R: Reading<K>> Matrix<'a, K, R> {
         far > self.objects.saturating_mul(SAMPLE) / 8 * 7
     }
 
-    // What a person's values are reduced by before those of objects: its least one, or nothing.
-    pub fn first_value(&self, person: u32, are_rows_first: bool) -> K {
-        if are_rows_first {
-            self.ends_of(person).0
+    // Each person's least value.
+    pub fn least_values(&self, alloc: Global) -> Result<Vec<K>, AllocError> {
+        let mut least = Vec::with_capacity(alloc, self.persons)?;
+        for k in 0..self.persons {
+            least.push(self.ends_of(place_at(k)).0)?;
+        }
+        Ok(least)
+    }
+
+    // What persons' values are reduced by before those of objects: their least ones, or nothing.
+    pub fn first_values(&self, alloc: Global) -> Result<Vec<K>, AllocError> {
+        if self.persons == self.objects && self.is_mostly_far() {
+            self.least_values(alloc)
         } else {
-            K::zero()
+            vec![in alloc; K::zero(); self.persons]
         }
     }
 }

@@ -7,7 +7,8 @@ use search_base::place_at;
 // Greater prices of a caller, and lower ones than its negative, are cut.
 const GREATEST_PRICE: i64 = 1 << 60;
 
-fn lower<K: Number, R: Reading<K>>(reading: &R, row: &[K], own: K, least: &mut [K]) {
+// Lowers the least numbers to those of a row less its own number.
+pub fn lower<K: Number, R: Reading<K>>(reading: &R, row: &[K], own: K, least: &mut [K]) {
     for (cost, least) in row.iter().zip(least.iter_mut()) {
         *least = lesser(*least, reading.value(*cost).minus(own));
     }
@@ -25,14 +26,15 @@ fn fill<K: Number>(prices: &mut [K], value: K) {
     }
 }
 
-// The negated least cost of each object, less what each person's least value is.
-fn least_of_columns<K: Number, R: Reading<K>>(matrix: &Matrix<'_, K, R>, prices: &mut [K]) {
-    let are_rows_first = matrix.is_mostly_far();
+// The negated least cost of each object, less these values of persons.
+fn least_of_columns<K: Number, R: Reading<K>>(
+    matrix: &Matrix<'_, K, R>,
+    firsts: &[K],
+    prices: &mut [K],
+) {
     fill(prices, K::far());
-    for k in 0..matrix.persons {
-        let person = place_at(k);
-        let own = matrix.first_value(person, are_rows_first);
-        lower(&matrix.reading, matrix.row(person), own, prices);
+    for (k, own) in firsts.iter().enumerate() {
+        lower(&matrix.reading, matrix.row(place_at(k)), *own, prices);
     }
     negate(prices);
 }
@@ -40,12 +42,16 @@ fn least_of_columns<K: Number, R: Reading<K>>(matrix: &Matrix<'_, K, R>, prices:
 // Prices without first prices. With more objects than persons they are equal: bids and searches
 // raise only prices of owned objects, and these stay owned, so unowned objects stay cheapest.
 // Returns the arc scans.
-pub fn begin<K: Number, R: Reading<K>>(matrix: &Matrix<'_, K, R>, prices: &mut [K]) -> usize {
+pub fn begin<K: Number, R: Reading<K>>(
+    matrix: &Matrix<'_, K, R>,
+    firsts: &[K],
+    prices: &mut [K],
+) -> usize {
     if matrix.persons < matrix.objects {
         fill(prices, K::zero());
         return 0;
     }
-    least_of_columns(matrix, prices);
+    least_of_columns(matrix, firsts, prices);
     matrix.pairs()
 }
 

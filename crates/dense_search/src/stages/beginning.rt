@@ -13,7 +13,7 @@ use super::{Step, Work};
 use std::alloc::{AllocError, Global};
 
 // Problems with fewer pairs are mostly assigned by searches.
-const MIDDLE: usize = 1 << 19;
+pub const MIDDLE: usize = 1 << 19;
 
 // From first prices so many persons are assigned by searches alone.
 const FEW_UNASSIGNED: usize = 8;
@@ -66,10 +66,12 @@ impl<'a> Work<'a> {
             return Ok(self.begin_paths());
         }
         self.market.release_all();
-        let arc_scans = begin(matrix, self.market.prices);
+        let firsts = matrix.first_values(alloc)?;
+        let arc_scans = begin(matrix, firsts.as_slice(), self.market.prices);
         self.arc_scans.add(arc_scans);
         if matrix.persons == matrix.objects {
-            self.arc_scans.add(give_least(matrix, &mut self.market));
+            let arc_scans = give_least(matrix, &mut self.market, firsts.as_slice());
+            self.arc_scans.add(arc_scans);
         } else if matrix.persons < matrix.objects / 8 {
             self.arc_scans.add(take_cheapest(matrix, &mut self.market));
         }

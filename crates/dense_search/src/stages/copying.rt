@@ -1,10 +1,11 @@
 // Searches over a copy of the costs in 32 bits.
-use super::super::capped::capped_costs;
+use super::super::capped::{Capped, capped_costs};
 use super::super::copied::{search_copy, search_market};
 use super::super::matrix::Matrix;
 use super::super::narrow::{narrow_costs, narrow_prices, widen};
 use super::super::reading::{AsCosts, Reading};
 use super::super::record::{Ended, Outcome, Stage};
+use super::super::shifted::shifted_costs;
 use super::{Step, Work};
 use std::alloc::{AllocError, Global};
 
@@ -15,7 +16,7 @@ const MOST_IN_PLACE: usize = 1 << 10;
 const MOST_NARROW: usize = 1 << 21;
 
 // Problems with more pairs aren't copied where a core isn't enough.
-const MOST_COPIED: usize = 1 << 24;
+pub const MOST_COPIED: usize = 1 << 24;
 
 // Whether searches over a copy in 32 bits are fastest. With many more objects than persons few pairs
 // are looked at, and a copy takes longer than these.
@@ -34,43 +35,49 @@ impl<'a> Work<'a> {
         if !self.may_copy {
             return Ok(None);
         }
-        self.may_copy = false;
         let before = self.record;
-        let Some(ended) = self.search_by_rows(alloc, matrix)? else {
-            return Ok(None);
-        };
+        let step = self.search_by_rows(alloc, matrix)?;
+        if step.is_none() {
+            self.record = before;
+        }
+        Ok(step)
+    }
+
+    // What follows on an end of searches over a copy; nothing if they found nothing.
+    fn after_copy<R: Reading<i64>>(
+        &mut self,
+        alloc: Global,
+        matrix: &Matrix<'_, i64, R>,
+        ended: Ended,
+    ) -> Result<Option<Step>, AllocError> {
         match ended {
             Ended::Assigned => Ok(Some(self.lower(alloc, matrix)?)),
             Ended::Stopped => Ok(Some(Step::End(Outcome::Stopped))),
-            Ended::Near => {
-                self.record.passes = 0;
-                Ok(Some(Step::To(Stage::Retry)))
-            }
-            Ended::Long | Ended::Blocked => {
-                self.record = before;
-                Ok(None)
-            }
+            Ended::Near | Ended::Long | Ended::Blocked => Ok(None),
         }
     }
 
-    // Searches over the costs of a small problem, and else over a copy. Nothing if they don't fit it.
+    // Searches over the costs of a small problem, and else over a copy without loss. Nothing if they don't
+    // fit it.
     fn search_by_rows<R: Reading<i64>>(
         &mut self,
         alloc: Global,
         matrix: &Matrix<'_, i64, R>,
-    ) -> Result<Option<Ended>, AllocError> {
+    ) -> Result<Option<Step>, AllocError> {
         if matrix.pairs() <= MOST_IN_PLACE {
+            self.may_copy = false;
             let (record, arc_scans) = (&mut self.record, &mut self.arc_scans);
             let ended = search_market(alloc, matrix, &mut self.market, record, arc_scans)?;
             self.market.enter_objects();
-            return Ok(Some(ended));
+            return self.after_copy(alloc, matrix, ended);
         }
-        match narrow_costs(alloc, matrix)? {
-            Some(costs) => {
-                let copy = matrix.over(costs.as_slice());
-                Ok(Some(self.search_narrow(alloc, &copy)?))
-            }
-            None => self.search_capped(alloc, matrix),
+        if let Some(costs) = narrow_costs(alloc, matrix)? {
+            let ended = self.search_narrow(alloc, &matrix.over(costs.as_slice()))?;
+            return self.after_copy(alloc, matrix, ended);
+        }
+        match capped_costs(alloc, matrix)? {
+            Some(capped) => self.search_capped(alloc, matrix, &capped),
+            None => Ok(None),
         }
     }
 
@@ -80,18 +87,47 @@ impl<'a> Work<'a> {
         &mut self,
         alloc: Global,
         matrix: &Matrix<'_, i64, R>,
-    ) -> Result<Option<Ended>, AllocError> {
-        let Some(capped) = capped_costs(alloc, matrix)? else {
-            return Ok(None);
-        };
-        let copy = matrix.over(capped.costs.as_slice());
-        let ended = self.search_narrow(alloc, &copy)?;
+        capped: &Capped,
+    ) -> Result<Option<Step>, AllocError> {
+        let ended = self.search_narrow(alloc, &matrix.over(capped.costs.as_slice()))?;
         if let Ended::Assigned = ended {
             if capped.is_cut(matrix, &self.market) {
-                return Ok(Some(Ended::Near));
+                self.record.passes = 0;
+                return Ok(Some(Step::To(Stage::Retry)));
             }
         }
-        Ok(Some(ended))
+        self.after_copy(alloc, matrix, ended)
+    }
+
+    // Searches over a copy in whole units of a power of 2. It leaves prices at which each person's object
+    // is nearly a best one, and these give a core.
+    pub fn search_shifted<R: Reading<i64>>(
+        &mut self,
+        alloc: Global,
+        matrix: &Matrix<'_, i64, R>,
+    ) -> Result<Option<Step>, AllocError> {
+        if !self.may_copy {
+            return Ok(None);
+        }
+        let before = self.record;
+        let shifted = shifted_costs(alloc, matrix)?;
+        if self.record.stage.is_copied() && !shifted.enter(self.market.prices) {
+            return Ok(None);
+        }
+        let ended = self.search_narrow(alloc, &matrix.over(shifted.costs.as_slice()))?;
+        shifted.restore(self.market.prices);
+        match ended {
+            Ended::Assigned if shifted.shift > 0 => {
+                self.record.passes = 1;
+                Ok(Some(Step::To(Stage::Core)))
+            }
+            Ended::Assigned | Ended::Stopped => self.after_copy(alloc, matrix, ended),
+            Ended::Near | Ended::Long | Ended::Blocked => {
+                self.market.release_all();
+                self.record = before;
+                Ok(None)
+            }
+        }
     }
 
     fn search_narrow(
@@ -99,6 +135,7 @@ impl<'a> Work<'a> {
         alloc: Global,
         matrix: &Matrix<'_, i32, AsCosts>,
     ) -> Result<Ended, AllocError> {
+        self.may_copy = false;
         let mut prices = narrow_prices(alloc, self.market.prices)?;
         let (mut record, mut arc_scans) = (self.record, self.arc_scans);
         let objects = &mut *self.market.objects;
@@ -118,6 +155,9 @@ impl<'a> Work<'a> {
         matrix: &Matrix<'_, i64, R>,
     ) -> Result<Step, AllocError> {
         if let Some(step) = self.search_copied(alloc, matrix)? {
+            return Ok(step);
+        }
+        if let Some(step) = self.search_shifted(alloc, matrix)? {
             return Ok(step);
         }
         self.record.passes = 0;

@@ -5,6 +5,8 @@ use super::super::paths::{Allowance, augment_all, augment_by_rows, lower_unowned
 use super::super::reading::Reading;
 use super::super::record::{Ended, Outcome, Stage};
 use super::super::settling::settle_all;
+use super::beginning::MIDDLE;
+use super::copying::{MOST_COPIED, is_middle};
 use super::kept::Kept;
 use super::{CORE_PASSES, Step, Work, after};
 use std::alloc::{AllocError, Global};
@@ -18,6 +20,16 @@ const CORE_ARC_SCANS: u64 = 4000;
 // The arc scans of searches after a core, as passes over all pairs.
 const RETRY_PASSES: u64 = 64;
 
+// The arc scans of searches before a copy with loss, as passes over all pairs.
+const SHIFT_PASSES: u64 = 8;
+
+// If bids leave more than this part of the persons, searches would take longer than a copy with loss: of
+// drawn costs they leave a twentieth, of points of the plane a fifth. In large squares a core is faster up
+// to a half, and where objects stay unowned searches are.
+const PART_LEFT: usize = 7;
+
+const LARGE_PART_LEFT: usize = 2;
+
 // The arc scans after which a core is as fast as searches.
 fn arc_scans_of_core<R: Reading<i64>>(matrix: &Matrix<'_, i64, R>) -> u64 {
     if matrix.pairs() < SMALL {
@@ -29,6 +41,27 @@ fn arc_scans_of_core<R: Reading<i64>>(matrix: &Matrix<'_, i64, R>) -> u64 {
 }
 
 impl<'a> Work<'a> {
+    // Whether searches over a copy with loss can be faster than a core. With many more objects than persons
+    // those over all costs find an unowned object soon.
+    fn may_shift<R: Reading<i64>>(&self, matrix: &Matrix<'_, i64, R>) -> bool {
+        self.may_copy
+            && matrix.pairs() >= SMALL
+            && matrix.pairs() <= MOST_COPIED
+            && matrix.persons > matrix.objects / 8 * 7
+    }
+
+    // Whether bids left so many persons that a copy with loss is faster than searches.
+    fn is_hard<R: Reading<i64>>(&self, matrix: &Matrix<'_, i64, R>) -> bool {
+        let is_square = matrix.persons == matrix.objects;
+        let part = if is_square && matrix.pairs() < MIDDLE {
+            PART_LEFT
+        } else {
+            LARGE_PART_LEFT
+        };
+        let left = self.market.unassigned();
+        self.may_shift(matrix) && left > matrix.persons / part
+    }
+
     // Searches for all persons from the bids, as far as a core isn't as fast.
     fn augment_first<R: Reading<i64>>(
         &mut self,
@@ -36,8 +69,13 @@ impl<'a> Work<'a> {
         matrix: &Matrix<'_, i64, R>,
     ) -> Result<Ended, AllocError> {
         let (before, pairs) = (self.arc_scans.done, matrix.pairs());
+        let most = if self.may_shift(matrix) && pairs < MIDDLE {
+            (pairs as u64).saturating_mul(SHIFT_PASSES)
+        } else {
+            arc_scans_of_core(matrix)
+        };
         let allowed = Allowance {
-            most: self.record.left_of(arc_scans_of_core(matrix), pairs),
+            most: self.record.left_of(most, pairs),
             is_growing: true,
         };
         let ended = augment_all(
@@ -108,8 +146,20 @@ impl<'a> Work<'a> {
         if self.bid_first(matrix) {
             return Ok(Step::End(Outcome::Stopped));
         }
-        let ended = self.augment_first(alloc, matrix)?;
+        let ended = if self.is_hard(matrix) {
+            Ended::Long
+        } else {
+            self.augment_first(alloc, matrix)?
+        };
         if let Ended::Long = ended {
+            if self.is_hard(matrix) || self.may_shift(matrix) && matrix.pairs() < MIDDLE {
+                if let Some(step) = self.search_shifted(alloc, matrix)? {
+                    return Ok(step);
+                }
+            }
+            if is_middle(matrix) {
+                self.may_copy = false;
+            }
             self.kept = Some(Kept::of(alloc, &self.market)?);
         }
         self.after_searches(alloc, matrix, ended, Stage::Core)

@@ -19,6 +19,8 @@ enum Kind {
     Band,
     // The objects of the neighbours and the own one, by very different costs.
     Neighbours,
+    // Nearly products, of 39 bits.
+    WideProducts,
 }
 
 fn draw_kind(seed: &mut u64) -> Kind {
@@ -52,6 +54,12 @@ fn cost_at(seed: &mut u64, kind: Kind, span: u64, person: usize, object: usize) 
             }
         }
         Kind::Neighbours => cost_near(person, object),
+        Kind::WideProducts => {
+            let product = (row.wrapping_mul(37) % 131).wrapping_mul(column.wrapping_mul(53) % 137);
+            product
+                .wrapping_shl(24)
+                .wrapping_add(draw_cost(seed, 1 << 24))
+        }
     }
 }
 
@@ -319,5 +327,16 @@ fn copies_are_stopped_and_taken_up_again(rt: HostRuntime) -> Result<(), Fail> {
         let found = in_pieces(rt.alloc(), &mut seed, &lists, record, budget)?;
         assert!(rt; matches!(found, Finding::Best(_)), "problem {turn}");
     }
+    Ok(())
+}
+
+// Costs too wide for a copy without loss are searched in greater units first, also in pieces.
+#[test]
+fn wide_costs_end_at_exact_prices(rt: HostRuntime) -> Result<(), Fail> {
+    let lists = square_of(rt.alloc(), 140, Kind::WideProducts)?;
+    let budget = (lists.costs.len() as u64).saturating_mul(3);
+    let whole = arc_scans_of(rt.alloc(), &lists, 0)?;
+    let pieces = arc_scans_of(rt.alloc(), &lists, budget)?;
+    assert!(rt; whole < u64::MAX && pieces < u64::MAX);
     Ok(())
 }
