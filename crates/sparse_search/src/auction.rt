@@ -6,6 +6,9 @@ use super::row::{Two, two_best};
 use search_base::{ArcScans, NOBODY, Valued, at, place_at, put, select};
 use std::alloc::{AllocError, Global};
 
+// So few unowned objects that are too dear are left to searches: those who are put out for them fight long.
+const FEW_DEARER: usize = 32;
+
 // Beyond this price sums could leave the range.
 const HIGHEST_PRICE: i64 = 1 << 60;
 
@@ -193,13 +196,15 @@ pub fn price_at(alloc: Global, prices: &[i64], place: usize) -> Result<i64, Allo
     Ok(sorted.get(place).map_or(0, |price| price.0))
 }
 
-// Whether an unowned object is dearer than this.
-fn has_dearer(market: &Market, price: i64) -> bool {
-    market
-        .prices
-        .iter()
-        .zip(&market.owners)
-        .any(|(own, owner)| *owner == NOBODY && *own > price)
+// How many unowned objects are dearer than this.
+fn count_dearer(market: &Market, price: i64) -> usize {
+    let mut count = 0usize;
+    for (own, owner) in market.prices.iter().zip(&market.owners) {
+        if *owner == NOBODY && *own > price {
+            count = count.wrapping_add(1);
+        }
+    }
+    count
 }
 
 // A dummy's bid for an object below this price. Returns whether somebody loses it.
@@ -225,7 +230,7 @@ pub fn bid_for_dummies(
     let dummies = market.owners.len().saturating_sub(market.objects.len());
     let price = price_at(alloc, market.prices.as_slice(), dummies)?;
     let raised = price.wrapping_add(slackness);
-    if !has_dearer(market, raised) {
+    if count_dearer(market, raised) <= FEW_DEARER {
         return Ok(false);
     }
     let mut is_anybody_out = false;
