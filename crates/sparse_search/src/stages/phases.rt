@@ -1,6 +1,7 @@
 // The auction in phases, and what helps where its bids don't end.
 use super::super::auction::{Queue, Terms, bid_for_dummies, bid_from_queue};
 use super::super::components::find_components;
+use super::super::forecast::SECOND;
 use super::super::matching::{Known, Matching};
 use super::super::problem::SparseProblem;
 use super::super::record::Stage;
@@ -43,6 +44,7 @@ fn shift_for(problem: SparseProblem<'_>, spread: i64) -> u32 {
 
 impl<'a> Run<'a> {
     pub fn begin_auction(&mut self) {
+        self.is_second = false;
         let spread = self.spread();
         let shift = shift_for(self.problem, spread);
         if self.record.slackness > 0 {
@@ -198,6 +200,16 @@ impl<'a> Run<'a> {
         self.arc_scans.done.saturating_add(passes) <= self.arc_scans.limit
     }
 
+    // The first searches once more, where a phase of the auction didn't end by now. They end within a call.
+    fn begin_second(&mut self) -> Result<Option<RunEnd>, AllocError> {
+        let most = SECOND.saturating_mul(2).saturating_mul(self.pairs());
+        if !self.problem.is_square() || self.arc_scans.left() < most {
+            return Ok(None);
+        }
+        self.is_second = true;
+        self.begin_cold()
+    }
+
     // Drops pairs if at least a twentieth is in no assignment. A search with a limit would have to find
     // them in each call: it drops pairs if a single plan is left, and else leaves the auction.
     fn look_for_components(&mut self, owners: Vec<u32>) -> Result<Option<RunEnd>, AllocError> {
@@ -205,7 +217,7 @@ impl<'a> Run<'a> {
         let kept = components.count_kept(self.problem);
         let pairs = self.problem.pairs.len();
         if kept >= pairs.saturating_sub(pairs / 20) {
-            return Ok(None);
+            return self.begin_second();
         }
         if self.arc_scans.limit == u64::MAX || kept == self.problem.persons() {
             return Ok(Some(RunEnd::Drops(components)));
