@@ -15,6 +15,9 @@ const BIDS_BEFORE_MATCHING: u64 = 12;
 // The bids of a phase for each person, after which searches help.
 const BIDS_BEFORE_SEARCHES: u64 = 24;
 
+// If more persons than this part still wait before a matching, the first searches have a second turn.
+const MANY_WAIT: usize = 256;
+
 // The arc scans of these searches for each pair.
 const SEARCH_ARC_SCANS: u64 = 32;
 
@@ -200,10 +203,11 @@ impl<'a> Run<'a> {
         self.arc_scans.done.saturating_add(passes) <= self.arc_scans.limit
     }
 
-    // The first searches once more, where a phase of the auction didn't end by now. They end within a call.
+    // The first searches once more, where many still wait after so many bids. They end within a call.
     fn begin_second(&mut self) -> Result<Option<RunEnd>, AllocError> {
         let most = SECOND.saturating_mul(2).saturating_mul(self.pairs());
-        if !self.problem.is_square() || self.arc_scans.left() < most {
+        let do_many_wait = self.market.count_unassigned() > self.problem.persons() / MANY_WAIT;
+        if !self.problem.is_square() || !do_many_wait || self.arc_scans.left() < most {
             return Ok(None);
         }
         self.is_second = true;
