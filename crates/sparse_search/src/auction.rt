@@ -3,8 +3,11 @@
 use super::market::Market;
 use super::problem::{Pair, Scaled};
 use super::row::{Two, two_best};
-use search_base::{ArcScans, NOBODY, at, place_at, put};
+use search_base::{ArcScans, NOBODY, Valued, at, place_at, put, select};
 use std::alloc::{AllocError, Global};
+
+// So few unowned objects that are too dear are left to searches: those who are put out for them fight long.
+const FEW_DEARER: usize = 32;
 
 // Beyond this price sums could leave the range.
 const HIGHEST_PRICE: i64 = 1 << 60;
@@ -173,47 +176,35 @@ pub fn bid_from_queue(
     most
 }
 
-// The entries below this one come first. Returns how many they are.
-fn split_below(prices: &mut [i64], pivot: i64) -> usize {
-    let mut count = 0usize;
-    for k in 0..prices.len() {
-        if prices[k] < pivot && count < prices.len() {
-            prices.swap(k, count);
-            count = count.wrapping_add(1);
-        }
+// A price, of which less is better.
+#[derive(Clone, Copy)]
+struct Price(i64);
+
+impl Valued for Price {
+    fn value(&self) -> i64 {
+        self.0
     }
-    count
 }
 
 /// The entry at this place of the sorted prices.
 pub fn price_at(alloc: Global, prices: &[i64], place: usize) -> Result<i64, AllocError> {
-    let mut copy = Vec::from_slice(alloc, prices)?;
-    let mut rest = copy.as_mut_slice();
-    let mut place = place;
-    let mut pivot = 0i64;
-    for _split in 0..prices.len() {
-        let Some(middle) = rest.get(rest.len() / 2).copied() else {
-            break;
-        };
-        pivot = middle;
-        let below = split_below(rest, pivot);
-        if below == 0 || place < below {
-            rest = rest.get_mut(0..below).unwrap_or(&mut []);
-        } else {
-            rest = rest.get_mut(below..).unwrap_or(&mut []);
-            place = place.wrapping_sub(below);
-        }
+    let mut sorted = Vec::new(alloc);
+    for price in prices {
+        sorted.push(Price(*price))?;
     }
-    Ok(pivot)
+    select(sorted.as_mut_slice(), place);
+    Ok(sorted.get(place).map_or(0, |price| price.0))
 }
 
-// Whether an unowned object is dearer than this.
-fn has_dearer(market: &Market, price: i64) -> bool {
-    market
-        .prices
-        .iter()
-        .zip(&market.owners)
-        .any(|(own, owner)| *owner == NOBODY && *own > price)
+// How many unowned objects are dearer than this.
+fn count_dearer(market: &Market, price: i64) -> usize {
+    let mut count = 0usize;
+    for (own, owner) in market.prices.iter().zip(&market.owners) {
+        if *owner == NOBODY && *own > price {
+            count = count.wrapping_add(1);
+        }
+    }
+    count
 }
 
 // A dummy's bid for an object below this price. Returns whether somebody loses it.
@@ -239,7 +230,7 @@ pub fn bid_for_dummies(
     let dummies = market.owners.len().saturating_sub(market.objects.len());
     let price = price_at(alloc, market.prices.as_slice(), dummies)?;
     let raised = price.wrapping_add(slackness);
-    if !has_dearer(market, raised) {
+    if count_dearer(market, raised) <= FEW_DEARER {
         return Ok(false);
     }
     let mut is_anybody_out = false;

@@ -10,6 +10,8 @@ const GROWING: u64 = 5;
 const WARM: u64 = 16;
 // The most arc scans in all where neither is so, as among neighbours, where a few long ones come first.
 const STEADY: u64 = 40;
+// The most arc scans in all of the second turn.
+pub const SECOND: u64 = 64;
 // The arc scans before which steady searches go on with a forecast up to this one.
 const GRACE: u64 = 4;
 
@@ -65,11 +67,13 @@ pub struct Forecast {
     usual: u64,
     // Whether an auction from the same prices would be short.
     is_warm: bool,
+    // Whether an auction from the same prices didn't end.
+    is_second: bool,
 }
 
 impl Forecast {
     /// Goes on from a record of the first searches, with so many left.
-    pub fn of(record: &Record, left: usize, pairs: usize) -> Forecast {
+    pub fn of(record: &Record, left: usize, pairs: usize, is_second: bool) -> Forecast {
         let ended = u64::from(record.dummy_bids);
         Forecast {
             pairs: pairs as u64,
@@ -83,6 +87,7 @@ impl Forecast {
             part: Tally::none(),
             usual: u64::from(record.usual),
             is_warm: record.slackness > 0,
+            is_second,
         }
     }
 
@@ -109,21 +114,19 @@ impl Forecast {
         self.usual > 0 && self.all.arc_scans > usual.saturating_add(usual / 2)
     }
 
-    // Whether all can be expected to end within the most arc scans.
+    // Whether all can be expected to end within the most arc scans: by the pace of the last part, or early on by
+    // that of all.
     fn fits(&self, left: u64) -> bool {
         let spent = self.before.saturating_sub(self.begun);
-        if self.grow() {
-            let expected = spent.saturating_add(self.part.arc_scans_of(left));
-            return expected <= GROWING.saturating_mul(self.pairs);
-        }
-        let expected = spent.saturating_add(self.all.arc_scans_of(left));
         let is_early = spent <= GRACE.saturating_mul(self.pairs);
-        let most = match (self.is_warm, is_early) {
-            (true, _) => WARM,
-            (false, true) => GRACE_FORECAST,
-            (false, false) => STEADY,
+        let (pace, most) = match (self.is_second, self.grow(), self.is_warm) {
+            (true, _, _) => (self.part, SECOND),
+            (false, true, _) => (self.part, GROWING),
+            (false, false, true) => (self.all, WARM),
+            (false, false, false) if is_early => (self.all, GRACE_FORECAST),
+            (false, false, false) => (self.part, STEADY),
         };
-        expected <= most.saturating_mul(self.pairs)
+        spent.saturating_add(pace.arc_scans_of(left)) <= most.saturating_mul(self.pairs)
     }
 
     /// After one more search, with so many left: whether they should go on.

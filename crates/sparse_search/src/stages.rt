@@ -32,6 +32,8 @@ pub struct Run<'a> {
     spread: Option<i64>,
     // Whether it goes on from a record, which may hold anything.
     is_resumed: bool,
+    // Whether the first searches have their second turn, after an auction that didn't end.
+    is_second: bool,
 }
 
 /// How it ended.
@@ -76,6 +78,7 @@ impl<'a> Run<'a> {
             ahead: Ahead { objects: 0 },
             spread: None,
             is_resumed: !matches!(record.stage, Stage::Cold | Stage::Warm),
+            is_second: false,
         })
     }
 

@@ -31,15 +31,23 @@ const FEW_DEAR: usize = 4;
 
 impl<'a> Run<'a> {
     // In a square in which nobody lists some object all persons together list too few. Where there are few
-    // pairs a search finds fewer persons who do.
+    // pairs a matching finds fewer persons who do.
+    fn refuse(&mut self) -> Result<Option<RunEnd>, AllocError> {
+        if self.problem.pairs.len() >= MANY_PAIRS {
+            return Ok(Some(RunEnd::Hall(self.market.unassigned(self.alloc)?)));
+        }
+        self.record = self.record.with_stage(Stage::Matching);
+        Ok(None)
+    }
+
     pub fn begin_cold(&mut self) -> Result<Option<RunEnd>, AllocError> {
         self.market.release_all();
         self.market.clear_prices();
         if self.problem.is_square() {
             self.arc_scans.add(self.problem.pairs.len());
             let are_listed = set_first_prices(self.problem, &mut self.market);
-            if !are_listed && self.problem.pairs.len() >= MANY_PAIRS {
-                return Ok(Some(RunEnd::Hall(self.market.unassigned(self.alloc)?)));
+            if !are_listed {
+                return self.refuse();
             }
         }
         self.record.shift = 0;
@@ -71,7 +79,7 @@ impl<'a> Run<'a> {
 
     // With a limit an assignment is known to exist after an auction that was left.
     fn after_bids(&self) -> Stage {
-        if self.record.has_assignment && self.arc_scans.limit < u64::MAX {
+        if self.record.has_assignment && self.arc_scans.limit < u64::MAX && !self.is_second {
             Stage::LastTight
         } else {
             Stage::FirstTight

@@ -1,6 +1,7 @@
 // The auction in phases, and what helps where its bids don't end.
 use super::super::auction::{Queue, Terms, bid_for_dummies, bid_from_queue};
 use super::super::components::find_components;
+use super::super::forecast::SECOND;
 use super::super::matching::{Known, Matching};
 use super::super::problem::SparseProblem;
 use super::super::record::Stage;
@@ -13,6 +14,9 @@ const BIDS_BEFORE_MATCHING: u64 = 12;
 
 // The bids of a phase for each person, after which searches help.
 const BIDS_BEFORE_SEARCHES: u64 = 24;
+
+// If more persons than this part still wait before a matching, the first searches have a second turn.
+const MANY_WAIT: usize = 256;
 
 // The arc scans of these searches for each pair.
 const SEARCH_ARC_SCANS: u64 = 32;
@@ -43,6 +47,7 @@ fn shift_for(problem: SparseProblem<'_>, spread: i64) -> u32 {
 
 impl<'a> Run<'a> {
     pub fn begin_auction(&mut self) {
+        self.is_second = false;
         let spread = self.spread();
         let shift = shift_for(self.problem, spread);
         if self.record.slackness > 0 {
@@ -198,6 +203,17 @@ impl<'a> Run<'a> {
         self.arc_scans.done.saturating_add(passes) <= self.arc_scans.limit
     }
 
+    // The first searches once more, where many still wait after so many bids. They end within a call.
+    fn begin_second(&mut self) -> Result<Option<RunEnd>, AllocError> {
+        let most = SECOND.saturating_mul(2).saturating_mul(self.pairs());
+        let do_many_wait = self.market.count_unassigned() > self.problem.persons() / MANY_WAIT;
+        if !self.problem.is_square() || !do_many_wait || self.arc_scans.left() < most {
+            return Ok(None);
+        }
+        self.is_second = true;
+        self.begin_cold()
+    }
+
     // Drops pairs if at least a twentieth is in no assignment. A search with a limit would have to find
     // them in each call: it drops pairs if a single plan is left, and else leaves the auction.
     fn look_for_components(&mut self, owners: Vec<u32>) -> Result<Option<RunEnd>, AllocError> {
@@ -205,7 +221,7 @@ impl<'a> Run<'a> {
         let kept = components.count_kept(self.problem);
         let pairs = self.problem.pairs.len();
         if kept >= pairs.saturating_sub(pairs / 20) {
-            return Ok(None);
+            return self.begin_second();
         }
         if self.arc_scans.limit == u64::MAX || kept == self.problem.persons() {
             return Ok(Some(RunEnd::Drops(components)));

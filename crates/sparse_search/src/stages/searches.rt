@@ -67,7 +67,7 @@ impl<'a> Run<'a> {
         let left = self.market.unassigned(self.alloc)?;
         self.record.arc_scans = self.arc_scans.done;
         let pairs = self.problem.pairs.len();
-        let mut forecast = Some(Forecast::of(&self.record, left.len(), pairs));
+        let mut forecast = Some(Forecast::of(&self.record, left.len(), pairs, self.is_second));
         let assigned = self.augment_all(left.as_slice(), self.arc_scans, &mut forecast)?;
         if let Some(forecast) = forecast {
             forecast.write(&mut self.record);
