@@ -11,7 +11,7 @@ from typing import Any, Callable, Dict, Iterator, List, NamedTuple, Optional, Se
 
 from ..costs.limits import FEW, BorrowedNumbers, Numbers
 
-VERSION = "5.11.0"
+VERSION = "5.12.0"
 
 CODES = (
     "BEST", "HALL",
