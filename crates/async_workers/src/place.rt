@@ -86,6 +86,8 @@ pub struct Desk {
     // The number of past sessions, in all and since the table last caught up.
     sessions: u64,
     since: u64,
+    // Looks for the book in vain, less books taken since.
+    looks: u32,
 }
 
 impl Model for Desk {

@@ -28,7 +28,7 @@ pub fn close_place<R: Wait>(rt: &R, place: BookPlace, mut desks: Vec<Desk>) -> B
         unreachable!()
     };
     let mut pass = closer.into_pass();
-    let book = take_book(rt, &place.queue, &mut pass);
+    let book = take_book(rt, &place.queue, &mut pass, &mut 0);
     meet_all(&place.queue, &mut pass, desks);
     book.into_book()
 }

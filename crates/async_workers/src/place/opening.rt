@@ -101,6 +101,7 @@ fn seat_desks<O: Opening>(
             listed: None,
             sessions: 0,
             since: 0,
+            looks: 0,
         });
     }
     Ok(desks)

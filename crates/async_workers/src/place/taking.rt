@@ -20,33 +20,50 @@ use crate::rule::{DeskPass, Give, Giver, Known, Queue, Take};
 use auction_book::Book;
 use std::marker::Brand;
 use std::sync::Wait;
+use std::thread::Parker;
+use std::time::Duration;
 use std::{hint, thread};
 
-// After so many looks for the book the time between two of them doubles no more.
+// A pause doubles at most so often.
 const MOST_DOUBLED: u32 = 10;
 
-// Waits the longer, the more often the book wasn't there: each look slows the worker who has it.
-fn back_off(looks: u32) {
+// After so many more looks in vain than books taken a worker sleeps, for so many microseconds.
+const MOST_LOOKS: u32 = 14;
+
+const SLEEP: u64 = 50;
+
+// Pauses between two looks for the book, each of which slows the worker who has it.
+fn back_off<R: Wait>(rt: &R, looks: u32) {
+    if looks >= MOST_LOOKS {
+        Parker::new().park_timeout(rt, Duration::from_micros(SLEEP));
+        return;
+    }
     for _ in 0..1u32 << looks.min(MOST_DOUBLED) {
         hint::spin_loop();
     }
     thread::yield_now();
 }
 
-// Tries until the book is in the place.
-pub(super) fn take_book<R: Wait>(rt: &R, queue: &Queue, pass: &mut DeskPass) -> BoxedBook
+// Tries until the book is in the place. Looks in vain are counted up and books taken down, so that few
+// workers share a book that is rarely free.
+pub(super) fn take_book<R: Wait>(
+    rt: &R,
+    queue: &Queue,
+    pass: &mut DeskPass,
+    looks: &mut u32,
+) -> BoxedBook
     requires queue { IsPassOf queue.now pass.old }
     requires away { (t : LastSession) × (view pass.old ≡ Away t) }
     ensures queue { IsSamePass pass.old pass.new }
     ensures took { Took (view pass.old) result (view pass.new) }
 {
-    let mut looks: u32 = 0;
     for _ in rt.forever() {
         if let Some(book) = queue.try_pop_as::<Take>(pass) {
+            *looks = looks.saturating_sub(1);
             return book;
         }
-        back_off(looks);
-        looks = looks.saturating_add(1);
+        back_off(rt, *looks);
+        *looks = looks.saturating_add(1).min(MOST_LOOKS);
     }
     unreachable!()
 }
@@ -100,7 +117,7 @@ impl Desk {
         ensures held { result ≡ record { book = result.book; offer = self.old.offer; caught_up = false } }
         ensures same { self.new ≡ record self.old { view = self.new.view; offer = None } }
     {
-        let mut book = take_book(rt, &place.queue, &mut self.pass);
+        let mut book = take_book(rt, &place.queue, &mut self.pass, &mut self.looks);
         put_listed(book.book_mut(), &mut self.listed);
         Held {
             book,
