@@ -86,7 +86,7 @@ pub struct Desk {
     // The number of past sessions, in all and since the table last caught up.
     sessions: u64,
     since: u64,
-    // Looks for the book in vain, less books taken since.
+    // Looks that found no book, less books taken since.
     looks: u32,
 }
 

@@ -27,7 +27,7 @@ use std::{hint, thread};
 // A pause doubles at most so often.
 const MOST_DOUBLED: u32 = 10;
 
-// After so many more looks in vain than books taken a worker sleeps, for so many microseconds.
+// After so many more looks without the book than books taken a worker sleeps, for so many microseconds.
 const MOST_LOOKS: u32 = 14;
 
 const SLEEP: u64 = 50;
@@ -44,8 +44,8 @@ fn back_off<R: Wait>(rt: &R, looks: u32) {
     thread::yield_now();
 }
 
-// Tries until the book is in the place. Looks in vain are counted up and books taken down, so that few
-// workers share a book that is rarely free.
+// Tries until the book is in the place. Looks that find none are counted up and books taken down, so
+// that few workers share a book that is rarely free.
 pub(super) fn take_book<R: Wait>(
     rt: &R,
     queue: &Queue,
