@@ -1,11 +1,11 @@
 #!/usr/bin/env python3
 """Measures searches over listed pairs of kinds that once took long, next to SciPy's.
 
-bench/listed.py [KIND ROWS [SEED]] at the top of the repository, after c/build.sh built the library; it needs NumPy and
-SciPy. Without words it draws each kind at the size at which it took long. It prints seconds of processor time, the least
-of three, of a call of the library and of min_weight_full_bipartite_matching, which is cut off after LIMIT seconds, and
-their ratio. `write FILE KIND ROWS [SEED]` writes the problem: n, m, pairs and 0 as 64-bit numbers, where each row
-begins, columns of 32 bits, costs of 64.
+bench/listed.py [KIND ROWS [SEED]] at the top of the repository, after c/build.sh built the library; it needs NumPy
+and SciPy. Without words it draws each kind at the size at which it took long. It prints seconds of processor time,
+the least of three, of a call of the library and of min_weight_full_bipartite_matching, which is cut off after
+LIMIT seconds, and their ratio. `write FILE KIND ROWS [SEED]` writes the problem: n, m, pairs and 0 as 64-bit
+numbers, where each row begins, columns of 32 bits, costs of 64.
 """
 import ctypes
 import multiprocessing

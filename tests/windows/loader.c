@@ -166,6 +166,17 @@ CALL(int32_t, wide, (uint32_t s, size_t n, size_t m, PAIRS, const struct nushbar
 CALL(int32_t, fewest_changes, (uint32_t s, size_t n, size_t m, PAIRS, COSTS, const uint32_t *k, size_t kc, uint32_t *o, size_t oc,
     uint32_t *p, size_t pc, struct nushbaret_wide_number *q, size_t qc, size_t *changed, INFO),
     (s, n, m, a, ac, b, bc, c, cc, k, kc, o, oc, p, pc, q, qc, changed, info))
+#define DOUBLES const double *c, size_t cc, uint32_t *o, size_t oc
+CALL(int32_t, doubles_from, (uint32_t s, size_t n, size_t m, DOUBLES, uint32_t *p, size_t pc, double *q, size_t qc,
+    struct nushbaret_doubles_info *info), (s, n, m, c, cc, o, oc, p, pc, q, qc, info))
+#define BETTER uint32_t *bp, size_t bpc, uint32_t *bo, size_t boc
+CALL(int32_t, block, (uint32_t s, size_t n, size_t m, PAIRS, COSTS, const uint32_t *o, size_t oc, const int64_t *v, size_t vc,
+    const int64_t *q, size_t qc, size_t most, int64_t *l, size_t lc, uint8_t *own, size_t count, BETTER, int64_t *bc_, size_t bcc, INFO),
+    (s, n, m, a, ac, b, bc, c, cc, o, oc, v, vc, q, qc, most, l, lc, own, count, bp, bpc, bo, boc, bc_, bcc, info))
+CALL(int32_t, block_doubles, (uint32_t s, size_t n, size_t m, const double *c, size_t cc, const uint32_t *o, size_t oc, const double *v,
+    size_t vc, const double *w, size_t wc, const double *q, size_t qc, size_t most, uint32_t *lo, size_t loc, double *l, size_t lc,
+    uint8_t *own, size_t count, BETTER, double *bc, size_t bcc, struct nushbaret_doubles_info *info),
+    (s, n, m, c, cc, o, oc, v, vc, w, wc, q, qc, most, lo, loc, l, lc, own, count, bp, bpc, bo, boc, bc, bcc, info))
 CALL(int32_t, rows, (size_t n, const size_t *s, size_t sc, const uint32_t *v, size_t vc, COSTS, const int64_t *l, size_t lc,
     const int64_t *u, size_t uc, const uint8_t *p, size_t pc, const int64_t *t, size_t tc, struct nushbaret_rows_info *info),
     (n, s, sc, v, vc, c, cc, l, lc, u, uc, p, pc, t, tc, info))
@@ -186,6 +197,6 @@ __attribute__((constructor)) static void start(void) {
     protect();
     FOUND(dense), FOUND(dense_from), FOUND(sparse), FOUND(sparse_from);
     FOUND(check), FOUND(check_hall), FOUND(bottleneck), FOUND(unique), FOUND(groups), FOUND(next), FOUND(ranked), FOUND(wide), FOUND(rows);
-    FOUND(fewest_changes), FOUND(counts_from);
+    FOUND(fewest_changes), FOUND(counts_from), FOUND(doubles_from), FOUND(block), FOUND(block_doubles);
     FOUND(version);
 }
