@@ -166,13 +166,12 @@ CALL(int32_t, wide, (uint32_t s, size_t n, size_t m, PAIRS, const struct nushbar
 CALL(int32_t, fewest_changes, (uint32_t s, size_t n, size_t m, PAIRS, COSTS, const uint32_t *k, size_t kc, uint32_t *o, size_t oc,
     uint32_t *p, size_t pc, struct nushbaret_wide_number *q, size_t qc, size_t *changed, INFO),
     (s, n, m, a, ac, b, bc, c, cc, k, kc, o, oc, p, pc, q, qc, changed, info))
-#define DOUBLES const double *c, size_t cc, uint32_t *o, size_t oc
-CALL(int32_t, doubles_from, (uint32_t s, size_t n, size_t m, DOUBLES, uint32_t *p, size_t pc, double *q, size_t qc,
-    struct nushbaret_doubles_info *info), (s, n, m, c, cc, o, oc, p, pc, q, qc, info))
+CALL(int32_t, doubles_from, (uint32_t s, size_t n, size_t m, const double *c, size_t cc, uint32_t *o, size_t oc, uint32_t *p,
+    size_t pc, double *q, size_t qc, struct nushbaret_doubles_info *info), (s, n, m, c, cc, o, oc, p, pc, q, qc, info))
 #define BETTER uint32_t *bp, size_t bpc, uint32_t *bo, size_t boc
 CALL(int32_t, block, (uint32_t s, size_t n, size_t m, PAIRS, COSTS, const uint32_t *o, size_t oc, const int64_t *v, size_t vc,
-    const int64_t *q, size_t qc, size_t most, int64_t *l, size_t lc, uint8_t *own, size_t count, BETTER, int64_t *bc_, size_t bcc, INFO),
-    (s, n, m, a, ac, b, bc, c, cc, o, oc, v, vc, q, qc, most, l, lc, own, count, bp, bpc, bo, boc, bc_, bcc, info))
+    const int64_t *q, size_t qc, size_t most, int64_t *l, size_t lc, uint8_t *own, size_t count, BETTER, int64_t *k, size_t kc, INFO),
+    (s, n, m, a, ac, b, bc, c, cc, o, oc, v, vc, q, qc, most, l, lc, own, count, bp, bpc, bo, boc, k, kc, info))
 CALL(int32_t, block_doubles, (uint32_t s, size_t n, size_t m, const double *c, size_t cc, const uint32_t *o, size_t oc, const double *v,
     size_t vc, const double *w, size_t wc, const double *q, size_t qc, size_t most, uint32_t *lo, size_t loc, double *l, size_t lc,
     uint8_t *own, size_t count, BETTER, double *bc, size_t bcc, struct nushbaret_doubles_info *info),
