@@ -108,7 +108,7 @@
 extern "C" {
 #endif
 
-#define NUSHBARET_VERSION "5.12.0"
+#define NUSHBARET_VERSION "5.13.0"
 
 /* The sense: the least sum of costs, or the greatest. */
 #define NUSHBARET_MIN 0u
@@ -831,7 +831,8 @@ int32_t nushbaret_counts(uint32_t sense,
     struct nushbaret_counts_info *info);
 
 /* The same, from what record says, with a budget in arc scans, 0 for none. After NUSHBARET_COUNTS_STOPPED call it again
-   with the same problem, plan, numbers and record. Whatever these hold, an answer is as good. */
+   with the same problem, plan, numbers and record. Whatever these hold, an answer is as good; from numbers of 2^57 and more
+   it may be NUSHBARET_COUNTS_UNDECIDED. */
 int32_t nushbaret_counts_from(uint32_t sense,
     const uint32_t *of_rows, size_t of_rows_count,
     const uint32_t *of_columns, size_t of_columns_count,
@@ -852,7 +853,12 @@ int32_t nushbaret_counts_from(uint32_t sense,
 
 /* Checks a plan of any origin, by numbers: NUSHBARET_COUNTS_BEST says that they prove it best, and else the code is the first
    fault. A byte other than 0 chooses its pair. The time is linear in the pairs; the memory is the greater of 8 bytes a row
-   and 16 a column. */
+   and 16 a column.
+
+   A plan that is best at costs c, and under NUSHBARET_MIN at k * c + d too (under NUSHBARET_MAX at k * c - d), has of all
+   best plans the least sum of d. So two calls prove more: with d = -1 for the pairs of an earlier plan and 1 for others no
+   best plan changes fewer; with d = 1 for its own pairs and -1 for others it is the only best one. Pairs that may differ
+   get d = 0: all best plans have the same of the others. */
 int32_t nushbaret_check_counts(uint32_t sense,
     const uint32_t *of_rows, size_t of_rows_count,
     const uint32_t *of_columns, size_t of_columns_count,

@@ -1,15 +1,16 @@
 #!/usr/bin/env python3
-"""Writes the library's LLVM module, as c/build.sh keeps it, for another platform: c/retarget.py MODULE.ll PLATFORM > OTHER.ll
+"""Writes the library's LLVM module, as c/build.sh keeps it, for another platform: c/retarget.py MODULE.ll PLATFORM [CALL..] > OTHER.ll
 
 PLATFORM is wasm32, WebAssembly with addresses of 32 bits, or windows, for x86-64. What names x86-64 Linux changes: the triple, the layout
 of data, and the processor and the stack probes in the functions' attributes. The heap's three functions are added, from c/heap.ll and the
 file for the bits of an address. With 32 bits, numbers of 64 that hold an address stay so; what is read of memory as a pair with an address
-is read in two parts, since LLVM would look for the second one elsewhere. It stops at anything that it doesn't know.
+is read in two parts, since LLVM would look for the second one elsewhere. Where calls are named, no other is exported, and the compiler drops
+what only others need. It stops at anything that it doesn't know.
 """
 import pathlib
 import re
 import sys
-from typing import Match, NamedTuple, NoReturn
+from typing import List, Match, NamedTuple, NoReturn
 
 HERE = pathlib.Path(__file__).resolve().parent
 FEATURES = "+bulk-memory,+bulk-memory-opt,+multivalue,+mutable-globals,+nontrapping-fptoint,+sign-ext,+simd128"
@@ -96,8 +97,17 @@ def heap_of(platform: Platform) -> str:
     return text.replace(" nounwind {", f" nounwind {platform.attributes} {{")
 
 
-def retargeted(text: str, platform: Platform) -> str:
-    """The module for a platform."""
+def exporting(text: str, calls: List[str]) -> str:
+    """A module that exports these calls alone."""
+    for call in calls:
+        text = replaced(rf"^define (?=[^@\n]*@{call}\()", "define export ", text)
+    return re.sub(r"^define (?!internal)(export )?", lambda found: "define " if found[1] else "define internal ", text, flags=re.M)
+
+
+def retargeted(text: str, platform: Platform, calls: List[str]) -> str:
+    """The module for a platform, which exports these calls, or all."""
+    if calls:
+        text = exporting(text, calls)
     text = replaced(r"^target triple = .*", f'target triple = "{platform.triple}"', text)
     text = replaced(r"^target datalayout = .*", f'target datalayout = "{platform.layout}"', text)
     if OF_X86 not in text:
@@ -109,6 +119,7 @@ def retargeted(text: str, platform: Platform) -> str:
 
 
 if __name__ == "__main__":
-    if len(sys.argv) != 3 or sys.argv[2] not in PLATFORMS:
+    if len(sys.argv) < 3 or sys.argv[2] not in PLATFORMS:
         stop(f"a module is to be named, and a platform: {', '.join(PLATFORMS)}")
-    sys.stdout.write(retargeted(pathlib.Path(sys.argv[1]).read_text(encoding="utf-8"), PLATFORMS[sys.argv[2]]))
+    sys.stdout.write(retargeted(pathlib.Path(sys.argv[1]).read_text(encoding="utf-8"), PLATFORMS[sys.argv[2]],
+                                sys.argv[3:]))

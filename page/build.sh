@@ -42,7 +42,7 @@ linked() {
 }
 
 # The words of the kit to its clang, without those that are for x86-64.
-python3 "$top/c/retarget.py" "$module" wasm32 > "$work/library.ll"
+python3 "$top/c/retarget.py" "$module" wasm32 "${calls[@]/#/nushbaret_}" > "$work/library.ll"
 "$clang" --no-default-config -no-canonical-prefixes "--target=$target" -Werror -O3 -ffunction-sections -fdata-sections "${divisions[@]}" \
     -mllvm -no-trap-after-noreturn -mllvm -trap-unreachable -mllvm -disable-machine-licm -mllvm -disable-postra-machine-licm \
     -mllvm -sink-common-insts=false -c -x ir "$work/library.ll" -o "$work/library.o"

@@ -44,7 +44,7 @@ TESTS = {
     "offers_while_holding": ["the_gate_is_called_without_the_book"],
     "one_thread_only": ["all_workers_start"],
 }
-TEST_FILE = "worker_tests/src/whole_runs.rt"
+TEST_FILE = "solver_tests/src/by_workers/whole_runs.rt"
 
 
 def fault_of_bug(crate: str, name: str) -> str | None:

@@ -50,13 +50,15 @@ def group(problem, j):
     return groups[j] if groups and groups[j] else -1 - j
 
 
-def solve(library, problem, budget=None):
+def solve(library, problem, budget=None, start=()):
     """The code and what was written: (code, plan, row numbers, column numbers, row marks, column marks, the first three
-    before the last call, info)."""
+    before the last call, info). The search begins from a state and numbers of columns, if they are given."""
     n, m, k = len(problem["row_least"]), len(problem["column_least"]), len(problem["costs"])
     plan, rows, columns = (c_uint8 * max(1, k))(*[7] * k), (c_int64 * n)(*[7] * n), (c_int64 * m)(*[7] * m)
     row_marks, column_marks = (c_uint8 * n)(*[7] * n), (c_uint8 * m)(*[7] * m)
     info, record = Info(7, 7, 7, 7, 7), Record()
+    if start:
+        record.state[:], columns[:] = start
     buffers = [plan, c_size_t(k), rows, c_size_t(n), columns, c_size_t(m)]
     buffers += [row_marks, c_size_t(n), column_marks, c_size_t(m)]
     code, before = STOPPED, (list(plan)[:k], list(rows), list(columns))
@@ -286,7 +288,11 @@ def main():
         problem = drawn(dice)
         judge_answer(library, problem, solve(library, problem))
         judge_answer(library, problem, solve(library, problem, dice.choice([0, 1, 50])))
+        numbers = [dice.choice([-1, 1]) * dice.getrandbits(dice.randint(1, 56)) for _ in problem["column_least"]]
+        start = [1, 0, 0, 0, 0, dice.choice([0, 2**64 - 1]), 0, 0], numbers
+        judge_answer(library, problem, solve(library, problem, 0, start))
         judge_checkers(library, problem, dice)
 
 
-main()
+if __name__ == "__main__":
+    main()

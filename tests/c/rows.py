@@ -263,4 +263,5 @@ def main():
     print(f"rows: {len(TABLE)} cases, 2000 drawn: {dict(sorted(seen.items()))}")
 
 
-main()
+if __name__ == "__main__":
+    main()

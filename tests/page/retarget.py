@@ -50,12 +50,12 @@ REFUSED_NARROW = (('{ i8, ptr }, ptr %place, align 8', '[2 x ptr], ptr %place, a
 CASES = (("wasm32", REFUSED + REFUSED_NARROW), ("windows", REFUSED))
 
 
-def retargeted(text: str, platform: str) -> "subprocess.CompletedProcess[str]":
+def retargeted(text: str, platform: str, *calls: str) -> "subprocess.CompletedProcess[str]":
     with tempfile.NamedTemporaryFile("w", suffix=".ll") as file:
         file.write(text)
         file.flush()
-        return subprocess.run([sys.executable, str(TOP / "c/retarget.py"), file.name, platform], capture_output=True,
-                              text=True)
+        return subprocess.run([sys.executable, str(TOP / "c/retarget.py"), file.name, platform, *calls],
+                              capture_output=True, text=True)
 
 
 def lacking(platform: str) -> "list[str]":
@@ -76,6 +76,12 @@ def faults() -> "list[str]":
             found.append(f"{platform}, {new}: {done.stderr or 'taken'}")
     if retargeted(MODULE, "vax").stderr != "c/retarget.py: a module is to be named, and a platform: wasm32, windows\n":
         found.append("another platform is taken")
+    two = MODULE + "define i64 @other() #0 {\n  ret i64 0\n}\n"
+    done = retargeted(two, "wasm32", "first")
+    if "\ndefine i64 @first(" not in done.stdout or "\ndefine internal i64 @other(" not in done.stdout:
+        found.append("another call than the named one is exported")
+    if not retargeted(two, "wasm32", "third").stderr.startswith("c/retarget.py: 0 lines like "):
+        found.append("a call that isn't there is taken")
     return found
 
 

@@ -9,6 +9,8 @@ import layers
 
 # The modules of other folders that files of tests import.
 OF_OTHER_FOLDERS = {
+    # Problems and plans as the command has them.
+    "campaigns": "costs.problem counts.planned lap.fewest lap.solving roster.single_nodes",
     # What several files of tests share.
     "commands": "roster.command",
     "drawn_rules": "roster.dates roster.month roster.roster roster.rules.rule_file",
@@ -28,6 +30,7 @@ OF_OTHER_FOLDERS = {
     # They make what the tested folder takes, or check what it makes.
     "counts.test_count_rows": "rows.certificate_check",
     "lap.test_fewest": "costs.kinds costs.problem",
+    "lap.test_groups": "costs.kinds costs.problem",
     "lap.test_levels": "costs.kinds costs.problem",
     "lap.test_wide": "costs.kinds costs.limits",
     "roster.rules.test_stages": "rows.certificate_check rows.finding rows.model",

@@ -11,7 +11,7 @@ use crossbeam_utils::CachePadded;
 use std::alloc::{AllocError, Global};
 use std::sync::Wait;
 use std::thread;
-use std::thread::{Parker, Threads};
+use std::thread::Threads;
 
 /// A desk, and the fault of its worker, if there is one.
 #[derive(Drop)]
@@ -41,7 +41,6 @@ pub fn take_turns<G: Gate, R: Wait>(
     desk: &mut Desk,
     refresh: u64,
     gate: &G,
-    parker: &Parker,
 ) -> Option<TurnFault>
     requires { CanTurn place.now desk.old }
     ensures can_turn { CanTurn place.now desk.new }
@@ -53,7 +52,7 @@ pub fn take_turns<G: Gate, R: Wait>(
     for _ in rt.forever() {
         match turn(rt, alloc, place, desk, refresh, gate) {
             Ok(Turn::Claimed) => {}
-            Ok(Turn::Idle) => pause(rt, place, parker),
+            Ok(Turn::Idle) => pause(rt, place),
             Ok(Turn::Done) => return None,
             Ok(Turn::Refuted) => return None,
             Ok(Turn::Stopped) => return None,
@@ -70,7 +69,6 @@ fn work<G: Gate, R: Wait>(rt: &R, alloc: Global, shared: &Shared<'_, G>, worker:
     ensures fault { IsMemory worker.new.fault }
     ensures stops { OnSome worker.new.fault (worker.new.desk.known.stop ≡ true) }
 {
-    let parker = Parker::new();
     let fault = take_turns(
         rt,
         alloc,
@@ -78,7 +76,6 @@ fn work<G: Gate, R: Wait>(rt: &R, alloc: Global, shared: &Shared<'_, G>, worker:
         &mut worker.desk,
         shared.refresh,
         shared.gate,
-        &parker,
     );
     if fault.is_some() {
         ask_stop(rt, shared.place, &mut worker.desk);

@@ -18,7 +18,7 @@ use async_workers::{Gate, solve_workers_from};
 use command_line::{Method, Mode, SolveOpts};
 use exact_paths::solve_paths;
 use orlib_reader::{InputFault, read_dense, read_sparse};
-use parallel_checker::{LEAST_PAIRS, confirms_in_parts};
+use parallel_checker::confirms_in_parts;
 use report::{
     Report, ReportFault, StartFault, WriteFault, read_report, start_prices, write_report,
 };
@@ -268,7 +268,7 @@ fn solve_by_auction<T: Threads + Wait + Sync, G: Gate + Sync, V: Watch + Sync>(
     let (problem, sense) = (scaled.problem(), scaled.sense());
     if !confirms_in_parts(
         context.rt,
-        LEAST_PAIRS,
+        LEAST_PAIRS_IN_PARTS,
         context.alloc,
         problem,
         sense,

@@ -42,8 +42,16 @@ module _ (sense : Sense) (g : InputLists) (kept : List ℕ) (long : length kept 
           (let x : ListedCosts = record { sense = sense; m = a; rows = o } in let y : ListedCosts = record { sense = sense; m = b; rows = q } in x ≡ y)
       lists_same a b o q e h = cc
 
+  -- the rows of all costs, combined
+  pub dense_lists : (n m : ℕ) → n ≡ g.n → m ≡ g.m → g.form ≡ Dense →
+      (let l : ListedCosts = record { sense = sense; m = m; rows = combined_rows sense n kept (rows_cut m n g.costs) } in l ≡ combined_lists kept (lists_in sense g))
+  dense_lists n m en em f =
+      same_lists n m (rows_cut g.m g.n g.costs) (combined_rows sense n kept (rows_cut m n g.costs)) em (ap (λ (h : Form). rows_of h sense g) f)
+      (length-rows_cut g.m g.n g.costs)
+      (ap (λ (i : ℕ). combined_rows sense i kept (rows_cut m i g.costs)) en ∙ ap (λ (i : ℕ). combined_rows sense g.n kept (rows_cut i g.n g.costs)) em)
+
   -- all costs, row by row
-  pub rows_are : (n m : ℕ) (vs : List ℤ) → n ≡ g.n → m ≡ g.m → g.form ≡ Dense → HasPairs g.form g → length vs ≡ length g.costs →
+  rows_are : (n m : ℕ) (vs : List ℤ) → n ≡ g.n → m ≡ g.m → g.form ≡ Dense → HasPairs g.form g → length vs ≡ length g.costs →
       ((i j : ℕ) → i < g.n → j < g.m → get_or vs (i * g.m + j) (pos 0) ≡ with_change sense g.n (get_or g.costs (i * g.m + j) (pos 0)) (change (get_or kept i 0) (j + 1))) →
       (let l : ListedCosts = record { sense = sense; m = m; rows = rows_cut m n vs } in l ≡ combined_lists kept (lists_in sense g))
   rows_are n m vs en em f pairs values_long each =

@@ -8,6 +8,9 @@ mod ExactEnds
 mod CombinedRows
 mod CombinedPlaces
 mod CombinedLists
-mod CombinedKept
+mod CombinedPlans
+mod NotedRows
+mod PushedLevels
+mod TightPlans
 mod FewestLaws
 mod FewestEnds

@@ -15,3 +15,4 @@ pub mod Lacking
 pub mod Verdicts
 pub mod Picked
 pub mod OnesLaw
+pub mod Marked

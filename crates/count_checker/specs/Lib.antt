@@ -7,3 +7,4 @@ pub mod CountFaults
 pub mod Shortages
 pub mod inside
 pub mod Ones
+pub mod Marks

@@ -4,6 +4,7 @@ ghost use Rattle.count_checker.specs.Counts.{CountProblem, IsBestPlan, IsCountPr
 ghost use Rattle.count_checker.specs.CountPrices.{AreCountPrices};
 ghost use Rattle.count_checker.specs.CountSets.{ColumnsLack, RowsLack};
 ghost use Rattle.count_checker.specs.CountFaults.{CountVerdictsDiffer};
+ghost use Rattle.count_checker.specs.Marks.{MarksBreakTies, MarksMeanFewest, MarksMeanSame};
 ghost use Rattle.count_checker.specs.Ones.{OnesAreAssignments};
 ghost use Rattle.count_checker.specs.Shortages.{ShortageVerdictsDiffer};
 
@@ -40,4 +41,22 @@ pub fn one_shortage_verdict()
 /// plan that of an assignment, with the same cost, and the one is best just where the other is.
 pub fn ones_are_assignments()
     ensures { OnesAreAssignments }
+{}
+
+/// Of all best plans one has the best sum of marks if it is best at marked costs too: a multiple of each cost,
+/// and its mark more.
+pub fn marks_break_ties()
+    ensures { MarksBreakTies }
+{}
+
+/// Of all best plans one has the fewest changes from pairs to keep if it is best at marked costs too, with
+/// 1 less for a pair to keep and 1 more for another. Pairs that don't count have no mark.
+pub fn marks_mean_fewest_changes()
+    ensures { MarksMeanFewest }
+{}
+
+/// All best plans have the same of the pairs that count if one of them is best at marked costs too, where
+/// the pairs to keep are those that it has not. If all pairs count, it is the only best one.
+pub fn marks_mean_the_same()
+    ensures { MarksMeanSame }
 {}

@@ -20,8 +20,8 @@ mod verdict;
 pub use checked::CheckedLists;
 pub use checker::check;
 pub use law::{
-    count_prices_mean_best, count_sets_leave_no_plan, one_count_verdict, one_shortage_verdict,
-    ones_are_assignments,
+    count_prices_mean_best, count_sets_leave_no_plan, marks_break_ties, marks_mean_fewest_changes,
+    marks_mean_the_same, one_count_verdict, one_shortage_verdict, ones_are_assignments,
 };
 pub use list_fault::ListFault;
 pub use lists::CountLists;

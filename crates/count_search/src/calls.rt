@@ -121,7 +121,7 @@ fn search_whole(
         state,
         marks,
         arc_scans: ArcScans {
-            done: record.arc_scans,
+            done: record.arc_scans.min(u64::MAX / 2),
             limit: u64::MAX,
         },
         record: *record,

@@ -36,8 +36,8 @@ pub struct Keys {
     pub is_grouped: bool,
 }
 
-// Greater numbers are cut.
-const MOST_NUMBER: i64 = 1 << 59;
+// Greater numbers are cut: sums of several of them would reach `FAR`.
+const MOST_NUMBER: i64 = 1 << 57;
 
 const UNSEEN: u32 = u32::MAX;
 

@@ -1,10 +1,11 @@
 // The auction over all pairs (Bertsekas's): a person takes its best object and raises its price by
 // the gap to the second best and a slackness, which falls from phase to phase.
+use super::bids::bid;
 use super::market::Market;
 use super::matrix::Matrix;
+use super::number::Number;
 use super::reading::Reading;
 use super::record::{Ended, Record};
-use super::rows::two_best;
 use search_base::{ArcScans, NOBODY, place_at};
 use std::alloc::{AllocError, Global};
 use std::collections::VecDeque;
@@ -20,9 +21,45 @@ const BIDS_A_PERSON: u64 = 50;
 // How often in a phase dummies take cheap objects.
 const CROWDINGS: usize = 8;
 
-fn unassigned_persons(
+// The price below which as many objects lie as there are more objects than persons.
+fn crowd_price<K: Number>(alloc: Global, market: &Market<'_, K>) -> Result<K, AllocError> {
+    let mut prices = Vec::with_capacity(alloc, market.prices.len())?;
+    for price in market.prices.iter() {
+        prices.push(price.wide())?;
+    }
+    prices.as_mut_slice().sort_unstable();
+    let more = prices.len().saturating_sub(market.objects.len());
+    Ok(K::from_wide(prices.get(more).copied().unwrap_or(0)))
+}
+
+// Dummies, as many as there are more objects than persons, take the cheapest objects at the price
+// of the next one, if an unowned object is dearer. Returns whether they did.
+fn crowd_out<K: Number>(
     alloc: Global,
-    market: &Market<'_, i64>,
+    market: &mut Market<'_, K>,
+    slackness: K,
+) -> Result<bool, AllocError> {
+    let price = crowd_price(alloc, market)?;
+    let overpriced = price.plus(slackness);
+    if !market.has_unowned_above(overpriced) {
+        return Ok(false);
+    }
+    for k in 0..market.prices.len() {
+        let object = place_at(k);
+        if market.price(object).is_below(price) {
+            market.set_price(object, overpriced);
+            let owner = market.owner(object);
+            if owner != NOBODY {
+                market.release(owner);
+            }
+        }
+    }
+    Ok(true)
+}
+
+fn unassigned_persons<K>(
+    alloc: Global,
+    market: &Market<'_, K>,
 ) -> Result<VecDeque<u32>, AllocError> {
     let mut queue = VecDeque::new(alloc);
     for (k, object) in market.objects.iter().enumerate() {
@@ -33,38 +70,22 @@ fn unassigned_persons(
     Ok(queue)
 }
 
-// One bid: the person who lost its object by it, or nobody.
-fn bid<R: Reading<i64>>(
-    matrix: &Matrix<'_, i64, R>,
-    market: &mut Market<'_, i64>,
-    person: u32,
-    slackness: i64,
-) -> u32 {
-    let two = two_best(&matrix.reading, matrix.row(person), market.prices);
-    let owner = market.owner(two.object);
-    if owner != NOBODY {
-        market.release(owner);
-    }
-    market.raise(two.object, two.gap().wrapping_add(slackness));
-    market.give(two.object, person);
-    owner
-}
-
 // Bids until each person has an object.
-fn bid_in_turn<R: Reading<i64>>(
+fn bid_in_turn<K: Number, R: Reading<K>>(
     alloc: Global,
-    matrix: &Matrix<'_, i64, R>,
-    market: &mut Market<'_, i64>,
+    matrix: &Matrix<'_, K, R>,
+    market: &mut Market<'_, K>,
     record: &mut Record,
     arc_scans: &mut ArcScans,
 ) -> Result<Ended, AllocError> {
     let most = (matrix.persons as u64).saturating_mul(BIDS_A_PERSON);
+    let slackness = K::from_wide(record.slackness);
     let mut queue = unassigned_persons(alloc, market)?;
     for _ in record.bids..most {
         let Some(person) = queue.pop_front() else {
             return Ok(Ended::Assigned);
         };
-        let loser = bid(matrix, market, person, record.slackness);
+        let loser = bid(matrix, market, person, slackness);
         record.bids = record.bids.saturating_add(1);
         arc_scans.add(matrix.objects);
         if loser != NOBODY {
@@ -77,88 +98,51 @@ fn bid_in_turn<R: Reading<i64>>(
     Ok(Ended::Long)
 }
 
-// The price below which as many objects lie as there are more objects than persons.
-fn crowd_price(alloc: Global, market: &Market<'_, i64>) -> Result<i64, AllocError> {
-    let mut prices = market.prices.to_vec(alloc)?;
-    prices.as_mut_slice().sort_unstable();
-    let more = prices.len().saturating_sub(market.objects.len());
-    Ok(prices.get(more).copied().unwrap_or(0))
-}
-
-fn has_overpriced_unowned(market: &Market<'_, i64>, limit: i64) -> bool {
-    for (price, owner) in market.prices.iter().zip(&market.owners) {
-        if *owner == NOBODY && *price > limit {
-            return true;
-        }
-    }
-    false
-}
-
-// Dummies, as many as there are more objects than persons, take the cheapest objects at the price
-// of the next one, if an unowned object is dearer. Returns whether they did.
-fn crowd_out(
-    alloc: Global,
-    market: &mut Market<'_, i64>,
-    slackness: i64,
-) -> Result<bool, AllocError> {
-    let price = crowd_price(alloc, market)?;
-    let overpriced = price.saturating_add(slackness);
-    if !has_overpriced_unowned(market, overpriced) {
-        return Ok(false);
-    }
-    for k in 0..market.prices.len() {
-        let object = place_at(k);
-        if market.price(object) < price {
-            market.set_price(object, overpriced);
-            let owner = market.owner(object);
-            if owner != NOBODY {
-                market.release(owner);
-            }
-        }
-    }
-    Ok(true)
-}
-
 // A phase of one slackness.
-fn phase<R: Reading<i64>>(
+fn phase<K: Number, R: Reading<K>>(
     alloc: Global,
-    matrix: &Matrix<'_, i64, R>,
-    market: &mut Market<'_, i64>,
+    matrix: &Matrix<'_, K, R>,
+    market: &mut Market<'_, K>,
     record: &mut Record,
     arc_scans: &mut ArcScans,
 ) -> Result<Ended, AllocError> {
+    let slackness = K::from_wide(record.slackness);
     for _ in 0..CROWDINGS {
         match bid_in_turn(alloc, matrix, market, record, arc_scans)? {
             Ended::Assigned => {}
             ended => return Ok(ended),
         }
         let is_square = matrix.persons == matrix.objects;
-        if is_square || !crowd_out(alloc, market, record.slackness)? {
+        if is_square || !crowd_out(alloc, market, slackness)? {
             return Ok(Ended::Assigned);
         }
     }
     bid_in_turn(alloc, matrix, market, record, arc_scans)
 }
 
-// Phases of falling slackness, down to 1 in the unit of the prices.
-pub fn auction<R: Reading<i64>>(
+// Phases of falling slackness, down to a few units of the prices, as far as the arc scans allow. Returns
+// whether they ended.
+pub fn auction<K: Number, R: Reading<K>>(
     alloc: Global,
-    matrix: &Matrix<'_, i64, R>,
-    market: &mut Market<'_, i64>,
+    matrix: &Matrix<'_, K, R>,
+    market: &mut Market<'_, K>,
     record: &mut Record,
     arc_scans: &mut ArcScans,
-) -> Result<Ended, AllocError> {
+) -> Result<bool, AllocError> {
     for _ in 0..PHASES {
+        if record.slackness <= 0 {
+            return Ok(true);
+        }
+        if record.bids == 0 {
+            market.release_all();
+        }
         match phase(alloc, matrix, market, record, arc_scans)? {
+            Ended::Stopped => return Ok(false),
             Ended::Assigned => {}
-            ended => return Ok(ended),
+            Ended::Long | Ended::Near | Ended::Blocked => return Ok(true),
         }
-        if record.slackness <= 1 {
-            return Ok(Ended::Assigned);
-        }
-        record.slackness = (record.slackness / DIVISOR).max(1);
+        record.slackness = record.slackness / DIVISOR;
         record.bids = 0;
-        market.release_all();
     }
-    Ok(Ended::Assigned)
+    Ok(true)
 }

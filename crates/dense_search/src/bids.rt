@@ -1,5 +1,5 @@
-// Bids without slackness: a person takes its best object and raises its price until the second best
-// is as good; the person that owned it bids next. This is the augmenting row reduction of Jonker
+// Bids: a person takes its best object and raises its price until the second best is as good, or better by a
+// slackness. Without slackness the person that owned it bids next. This is the augmenting row reduction of Jonker
 // and Volgenant (A shortest augmenting path algorithm for dense and sparse linear assignment
 // problems, 1987).
 use super::market::Market;
@@ -64,7 +64,7 @@ pub fn give_least<K: Number, R: Reading<K>>(
 
 // One bid: the person who is to bid next, since it lost its object, or nobody. Where another object is
 // as good an unowned one is taken; if there is none, the owner loses the object and waits.
-fn bid<K: Number, R: Reading<K>>(
+pub fn bid<K: Number, R: Reading<K>>(
     matrix: &Matrix<'_, K, R>,
     market: &mut Market<'_, K>,
     person: u32,
@@ -90,17 +90,17 @@ fn bid<K: Number, R: Reading<K>>(
     owner
 }
 
-// At most `most` bids of a person and of those who lose their objects in turn. Returns how many.
+// At most `most` bids without slackness of a person and of those who lose their objects in turn. Returns how
+// many.
 fn bid_on<K: Number, R: Reading<K>>(
     matrix: &Matrix<'_, K, R>,
     market: &mut Market<'_, K>,
     first: u32,
-    slackness: K,
     most: usize,
 ) -> usize {
     let mut person = first;
     for made in 0..most {
-        person = bid(matrix, market, person, slackness);
+        person = bid(matrix, market, person, K::zero());
         if person == NOBODY {
             return made + 1;
         }
@@ -108,20 +108,18 @@ fn bid_on<K: Number, R: Reading<K>>(
     most
 }
 
-// Bids of each person without an object, and of those who lose theirs, at most `most` in all and
-// `chain` from one person on. Returns their number.
+// Bids without slackness of each person without an object, and of those who lose theirs, at most `most` in all
+// and a short chain from one person on. Returns their number.
 fn bid_all<K: Number, R: Reading<K>>(
     matrix: &Matrix<'_, K, R>,
     market: &mut Market<'_, K>,
-    slackness: K,
     most: usize,
-    chain: usize,
 ) -> usize {
-    let mut left = most;
+    let (mut left, chain) = (most, longest_chain(matrix.persons));
     for k in 0..matrix.persons {
         let person = place_at(k);
         if market.object(person) == NOBODY && left > 0 {
-            let made = bid_on(matrix, market, person, slackness, left.min(chain));
+            let made = bid_on(matrix, market, person, left.min(chain));
             left = left.saturating_sub(made);
         }
     }
@@ -141,35 +139,18 @@ pub struct Bids {
     pub are_cut: bool,
 }
 
-// At most so many bids of a slackness, as far as the arc scans allow; a chain without slackness has few.
+// At most so many bids without slackness, as far as the arc scans allow.
 pub fn bid_within<K: Number, R: Reading<K>>(
     matrix: &Matrix<'_, K, R>,
     market: &mut Market<'_, K>,
-    slackness: K,
     most: usize,
     arc_scans: &mut ArcScans,
 ) -> Bids {
     let allowed = most.min(bids_within(matrix, arc_scans));
-    let has_slackness = K::zero().is_below(slackness);
-    let chain = if has_slackness {
-        allowed
-    } else {
-        longest_chain(matrix.persons)
-    };
-    let made = bid_all(matrix, market, slackness, allowed, chain);
+    let made = bid_all(matrix, market, allowed);
     arc_scans.add(made.saturating_mul(matrix.objects));
     Bids {
         made,
         are_cut: made == allowed && made < most,
     }
-}
-
-// At most so many bids without slackness, as far as the arc scans allow. Returns their number.
-pub fn bid_without_slackness<K: Number, R: Reading<K>>(
-    matrix: &Matrix<'_, K, R>,
-    market: &mut Market<'_, K>,
-    most: usize,
-    arc_scans: &mut ArcScans,
-) -> usize {
-    bid_within(matrix, market, K::zero(), most, arc_scans).made
 }

@@ -19,16 +19,7 @@ const MEAN: usize = 2;
 pub struct Capped {
     pub costs: Vec<i32>,
     // What the copy has as 0.
-    first: i64,
-}
-
-// A person's least cost, as it is read.
-fn least_value<R: Reading<i64>>(matrix: &Matrix<'_, i64, R>, person: u32) -> i64 {
-    let mut least = matrix.value(person, 0);
-    for cost in matrix.row(person) {
-        least = lesser(least, matrix.reading.value(*cost));
-    }
-    least
+    pub first: i64,
 }
 
 // Copies a row less a number. Returns how many costs are close; nothing if another one isn't far above
@@ -56,7 +47,7 @@ pub fn capped_costs<R: Reading<i64>>(
     alloc: Global,
     matrix: &Matrix<'_, i64, R>,
 ) -> Result<Option<Capped>, AllocError> {
-    let first = least_value(matrix, 0);
+    let (first, _) = matrix.ends_of(0);
     let mut costs = vec![in alloc; 0i32; matrix.pairs()]?;
     let (mut all, mut least) = (0usize, 0usize);
     for (k, part) in costs.chunks_mut(matrix.objects.max(1)).enumerate() {
@@ -71,19 +62,17 @@ pub fn capped_costs<R: Reading<i64>>(
     Ok(Some(Capped { costs, first }))
 }
 
-impl Capped {
-    // Whether a person's own cost is one that came down.
-    pub fn is_cut<R: Reading<i64>>(
-        &self,
-        matrix: &Matrix<'_, i64, R>,
-        market: &Market<'_, i64>,
-    ) -> bool {
-        for (k, object) in market.objects.iter().enumerate() {
-            let value = matrix.value(place_at(k), *object);
-            if value.wrapping_sub(self.first) >= NARROW {
-                return true;
-            }
+// Whether a person's own cost is one that came down.
+pub fn is_cut<R: Reading<i64>>(
+    matrix: &Matrix<'_, i64, R>,
+    market: &Market<'_, i64>,
+    first: i64,
+) -> bool {
+    for (k, object) in market.objects.iter().enumerate() {
+        let value = matrix.value(place_at(k), *object);
+        if value.wrapping_sub(first) >= NARROW {
+            return true;
         }
-        false
     }
+    false
 }

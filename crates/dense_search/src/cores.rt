@@ -2,7 +2,7 @@
 use super::course::Course;
 use super::market::Market;
 use super::matrix::Matrix;
-use super::pick::{Core, pick_by_means, pick_by_prices};
+use super::pick::{Core, pick_by_prices};
 use super::prices::{begin_at_zero, reduce};
 use super::pricing::{Better, better_pairs, merge, pairs_around};
 use super::reading::Reading;
@@ -145,24 +145,6 @@ fn solve_core<R: Reading<i64>>(
     })
 }
 
-// Adds better pairs to a core; if asked, also those that are cheapest by another measure.
-fn grow<R: Reading<i64>>(
-    alloc: Global,
-    matrix: &Matrix<'_, i64, R>,
-    core: &Core,
-    better: &Better,
-    needs_means: bool,
-    arc_scans: &mut ArcScans,
-) -> Result<Core, AllocError> {
-    let grown = merge(alloc, core, &better.core, matrix.persons)?;
-    if !needs_means || matrix.persons < matrix.objects {
-        return Ok(grown);
-    }
-    let others = pick_by_means(alloc, matrix)?;
-    arc_scans.add(matrix.pairs());
-    merge(alloc, &grown, &others, matrix.persons)
-}
-
 // Solves a core, and larger ones, until no pair beats the prices. `Long` if most persons have better
 // pairs, and `Near` if about as many as before have some; the record then has the mean of what they
 // would gain by them.
@@ -198,8 +180,7 @@ fn solve_from<R: Reading<i64>>(
             return Ok(ended);
         }
         course.note_pass(&better);
-        let needs_means = course.needs_means(&better);
-        core = grow(alloc, matrix, &core, &better, needs_means, arc_scans)?;
+        core = merge(alloc, &core, &better.core, matrix.persons)?;
     }
     Ok(Ended::Long)
 }

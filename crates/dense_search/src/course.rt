@@ -65,11 +65,6 @@ impl Course {
         self.is_hard && better.persons < nearly_all
     }
 
-    // Whether a core should get pairs by another measure too.
-    pub fn needs_means(self, better: &Better) -> bool {
-        self.has_most(better) && !self.is_promising(better)
-    }
-
     // Whether fewer persons have better pairs than before. Of a promising core it's enough if they are
     // a half at most, or would gain less.
     fn comes_nearer(self, better: &Better) -> bool {
@@ -81,7 +76,7 @@ impl Course {
     // many persons, and an auction for most; few are assigned at the prices of the core.
     pub fn end(self, better: &Better) -> Option<Ended> {
         if self.persons == 0 {
-            let is_long = self.may_copy && self.needs_means(better);
+            let is_long = self.may_copy && self.has_most(better) && !self.is_promising(better);
             return is_long.then_some(Ended::Long);
         }
         if self.comes_nearer(better) {

@@ -10,6 +10,7 @@ mod cheapest;
 mod copied;
 mod cores;
 mod course;
+mod firsts;
 mod full_search;
 mod gather;
 mod market;
@@ -27,6 +28,7 @@ mod settling;
 mod shifted;
 mod shortest;
 mod sorted;
+mod squared;
 mod stages;
 mod tree;
 

@@ -120,15 +120,19 @@ impl<'a, K: Number> Market<'a, K> {
         Ok(unowned)
     }
 
-    // Whether an unowned object is dearer than the cheapest one.
-    pub fn has_overpriced_unowned(&self) -> bool {
-        let least = self.least_price();
+    // Whether an unowned object is dearer than this price.
+    pub fn has_unowned_above(&self, limit: K) -> bool {
         for (price, owner) in self.prices.iter().zip(&self.owners) {
-            if *owner == NOBODY && least.is_below(*price) {
+            if *owner == NOBODY && limit.is_below(*price) {
                 return true;
             }
         }
         false
+    }
+
+    // Whether an unowned object is dearer than the cheapest one.
+    pub fn has_overpriced_unowned(&self) -> bool {
+        self.has_unowned_above(self.least_price())
     }
 
     // The least price.

@@ -2,18 +2,10 @@
 use super::gather::scatter;
 use super::market::Market;
 use super::number::{Number, greater, lesser};
-use super::reading::{AsCosts, Magnified, Reading};
+use super::reading::{Magnified, Reading};
 use assign_core::Sense;
 use search_base::place_at;
 use std::alloc::{AllocError, Global};
-
-// So many persons show whether nearly all pairs are far, where there are at least so many pairs. If they
-// are, values are first reduced by persons. Else an object without a near pair is priced far below the
-// others, and each search scans the owners of all of these: 1,000 rows with one near pair in a thousand
-// took 34 times as long, bands of 2,000 rows 5 times.
-const SAMPLE: usize = 8;
-
-const LEAST_SAMPLED: usize = 1 << 14;
 
 /// Persons and objects are given by their places from 0. The costs of a person stand side by side,
 /// one for each object, and they are read where they lie.
@@ -76,7 +68,7 @@ impl<'a, K: Number, R: Reading<K>> Matrix<'a, K, R> {
     }
 
     // A person's least and greatest value.
-    fn ends_of(&self, person: u32) -> (K, K) {
+    pub fn ends_of(&self, person: u32) -> (K, K) {
         let first = self.value(person, 0);
         let mut ends = (first, first);
         for cost in self.row(person) {
@@ -84,27 +76,6 @@ impl<'a, K: Number, R: Reading<K>> Matrix<'a, K, R> {
             ends = (lesser(ends.0, value), greater(ends.1, value));
         }
         ends
-    }
-
-    // How many objects have the greatest value for a person.
-    fn count_farthest(&self, person: u32) -> usize {
-        let farthest = self.ends_of(person).1;
-        let row = self.row(person).iter();
-        row.filter(|cost| !self.reading.value(**cost).is_below(farthest))
-            .count()
-    }
-
-    // Whether nearly all pairs are as bad as any, like forbidden ones, as some persons show.
-    fn is_mostly_far(&self) -> bool {
-        if self.pairs() < LEAST_SAMPLED {
-            return false;
-        }
-        let mut far = 0usize;
-        for k in 0..SAMPLE {
-            let person = place_at(self.persons.saturating_mul(k) / SAMPLE);
-            far = far.saturating_add(self.count_farthest(person));
-        }
-        far > self.objects.saturating_mul(SAMPLE) / 8 * 7
     }
 
     // Each person's least value.
@@ -115,28 +86,9 @@ impl<'a, K: Number, R: Reading<K>> Matrix<'a, K, R> {
         }
         Ok(least)
     }
-
-    // What persons' values are reduced by before those of objects: their least ones, or nothing.
-    pub fn first_values(&self, alloc: Global) -> Result<Vec<K>, AllocError> {
-        if self.persons == self.objects && self.is_mostly_far() {
-            self.least_values(alloc)
-        } else {
-            vec![in alloc; K::zero(); self.persons]
-        }
-    }
 }
 
 impl<'a, R: Reading<i64>> Matrix<'a, i64, R> {
-    // A copy of the costs, as they are read.
-    pub fn over<'b>(&self, costs: &'b [i32]) -> Matrix<'b, i32, AsCosts> {
-        Matrix {
-            persons: self.persons,
-            objects: self.objects,
-            costs,
-            reading: AsCosts,
-        }
-    }
-
     // The same costs times a power of 2.
     pub fn magnified(&self, shift: u32) -> Matrix<'_, i64, Magnified<'_, R>> {
         Matrix {

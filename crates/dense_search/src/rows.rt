@@ -75,8 +75,8 @@ fn two_of_block<K: Number, R: Reading<K>>(
     two
 }
 
-// The least value of a block.
-fn least_value<K: Number, R: Reading<K>>(reading: &R, costs: &[K], keys: &[K]) -> K {
+// The least value of these objects.
+pub fn least_value<K: Number, R: Reading<K>>(reading: &R, costs: &[K], keys: &[K]) -> K {
     let mut least = K::far();
     for (cost, key) in costs.iter().zip(keys) {
         least = lesser(least, reading.value(*cost).plus(*key));

@@ -13,7 +13,6 @@ const END: i64 = NARROW / 2;
 
 #[derive(Drop)]
 pub struct Shifted {
-    pub costs: Vec<i32>,
     pub shift: u32,
     // What each object's costs are less by.
     firsts: Vec<i64>,
@@ -75,7 +74,7 @@ fn copy_row<R: Reading<i64>>(
 pub fn shifted_costs<R: Reading<i64>>(
     alloc: Global,
     matrix: &Matrix<'_, i64, R>,
-) -> Result<Shifted, AllocError> {
+) -> Result<(Shifted, Vec<i32>), AllocError> {
     let least = matrix.least_values(alloc)?;
     let firsts = firsts_of(alloc, matrix, least.as_slice())?;
     let mut greatest = 0i64;
@@ -90,11 +89,7 @@ pub fn shifted_costs<R: Reading<i64>>(
         let row = matrix.row(place_at(k));
         copy_row(&matrix.reading, row, *own, firsts.as_slice(), shift, part);
     }
-    Ok(Shifted {
-        costs,
-        shift,
-        firsts,
-    })
+    Ok((Shifted { shift, firsts }, costs))
 }
 
 impl Shifted {

@@ -1,4 +1,5 @@
 // The best objects of a row. The value of an object is its cost less its key.
+use super::cheap::CheapPair;
 use super::lists::{NOBODY, at};
 use super::reach::{BLOCK, LANES};
 use super::whole::FAR;
@@ -119,6 +120,20 @@ pub fn two_best(row: &[i64], keys: &[i64]) -> Two {
         let bits = bits_below(row, keys, two.second);
         two = two.with_some(row, keys, from, bits);
         from = from.wrapping_add(BLOCK);
+    }
+    two
+}
+
+// The two best values of some pairs, and of others that cost so much.
+pub fn two_best_of(pairs: &[CheapPair], rest: i64, keys: &[i64]) -> Two {
+    let mut two = Two {
+        object: 0,
+        best: FAR,
+        second: rest,
+    };
+    for pair in pairs {
+        let value = pair.cost.wrapping_sub(at(keys, pair.object));
+        two = two.with(value, pair.object);
     }
     two
 }

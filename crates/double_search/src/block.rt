@@ -4,7 +4,7 @@ use super::reach::BLOCK;
 
 // The numbers that the lists of a search take, besides the costs.
 pub fn room_of(n: usize, m: usize) -> usize {
-    let of_objects = m.saturating_mul(4).saturating_add(m / BLOCK);
+    let of_objects = m.saturating_mul(5).saturating_add(m / BLOCK);
     let of_persons = n.saturating_mul(7).saturating_add(8);
     let of_near = most_near(n).saturating_mul(2);
     of_objects
@@ -29,6 +29,7 @@ pub fn lists_in<'a>(n: usize, m: usize, block: &'a mut [i64]) -> Lists<'a> {
     let (keys, block) = cut(block, m);
     let (distances, block) = cut(block, m);
     let (owners, block) = cut(block, m);
+    let (turns, block) = cut(block, m);
     let (blocks, block) = cut(block, (m / BLOCK).saturating_add(1));
     let (objects, block) = cut(block, n);
     let (passed, block) = cut(block, n);
@@ -44,6 +45,7 @@ pub fn lists_in<'a>(n: usize, m: usize, block: &'a mut [i64]) -> Lists<'a> {
         keys,
         distances,
         owners,
+        turns,
         blocks,
         objects,
         passed,
@@ -54,5 +56,6 @@ pub fn lists_in<'a>(n: usize, m: usize, block: &'a mut [i64]) -> Lists<'a> {
         near,
         spare,
         caps,
+        scans: 0,
     }
 }

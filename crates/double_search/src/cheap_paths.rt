@@ -1,19 +1,12 @@
-// Bids and shortest paths (as in `bids` and `paths`) over cheap pairs. No dual is above 0, the dual
-// of each unowned object. So of a person's other pairs only those with unowned objects count: a
-// path that goes on from another object ends at least as near at an unowned one.
-use super::cheap::{CheapPair, CheapPairs};
-use super::lists::{Lists, NOBODY, at, fill, number_of, place_of, put};
+// Shortest paths (as in `paths`) over cheap pairs. No dual is above 0, the dual of each unowned
+// object. So of a person's other pairs only those with unowned objects count: a path that goes on
+// from another object ends at least as near at an unowned one.
+use super::cheap::CheapPair;
+use super::lists::{Lists, NOBODY, at, number_of, place_of, put};
+use super::paths::Path;
 use super::reach::{BLOCK, least_of_block};
-use super::rows::Doubles;
+use super::rows::CheapRows;
 use super::whole::FAR;
-
-// The best cheap pair of a person, with its value, and the second best value of all pairs.
-#[derive(Clone, Copy)]
-struct Best {
-    object: usize,
-    value: i64,
-    second: i64,
-}
 
 // The nearest unowned object that no cheap pair leads to: its distance, and the turn of the person
 // that reaches it.
@@ -21,31 +14,6 @@ struct Best {
 struct Rest {
     level: i64,
     turn: usize,
-}
-
-// The two best values of a person.
-fn best_of(pairs: &[CheapPair], rest: i64, duals: &[i64]) -> Best {
-    let mut best = Best {
-        object: 0,
-        value: FAR,
-        second: rest,
-    };
-    for pair in pairs {
-        let value = pair.cost.wrapping_sub(at(duals, pair.object));
-        best = if value < best.value {
-            Best {
-                object: pair.object,
-                value,
-                second: best.second.min(best.value),
-            }
-        } else {
-            Best {
-                second: best.second.min(value),
-                ..best
-            }
-        };
-    }
-    best
 }
 
 impl Rest {
@@ -59,70 +27,15 @@ impl Rest {
 }
 
 impl<'a> Lists<'a> {
-    // One bid: the person who lost its object by it, or nobody.
-    fn bid_cheaply(&mut self, cheap: &CheapPairs, person: usize) -> i64 {
-        let duals = &*self.duals;
-        let best = best_of(cheap.of(person), cheap.rest(person), duals);
-        let owner = at(self.owners, best.object);
-        let gap = if best.second >= FAR {
-            0
-        } else {
-            best.second.wrapping_sub(best.value)
-        };
-        if best.value >= FAR || (owner != NOBODY && gap <= 0) {
-            return NOBODY;
-        }
-        let dual = at(self.duals, best.object).wrapping_sub(gap);
-        put(self.duals, best.object, dual);
-        self.give(person, best.object);
-        if owner != NOBODY {
-            put(self.objects, place_of(owner), NOBODY);
-        }
-        owner
-    }
-
-    // At most `most` bids of a person and of those who lose their objects. Returns how many.
-    fn bid_on_cheaply(&mut self, cheap: &CheapPairs, first: usize, most: usize) -> usize {
-        let mut person = first;
-        for made in 0..most {
-            let loser = self.bid_cheaply(cheap, person);
-            if loser == NOBODY {
-                return made;
-            }
-            person = place_of(loser);
-        }
-        most
-    }
-
-    // Bids of each person.
-    fn bid_all_cheaply(&mut self, cheap: &CheapPairs) {
-        let persons = self.persons();
-        let in_turn = persons.saturating_mul(2).saturating_add(4);
-        let mut left = persons.saturating_mul(3).saturating_add(8);
-        for person in 0..persons {
-            let made = self.bid_on_cheaply(cheap, person, in_turn.min(left).max(1));
-            left = left.saturating_sub(made);
-        }
-    }
-
     // Lowers the distances of a person's cheap objects, where that takes them below a limit.
-    fn reach(
-        &mut self,
-        pairs: &[CheapPair],
-        turns: &mut [i64],
-        turn: usize,
-        base: i64,
-        limit: i64,
-    ) {
+    fn reach(&mut self, pairs: &[CheapPair], turn: usize, base: i64, limit: i64) {
         for pair in pairs {
             let object = pair.object;
-            let distance = pair
-                .cost
-                .wrapping_sub(at(self.keys, object))
-                .wrapping_sub(base);
+            let key = at(self.keys, object);
+            let distance = pair.cost.wrapping_sub(key).wrapping_sub(base);
             if distance < limit && distance < at(self.distances, object) {
                 put(self.distances, object, distance);
-                put(turns, object, number_of(turn));
+                put(self.turns, object, number_of(turn));
                 let block = object / BLOCK;
                 let least = at(self.blocks, block).min(distance);
                 put(self.blocks, block, least);
@@ -144,10 +57,10 @@ impl<'a> Lists<'a> {
     }
 
     // Gives each person on the way back from an object the object that was reached from it.
-    fn walk_back_by(&mut self, turns: &[i64], count: usize, end: usize) -> bool {
+    fn walk_back_by_turns(&mut self, count: usize, end: usize) -> bool {
         let mut object = end;
         for _ in 0..count {
-            let turn = place_of(at(turns, object));
+            let turn = place_of(at(self.turns, object));
             let person = place_of(at(self.scanned, turn));
             self.give(person, object);
             if turn == 0 {
@@ -158,54 +71,29 @@ impl<'a> Lists<'a> {
         false
     }
 
-    // Shows the passed objects again.
-    fn show_passed(&mut self, count: usize) {
-        for turn in 0..count {
-            let object = place_of(at(self.passed, turn));
-            let dual = at(self.duals, object);
-            put(self.keys, object, dual);
-        }
-    }
-
-    // Ends a search in this turn, at an unowned object at this distance.
-    fn end_at(&mut self, turns: &[i64], turn: usize, end: usize, level: i64) -> bool {
-        let is_back = self.walk_back_by(turns, turn.wrapping_add(1), end);
-        self.lower_passed(turn, level);
-        self.show_passed(turn);
-        is_back
+    // Ends a path in this turn, at an unowned object at this distance.
+    fn end_at(&mut self, turn: usize, end: usize, level: i64) -> Path {
+        let is_back = self.walk_back_by_turns(turn.wrapping_add(1), end);
+        self.end_path(turn, level, is_back)
     }
 
     // The same at any unowned object that no cheap pair led to, if the pair costs no more than the
     // rest.
-    fn end_at_rest(
-        &mut self,
-        cheap: &CheapPairs,
-        doubles: &Doubles<'_>,
-        turns: &mut [i64],
-        turn: usize,
-        rest: Rest,
-    ) -> bool {
+    fn end_at_rest(&mut self, rows: &CheapRows<'_>, turn: usize, rest: Rest) -> Path {
         let Some(object) = self.owners.iter().position(|owner| *owner == NOBODY) else {
-            return false;
+            return Path::Lost;
         };
         let person = place_of(at(self.scanned, rest.turn));
-        if rest.level >= FAR || doubles.cost(person, object) > cheap.rest(person) {
-            return false;
+        if rest.level >= FAR || rows.doubles.cost(person, object) > rows.cheap.rest(person) {
+            return Path::Lost;
         }
-        put(turns, object, number_of(rest.turn));
-        self.end_at(turns, turn, object, rest.level)
+        put(self.turns, object, number_of(rest.turn));
+        self.end_at(turn, object, rest.level)
     }
 
-    // Gives a person an object by a shortest path. Returns whether it has one.
-    fn augment_cheaply(
-        &mut self,
-        cheap: &CheapPairs,
-        doubles: &Doubles<'_>,
-        turns: &mut [i64],
-        first: usize,
-    ) -> bool {
-        fill(self.distances, FAR);
-        fill(self.blocks, FAR);
+    // Gives a person an object by a shortest path.
+    pub fn augment_cheaply(&mut self, rows: &CheapRows<'_>, first: usize) -> Path {
+        self.begin_path();
         let mut rest = Rest {
             level: FAR,
             turn: 0,
@@ -214,54 +102,21 @@ impl<'a> Lists<'a> {
         let mut base = 0i64;
         for turn in 0..self.objects.len() {
             put(self.scanned, turn, number_of(person));
-            rest = rest.with(cheap.rest(person).wrapping_sub(base), turn);
-            self.reach(cheap.of(person), turns, turn, base, rest.level);
+            rest = rest.with(rows.cheap.rest(person).wrapping_sub(base), turn);
+            self.reach(rows.cheap.of(person), turn, base, rest.level);
             let level = self.least_distance();
             if level >= rest.level {
-                return self.end_at_rest(cheap, doubles, turns, turn, rest);
+                return self.end_at_rest(rows, turn, rest);
             }
             let object = place_of(self.nearest_at(level));
             let owner = at(self.owners, object);
             if owner == NOBODY {
-                return self.end_at(turns, turn, object, level);
+                return self.end_at(turn, object, level);
             }
             self.pass_in_block(turn, object, level);
             person = place_of(owner);
-            let own = doubles.cost(person, object);
-            base = own.wrapping_sub(at(self.duals, object)).wrapping_sub(level);
+            base = self.base_of(rows.doubles.cost(person, object), object, level);
         }
-        false
-    }
-
-    // Gives each person without an object one.
-    fn augment_all_cheaply(
-        &mut self,
-        cheap: &CheapPairs,
-        doubles: &Doubles<'_>,
-        turns: &mut [i64],
-    ) -> bool {
-        for person in 0..self.objects.len() {
-            if at(self.objects, person) == NOBODY
-                && !self.augment_cheaply(cheap, doubles, turns, person)
-            {
-                return false;
-            }
-        }
-        true
-    }
-
-    // A search from nothing, with room for the turns in which objects are reached. Returns whether
-    // each person has an object.
-    pub fn search_cheaply(
-        &mut self,
-        cheap: &CheapPairs,
-        doubles: &Doubles<'_>,
-        turns: &mut [i64],
-    ) -> bool {
-        self.release_all();
-        fill(self.duals, 0);
-        self.bid_all_cheaply(cheap);
-        self.begin_keys_exactly();
-        self.augment_all_cheaply(cheap, doubles, turns)
+        Path::Lost
     }
 }

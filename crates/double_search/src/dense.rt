@@ -1,18 +1,22 @@
-// A start from what the search of dense problems finds in whole numbers of fewer bits.
+// A search of many persons by what the search of dense problems finds in whole numbers of fewer bits.
 use super::lists::{Lists, at};
 use super::narrow::{MOST_COPIED, Narrow};
-use super::rows::{Doubles, Rows};
+use super::paths::Path;
+use super::rows::Rows;
 use super::scale::Scale;
 use super::solver::Problem;
 use assign_core::Sense;
 use dense_search::{DenseProblem, Outcome, Record, search};
 use std::alloc::{AllocError, Global};
 
-// From so many persons on that search is faster.
+// From so many persons on that search may be faster.
 const LEAST: usize = 160;
 
 // So many costs are looked at for equal ones.
 const LOOKED_AT: usize = 4096;
+
+// That search is faster where so many passes over all pairs are left to paths.
+const PASSES: usize = 60;
 
 impl<'a> Problem<'a> {
     // Whether there are as many objects as persons, or hardly more.
@@ -35,20 +39,18 @@ impl<'a> Problem<'a> {
         count > costs.len() / 8
     }
 
-    // Whether the search of dense problems is faster.
+    // Whether the search of dense problems is faster, whatever paths take.
     pub fn is_dense(self) -> bool {
         self.persons >= LEAST && self.is_square() && !self.has_many_equal()
     }
-}
 
-// What a search of dense problems leaves.
-#[derive(Clone, Copy)]
-pub enum Dense {
-    Nothing,
-    // A plan and duals that are nearly best.
-    Near,
-    // A plan and duals with a margin.
-    Apart,
+    // The most scans that paths may be expected to take.
+    pub fn most_scans(self) -> usize {
+        if self.persons < LEAST {
+            return usize::MAX;
+        }
+        self.persons.saturating_mul(PASSES)
+    }
 }
 
 // The duals at prices in units of so many bits.
@@ -96,34 +98,31 @@ impl<'a> Lists<'a> {
         negate(self.duals, shift);
         self.release_all();
         self.enter_places(places.as_slice(), problem.objects, costs, narrow);
-        Ok(self.has_all())
+        Ok(self.count_left() == 0)
     }
 
-    // A plan by the search of dense problems, and duals with a margin if there are any. The room for
-    // the costs is taken for the while.
+    // The search of dense problems, and then one from its plan and duals, unless these have a margin.
+    // The room for whole numbers of all pairs is taken for the while.
     pub fn search_dense(
         &mut self,
         alloc: Global,
         problem: Problem<'_>,
         room: &mut [i64],
+        row: &mut [i64],
         scale: Scale,
-    ) -> Result<Dense, AllocError> {
+    ) -> Result<Path, AllocError> {
         let narrow = Narrow::of(problem.costs.len());
         let shift = narrow.shift(scale);
         narrow.to_whole(problem.costs, room, scale);
         if !self.begin_narrow(alloc, problem, room, narrow, shift)? {
-            return Ok(Dense::Nothing);
+            let mut rows = problem.listed(room, scale);
+            let path = self.search_cold(&mut rows, usize::MAX);
+            return Ok(self.with_margin(&mut rows, scale, path));
         }
-        let (row, _) = room.split_at_mut(problem.objects.min(room.len()));
-        let mut rows = Rows::Made(Doubles {
-            costs: problem.costs,
-            row,
-            scale,
-        });
+        let mut rows = Rows::Made(problem.made(row, scale));
         if self.spread(&mut rows, scale, 1i64.wrapping_shl(shift)) {
-            Ok(Dense::Apart)
-        } else {
-            Ok(Dense::Near)
+            return Ok(Path::Found);
         }
+        Ok(self.search_near(&mut problem.listed(room, scale), scale))
     }
 }

@@ -1,5 +1,6 @@
 // Hall sets: persons who together list fewer objects than they are.
 use super::lists::{Lists, at, place_of};
+use super::solver::Problem;
 use std::alloc::{AllocError, Global};
 
 /// Persons, and the objects that they list; numbers from 1 that rise.
@@ -44,6 +45,7 @@ fn mark_all(costs: &[f64], marks: &mut [bool]) {
     }
 }
 
+// The numbers of the places that have a mark.
 fn marked(alloc: Global, marks: &[bool]) -> Result<Vec<u32>, AllocError> {
     let mut numbers = Vec::new(alloc);
     for (k, mark) in marks.iter().enumerate() {
@@ -54,25 +56,13 @@ fn marked(alloc: Global, marks: &[bool]) -> Result<Vec<u32>, AllocError> {
     Ok(numbers)
 }
 
-fn all_to(alloc: Global, count: usize) -> Result<Vec<u32>, AllocError> {
-    let mut numbers = Vec::new(alloc);
-    for k in 0..count {
-        numbers.push(as_number(k))?;
-    }
-    Ok(numbers)
-}
-
 // All persons, where there are more of them than objects, and the objects that anybody lists.
-pub fn all_persons(
-    alloc: Global,
-    n: usize,
-    m: usize,
-    costs: &[f64],
-) -> Result<HallSet, AllocError> {
-    let mut marks = vec![in alloc; false; m]?;
-    mark_all(costs, marks.as_mut_slice());
+pub fn all_persons(alloc: Global, problem: Problem<'_>) -> Result<HallSet, AllocError> {
+    let persons = vec![in alloc; true; problem.persons]?;
+    let mut objects = vec![in alloc; false; problem.objects]?;
+    mark_all(problem.costs, objects.as_mut_slice());
     Ok(HallSet {
-        persons: all_to(alloc, n)?,
-        objects: marked(alloc, marks.as_slice())?,
+        persons: marked(alloc, persons.as_slice())?,
+        objects: marked(alloc, objects.as_slice())?,
     })
 }

@@ -1,7 +1,5 @@
 // The lists of a search, and single places of them. A place that isn't there reads as nobody, and
 // takes no number.
-ghost use Rattle.std.specs.Prelude.{◌≡◌, length};
-
 pub const NOBODY: i64 = -1;
 
 // The cost of each pair of a person and one of m objects, row by row.
@@ -18,6 +16,8 @@ pub struct Lists<'a> {
     pub keys: &'a mut [i64],
     pub distances: &'a mut [i64],
     pub owners: &'a mut [i64],
+    // The turn in which its distance was found, in a search over cheap pairs.
+    pub turns: &'a mut [i64],
     // The least distance of each block of objects.
     pub blocks: &'a mut [i64],
     // Of each person: its object.
@@ -34,6 +34,8 @@ pub struct Lists<'a> {
     pub near: &'a mut [i64],
     pub spare: &'a mut [i64],
     pub caps: &'a mut [i64],
+    // The persons that were scanned in all searches for paths.
+    pub scans: usize,
 }
 
 pub fn at(list: &[i64], place: usize) -> i64 {
@@ -90,6 +92,17 @@ impl<'a> Lists<'a> {
     pub fn give(&mut self, person: usize, object: usize) {
         put(self.objects, person, number_of(object));
         put(self.owners, object, number_of(person));
+    }
+
+    // Takes its object from a person.
+    pub fn take(&mut self, person: usize) {
+        put(self.objects, person, NOBODY);
+    }
+
+    // How many persons have no object.
+    pub fn count_left(&self) -> usize {
+        let left = self.objects.iter().filter(|object| **object == NOBODY);
+        left.count()
     }
 
     pub fn has_unowned(&self) -> bool {

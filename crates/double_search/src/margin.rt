@@ -15,13 +15,6 @@ struct Bounds {
     most: i64,
 }
 
-// Persons whose near pairs are to be looked at again, in a ring.
-#[derive(Clone, Copy)]
-struct Ring {
-    begin: usize,
-    count: usize,
-}
-
 // The nearest number of the grid, whose unit is a power of 2.
 fn on_grid(number: i64, grid: i64) -> i64 {
     number.wrapping_add(grid >> 1) & grid.wrapping_neg()
@@ -40,16 +33,7 @@ fn up_to_grid(number: i64, grid: i64) -> i64 {
     number.wrapping_add(grid.wrapping_sub(1)) & grid.wrapping_neg()
 }
 
-fn place_after(begin: usize, count: usize, size: usize) -> usize {
-    let place = begin.wrapping_add(count);
-    if place >= size {
-        place.wrapping_sub(size)
-    } else {
-        place
-    }
-}
-
-// The steps are in the levels, the ring in the passed, and who waits in it in the scanned.
+// The steps are in the levels, and who waits for a further look in the scanned.
 impl<'a> Lists<'a> {
     fn begin_keys(&mut self, grid: i64) {
         let duals = &mut *self.duals;
@@ -62,20 +46,6 @@ impl<'a> Lists<'a> {
     // The greatest dual.
     fn top(&self) -> i64 {
         self.keys.iter().copied().max().unwrap_or(0)
-    }
-
-    // Lets a person wait, unless it does.
-    fn add(&mut self, ring: Ring, person: usize) -> Ring {
-        if at(self.scanned, person) != 0 {
-            return ring;
-        }
-        put(self.scanned, person, 1);
-        let place = place_after(ring.begin, ring.count, self.passed.len());
-        put(self.passed, place, number_of(person));
-        Ring {
-            count: ring.count.wrapping_add(1),
-            ..ring
-        }
     }
 
     // Duals of owned objects may rise as far as the greatest one.
@@ -107,20 +77,27 @@ impl<'a> Lists<'a> {
         copy(keys, duals);
     }
 
-    // The steps that a person's near pairs need; none if they can't be taken.
-    fn step(&mut self, ring: Ring, person: usize, bounds: Bounds) -> Option<Ring> {
-        let mut ring = ring;
+    // The steps that a person's near pairs need. Returns whether somebody waits for a further look by
+    // them; none if they can't be taken.
+    fn step(&mut self, person: usize, bounds: Bounds) -> Option<bool> {
+        let mut has_more = false;
         let own = at(self.levels, person);
-        let from = at(self.starts, person);
-        let to = at(self.starts, person.wrapping_add(1));
-        for k in place_of(from)..place_of(to) {
+        for k in self.near_of(person) {
             let owner = place_of(at(self.near, k));
             let need = own.wrapping_sub(at(self.spare, k));
             if self.raise(owner, need, bounds)? {
-                ring = self.add(ring, owner);
+                put(self.scanned, owner, 1);
+                has_more = true;
             }
         }
-        Some(ring)
+        Some(has_more)
+    }
+
+    // The places of a person's near pairs.
+    fn near_of(&self, person: usize) -> std::ops::Range<usize> {
+        let from = at(self.starts, person);
+        let to = at(self.starts, person.wrapping_add(1));
+        place_of(from)..place_of(to)
     }
 
     // Raises a person's step to what is needed. Returns whether it was less; none if it can't rise.
@@ -167,9 +144,7 @@ impl<'a> Lists<'a> {
     fn step_in_order(&mut self, person: usize, count: usize, bounds: Bounds) -> Option<usize> {
         let mut count = count;
         let own = at(self.levels, person);
-        let from = at(self.starts, person);
-        let to = at(self.starts, person.wrapping_add(1));
-        for k in place_of(from)..place_of(to) {
+        for k in self.near_of(person) {
             let owner = place_of(at(self.near, k));
             let spare = at(self.spare, k);
             let _ = self.raise(owner, own.wrapping_sub(spare), bounds)?;
@@ -211,33 +186,25 @@ impl<'a> Lists<'a> {
             .all(|(level, cap)| *level <= *cap)
     }
 
-    // Steps of each person once more, in turn; who needs more waits after them.
-    fn step_all(&mut self, bounds: Bounds) -> Option<Ring> {
-        let mut ring = Ring { begin: 0, count: 0 };
-        fill(self.scanned, 1);
+    // Steps of each person who waits for a look. Returns whether somebody still does.
+    fn step_all(&mut self, bounds: Bounds) -> Option<bool> {
+        let mut has_more = false;
         for person in 0..self.objects.len() {
-            put(self.scanned, person, 0);
-            ring = self.step(ring, person, bounds)?;
+            if at(self.scanned, person) != 0 {
+                put(self.scanned, person, 0);
+                has_more = self.step(person, bounds)? || has_more;
+            }
         }
-        Some(ring)
+        Some(has_more)
     }
 
-    // Steps of who waits, until nobody does.
-    fn step_on(&mut self, first: Ring, bounds: Bounds) -> bool {
-        let mut ring = first;
-        let persons = self.objects.len();
-        for _ in 0..persons.saturating_mul(20).saturating_add(100) {
-            if ring.count == 0 {
-                return true;
-            }
-            let person = place_of(at(self.passed, ring.begin));
-            put(self.scanned, person, 0);
-            let left = Ring {
-                begin: place_after(ring.begin, 1, persons),
-                count: ring.count.wrapping_sub(1),
-            };
-            match self.step(left, person, bounds) {
-                Some(next) => ring = next,
+    // Steps of all persons once more, and of who waits, until nobody does.
+    fn step_on(&mut self, bounds: Bounds) -> bool {
+        fill(self.scanned, 1);
+        for _ in 0..self.objects.len().saturating_add(16) {
+            match self.step_all(bounds) {
+                Some(true) => {}
+                Some(false) => return true,
                 None => return false,
             }
         }
@@ -245,13 +212,7 @@ impl<'a> Lists<'a> {
     }
 
     fn take_steps(&mut self, bounds: Bounds) -> bool {
-        if !self.begin_steps(bounds) || !self.step_by_order(bounds) {
-            return false;
-        }
-        match self.step_all(bounds) {
-            Some(ring) => self.step_on(ring, bounds),
-            None => false,
-        }
+        self.begin_steps(bounds) && self.step_by_order(bounds) && self.step_on(bounds)
     }
 
     fn enter_steps(&mut self) {

@@ -4,7 +4,7 @@ use super::best::{bits_below, block_of, lowest, others};
 use super::cheap::CheapPair;
 use super::lists::{Lists, NOBODY, at, number_of, place_of, put};
 use super::reach::BLOCK;
-use super::rows::{CheapRows, Rows};
+use super::rows::Rows;
 use super::whole::FAR;
 
 // Which pairs are near, and by how much they are to be worse.
@@ -46,9 +46,9 @@ impl Nearness {
 }
 
 impl<'a> Lists<'a> {
-    fn own_of(&self, costs: &[i64], person: usize) -> Own {
+    fn own_of(&self, rows: &Rows<'_>, person: usize) -> Own {
         let object = place_of(at(self.objects, person));
-        let cost = at(costs, object);
+        let cost = rows.cost(person, object);
         Own {
             object,
             cost,
@@ -56,12 +56,14 @@ impl<'a> Lists<'a> {
         }
     }
 
-    // Keeps a near pair as far as there is room: the owner of its object, and by how much more it
-    // is worse than it has to be.
+    // Keeps a pair, if it is near, as far as there is room: the owner of its object, and by how much
+    // more it is worse than it has to be.
     fn keep(&mut self, cost: i64, object: usize, own: Own, nearness: Nearness, kept: Kept) -> Kept {
-        let worse = cost
-            .wrapping_sub(at(self.keys, object))
-            .wrapping_sub(own.value);
+        let value = cost.wrapping_sub(at(self.keys, object));
+        let worse = value.wrapping_sub(own.value);
+        if worse >= nearness.most || object == own.object || cost >= nearness.far {
+            return kept;
+        }
         let left = worse.wrapping_sub(nearness.margin_of(cost, own.cost));
         let owner = at(self.owners, object);
         if owner == NOBODY {
@@ -98,85 +100,50 @@ impl<'a> Lists<'a> {
         let mut left = bits;
         for _ in 0..bits.count_ones() {
             let object = from.wrapping_add(lowest(left));
-            let cost = at(costs, object);
-            if object != own.object && cost < nearness.far {
-                kept = self.keep(cost, object, own, nearness, kept);
-            }
+            kept = self.keep(at(costs, object), object, own, nearness, kept);
             left = others(left);
         }
         kept
     }
 
-    fn gather_of(
-        &mut self,
-        costs: &[i64],
-        person: usize,
-        nearness: Nearness,
-        count: usize,
-    ) -> usize {
-        let own = self.own_of(costs, person);
+    fn keep_row(&mut self, costs: &[i64], own: Own, nearness: Nearness, count: usize) -> Kept {
         let mut kept = Kept { count, cap: FAR };
         for from in (0..costs.len()).step_by(BLOCK) {
             kept = self.keep_block(costs, from, own, nearness, kept);
         }
-        put(self.caps, person, kept.cap);
-        kept.count
+        kept
     }
 
-    // Keeps the near pairs among a person's cheap ones.
-    fn gather_cheap(
+    fn keep_cheap(
         &mut self,
         pairs: &[CheapPair],
-        person: usize,
         own: Own,
         nearness: Nearness,
         count: usize,
-    ) -> usize {
+    ) -> Kept {
         let mut kept = Kept { count, cap: FAR };
-        let limit = own.value.wrapping_add(nearness.most);
         for pair in pairs {
-            let value = pair.cost.wrapping_sub(at(self.keys, pair.object));
-            if value < limit && pair.object != own.object && pair.cost < nearness.far {
-                kept = self.keep(pair.cost, pair.object, own, nearness, kept);
-            }
+            kept = self.keep(pair.cost, pair.object, own, nearness, kept);
         }
-        put(self.caps, person, kept.cap);
-        kept.count
+        kept
     }
 
-    // The same, or among all pairs of the person where others may be near too. No key is above 0.
-    fn gather_by_rest(
-        &mut self,
-        rows: &mut CheapRows<'_>,
-        person: usize,
-        nearness: Nearness,
-        count: usize,
-    ) -> usize {
-        let object = place_of(at(self.objects, person));
-        let cost = rows.doubles.cost(person, object);
-        let value = cost.wrapping_sub(at(self.keys, object));
-        let own = Own {
-            object,
-            cost,
-            value,
-        };
-        let rest = rows.cheap.rest(person);
-        if rest < nearness.far && rest < value.wrapping_add(nearness.most) {
-            return self.gather_of(rows.doubles.row_of(person), person, nearness, count);
-        }
-        self.gather_cheap(rows.cheap.of(person), person, own, nearness, count)
-    }
-
-    fn gather_from(
+    // Keeps the near pairs of a person: among its cheap ones, where no others can be near. No key is
+    // above 0 then.
+    fn keep_near(
         &mut self,
         rows: &mut Rows<'_>,
         person: usize,
         nearness: Nearness,
         count: usize,
-    ) -> usize {
+    ) -> Kept {
+        let own = self.own_of(rows, person);
+        let limit = nearness.far.min(own.value.wrapping_add(nearness.most));
         match rows {
-            Rows::Cheap(rows) => self.gather_by_rest(rows, person, nearness, count),
-            _ => self.gather_of(rows.row(person), person, nearness, count),
+            Rows::Cheap(rows) if rows.cheap.rest(person) >= limit => {
+                self.keep_cheap(rows.cheap.of(person), own, nearness, count)
+            }
+            _ => self.keep_row(rows.row(person), own, nearness, count),
         }
     }
 
@@ -187,7 +154,9 @@ impl<'a> Lists<'a> {
         let mut count = 0usize;
         for person in 0..persons {
             put(self.starts, person, number_of(count));
-            count = self.gather_from(rows, person, nearness, count);
+            let kept = self.keep_near(rows, person, nearness, count);
+            put(self.caps, person, kept.cap);
+            count = kept.count;
             if count > room {
                 return false;
             }

@@ -1,12 +1,15 @@
 // The search for a shortest path from a person without an object to an unowned object (Dijkstra's;
 // Edmonds and Karp 1972, Tomizawa 1971).
-use super::lists::{Lists, NOBODY, at, copy, number_of, place_of, put};
-use super::reach::{nearest, reach_first, reach_next};
+use super::lists::{Lists, NOBODY, at, copy, fill, number_of, place_of, put};
+use super::reach::{nearest, reach};
 use super::rows::Rows;
 use super::whole::FAR;
 
 // The key that hides a passed object.
 const PASSED: i64 = -(1 << 61);
+
+// So many paths and more say something of the others.
+const FEWEST: usize = 32;
 
 // How a search for a path ended.
 #[derive(Clone, Copy, PartialEq, Eq)]
@@ -15,6 +18,8 @@ pub enum Path {
     Found,
     // So many persons were scanned, and no other object is reached from them than the passed ones.
     None(usize),
+    // The other paths can be expected to take too many scans.
+    Long,
     // A path doesn't lead back to the person.
     Lost,
 }
@@ -25,20 +30,20 @@ impl<'a> Lists<'a> {
         put(self.scanned, turn, number_of(person));
         put(self.bases, turn, base);
         let row = rows.row(person);
+        self.scans = self.scans.wrapping_add(1);
         let keys = &mut *self.keys;
         let distances = &mut *self.distances;
         let blocks = &mut *self.blocks;
-        if turn == 0 {
-            reach_first(row, keys, distances, blocks)
-        } else {
-            reach_next(row, keys, base, distances, blocks)
-        }
+        reach(row, keys, base, distances, blocks)
     }
 
-    pub fn begin_keys_exactly(&mut self) {
+    // No object is reached, and none is passed.
+    pub fn begin_path(&mut self) {
         let duals = &mut *self.duals;
         let keys = &mut *self.keys;
         copy(duals, keys);
+        fill(self.distances, FAR);
+        fill(self.blocks, FAR);
     }
 
     pub fn nearest_at(&self, level: i64) -> i64 {
@@ -92,7 +97,7 @@ impl<'a> Lists<'a> {
     }
 
     // Lowers the duals of the passed objects.
-    pub fn lower_passed(&mut self, count: usize, level: i64) {
+    fn lower_passed(&mut self, count: usize, level: i64) {
         for turn in 0..count {
             let object = place_of(at(self.passed, turn));
             let less = level.wrapping_sub(at(self.levels, turn));
@@ -101,9 +106,20 @@ impl<'a> Lists<'a> {
         }
     }
 
+    // Ends a path in this turn at this distance.
+    pub fn end_path(&mut self, turn: usize, level: i64, is_back: bool) -> Path {
+        self.lower_passed(turn, level);
+        if is_back { Path::Found } else { Path::Lost }
+    }
+
+    // What is taken from the costs of a person whose object is passed at this distance.
+    pub fn base_of(&self, own: i64, object: usize, level: i64) -> i64 {
+        own.wrapping_sub(at(self.duals, object)).wrapping_sub(level)
+    }
+
     // Gives a person an object, if a path leads to an unowned one.
-    pub fn augment(&mut self, rows: &mut Rows<'_>, first: usize) -> Path {
-        self.begin_keys_exactly();
+    fn augment(&mut self, rows: &mut Rows<'_>, first: usize) -> Path {
+        self.begin_path();
         let mut person = first;
         let mut base = 0i64;
         for turn in 0..self.objects.len() {
@@ -111,32 +127,41 @@ impl<'a> Lists<'a> {
             if level >= FAR {
                 return Path::None(turn.wrapping_add(1));
             }
-            let found = self.nearest_at(level);
-            let object = place_of(found);
+            let object = place_of(self.nearest_at(level));
             let owner = at(self.owners, object);
-            if found == NOBODY {
-                return Path::Lost;
-            }
             if owner == NOBODY {
                 let is_back = self.walk_back(rows, turn.wrapping_add(1), object, level);
-                self.lower_passed(turn, level);
-                return if is_back { Path::Found } else { Path::Lost };
+                return self.end_path(turn, level, is_back);
             }
             self.pass(turn, object, level);
             person = place_of(owner);
-            let own = rows.cost(person, object);
-            base = own.wrapping_sub(at(self.duals, object)).wrapping_sub(level);
+            base = self.base_of(rows.cost(person, object), object, level);
         }
         Path::Lost
     }
 
-    // Gives each person an object.
-    pub fn augment_all(&mut self, rows: &mut Rows<'_>) -> Path {
+    // Gives each person an object, unless more scans than so many are left, at the pace of the last
+    // paths.
+    pub fn augment_all(&mut self, rows: &mut Rows<'_>, most: usize) -> Path {
+        let mut left = self.count_left();
+        let part = (left / 16).max(FEWEST);
+        let mut before = self.scans;
         for person in 0..self.objects.len() {
             if at(self.objects, person) == NOBODY {
-                let path = self.augment(rows, person);
+                let path = match rows {
+                    Rows::Cheap(rows) => self.augment_cheaply(rows, person),
+                    _ => self.augment(rows, person),
+                };
+                left = left.wrapping_sub(1);
                 if path != Path::Found {
                     return path;
+                }
+                if left % part.max(1) == 0 {
+                    let scans = self.scans.wrapping_sub(before) / part.max(1);
+                    if scans.saturating_mul(left) > most {
+                        return Path::Long;
+                    }
+                    before = self.scans;
                 }
             }
         }

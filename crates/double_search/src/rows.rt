@@ -1,4 +1,5 @@
 // The costs of a person as whole numbers: those in a list, or new ones of its doubles.
+use super::best::{Two, two_best, two_best_of};
 use super::cheap::CheapPairs;
 use super::lists::Matrix;
 use super::scale::Scale;
@@ -47,6 +48,14 @@ impl<'a> Rows<'a> {
             Rows::Listed(matrix) => matrix.row(person),
             Rows::Made(doubles) => doubles.row_of(person),
             Rows::Cheap(rows) => rows.doubles.row_of(person),
+        }
+    }
+
+    // The best object of a person, and the second best value.
+    pub fn two_best(&mut self, person: usize, keys: &[i64]) -> Two {
+        match self {
+            Rows::Cheap(rows) => two_best_of(rows.cheap.of(person), rows.cheap.rest(person), keys),
+            _ => two_best(self.row(person), keys),
         }
     }
 

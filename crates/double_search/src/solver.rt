@@ -2,7 +2,6 @@
 ghost use Rattle.std.specs.Prelude.{◌≡◌, length};
 
 use super::block::{cut, lists_in, room_of};
-use super::dense::Dense;
 use super::hall::{HallSet, all_persons, as_number, hall_set_of};
 use super::limits::Limits;
 use super::lists::{Lists, Matrix, at, place_of};
@@ -39,14 +38,13 @@ pub enum Ended {
     Lost,
 }
 
-// How a search in one unit ends.
-#[derive(Drop)]
-enum Tried {
-    Plan,
-    Hall(HallSet),
-    Lost,
-    // The plan has a cost that was cut.
-    Cut,
+// Where a search begins.
+#[derive(Clone, Copy)]
+struct Begin<'a> {
+    // With the plan and the prices, or with nothing.
+    has_plan: bool,
+    objects: &'a [u32],
+    prices: &'a [f64],
 }
 
 impl<'a> Problem<'a> {
@@ -74,12 +72,6 @@ impl<'a> Problem<'a> {
         }
     }
 
-    // A size above 0 of the costs that a plan will need.
-    pub fn near_size(self) -> f64 {
-        let size = self.size_in(Range::of(self.costs, self.objects, self.sign()));
-        if size > 0.0 { size } else { 1.0 }
-    }
-
     fn scale(self, range: Range) -> Scale {
         let size = self.size_in(range);
         Scale::of(
@@ -90,20 +82,41 @@ impl<'a> Problem<'a> {
             size < range.size(),
         )
     }
-}
+    // All pairs in whole numbers, in this room.
+    pub fn listed<'b>(self, room: &'b mut [i64], scale: Scale) -> Rows<'b> {
+        to_whole(self.costs, room, scale);
+        Rows::Listed(Matrix {
+            m: self.objects,
+            costs: room,
+        })
+    }
 
-// Whether a person has an object whose cost was cut.
-fn has_cut(problem: Problem<'_>, lists: &Lists<'_>, scale: Scale) -> bool {
-    let limit = scale.limit();
-    for person in 0..lists.persons() {
-        let object = place_of(at(lists.objects, person));
-        let pair = person.wrapping_mul(problem.objects).wrapping_add(object);
-        let cost = problem.costs.get(pair).copied().unwrap_or(0.0);
-        if whole_of(cost, scale) >= limit {
-            return true;
+    // All pairs in doubles, and room for a row.
+    pub fn made<'b>(self, row: &'b mut [i64], scale: Scale) -> Doubles<'b>
+    where
+        'a: 'b,
+    {
+        Doubles {
+            costs: self.costs,
+            row,
+            scale,
         }
     }
-    false
+
+    // Whether a person has an object whose cost was cut.
+    fn has_cut(self, lists: &Lists<'_>, scale: Scale) -> bool {
+        let limit = scale.limit();
+        for (person, place) in lists.objects.iter().enumerate() {
+            let pair = person
+                .wrapping_mul(self.objects)
+                .wrapping_add(place_of(*place));
+            let cost = self.costs.get(pair).copied().unwrap_or(0.0);
+            if whole_of(cost, scale) >= limit {
+                return true;
+            }
+        }
+        false
+    }
 }
 
 fn write_objects(lists: &Lists<'_>, objects: &mut [u32]) {
@@ -122,275 +135,160 @@ fn write(lists: &Lists<'_>, scale: Scale, objects: &mut [u32], prices: &mut [f64
     }
 }
 
-// Where a search begins.
-#[derive(Clone, Copy)]
-enum Begin {
-    Nothing,
-    // With a plan and prices.
-    Plan,
-    // With a plan and duals that are nearly best.
-    Near,
-}
-
-// Other duals with a margin, where a plan was found.
-fn with_margin(matrix: Matrix<'_>, lists: &mut Lists<'_>, scale: Scale, path: Path) -> Path {
-    if path == Path::Found {
-        let _ = lists.spread(&mut Rows::Listed(matrix), scale, 0);
-    }
-    path
-}
-
-fn search_from_nothing(matrix: Matrix<'_>, lists: &mut Lists<'_>, scale: Scale) -> Path {
-    let path = lists.search_cold(matrix);
-    with_margin(matrix, lists, scale, path)
-}
-
-fn search_from_plan(matrix: Matrix<'_>, lists: &mut Lists<'_>, scale: Scale) -> Path {
-    let path = lists.search_warm(matrix);
-    with_margin(matrix, lists, scale, path)
-}
-
-// The duals that there are if they are exact, or those of a search from there.
-fn search_from_near(matrix: Matrix<'_>, lists: &mut Lists<'_>, scale: Scale) -> Path {
-    if lists.settle(matrix) == 0 && lists.are_unowned_on_top() {
-        return Path::Found;
-    }
-    search_from_plan(matrix, lists, scale)
-}
-
-// The plan and the duals of an earlier search.
-fn enter(lists: &mut Lists<'_>, scale: Scale, objects: &[u32], prices: &[f64]) {
-    lists.release_all();
-    lists.enter(objects);
-    if prices.len() == lists.duals.len() {
-        to_duals(prices, lists.duals, scale);
-    }
-}
-
-// A search over whole numbers of this unit, for which there is room.
-fn search_whole(
-    problem: Problem<'_>,
-    lists: &mut Lists<'_>,
-    room: &mut [i64],
-    scale: Scale,
-    begin: Begin,
-    objects: &[u32],
-    prices: &[f64],
-) -> Path {
-    to_whole(problem.costs, room, scale);
-    let matrix = Matrix {
-        m: problem.objects,
-        costs: room,
-    };
-    match begin {
-        Begin::Nothing => search_from_nothing(matrix, lists, scale),
-        Begin::Plan => {
-            enter(lists, scale, objects, prices);
-            search_from_plan(matrix, lists, scale)
+impl<'a> Lists<'a> {
+    // The plan and the duals of an earlier search.
+    fn enter_plan(&mut self, scale: Scale, begin: Begin<'_>) {
+        self.enter(begin.objects);
+        if begin.prices.len() == self.duals.len() {
+            to_duals(begin.prices, self.duals, scale);
         }
-        Begin::Near => search_from_near(matrix, lists, scale),
     }
-}
 
-// What a search ended with.
-fn ended_by(
-    alloc: Global,
-    problem: Problem<'_>,
-    scale: Scale,
-    lists: &Lists<'_>,
-    path: Path,
-    objects: &mut [u32],
-    prices: &mut [f64],
-) -> Result<Tried, AllocError>
-    ensures objects { length objects.new ≡ length objects.old }
-    ensures prices { length prices.new ≡ length prices.old }
-{
-    match path {
-        Path::Lost => Ok(Tried::Lost),
-        Path::None(turns) => Ok(Tried::Hall(hall_set_of(alloc, lists, turns)?)),
-        Path::Found => {
-            if scale.is_cut && has_cut(problem, lists, scale) {
-                return Ok(Tried::Cut);
+    // A search from a plan: over the doubles where few persons have no object, else over whole
+    // numbers of all pairs.
+    fn search_from_plan(
+        &mut self,
+        alloc: Global,
+        problem: Problem<'_>,
+        row: &mut [i64],
+        scale: Scale,
+        begin: Begin<'_>,
+    ) -> Result<Path, AllocError> {
+        self.enter_plan(scale, begin);
+        if let Some(path) = self.search_few(&mut Rows::Made(problem.made(row, scale)), scale) {
+            return Ok(path);
+        }
+        self.enter_plan(scale, begin);
+        let mut room = vec![in alloc; 0i64; problem.costs.len()]?;
+        let mut rows = problem.listed(room.as_mut_slice(), scale);
+        let path = self.search_warm(&mut rows);
+        Ok(self.with_margin(&mut rows, scale, path))
+    }
+
+    // A search over cheap pairs, where few pairs are cheap. Returns whether it found a plan.
+    fn search_cheap(
+        &mut self,
+        alloc: Global,
+        problem: Problem<'_>,
+        limits: &Limits,
+        row: &mut [i64],
+        scale: Scale,
+    ) -> Result<bool, AllocError> {
+        let Some(cheap) = limits.cheap_pairs(alloc, problem, scale)? else {
+            return Ok(false);
+        };
+        let costs = problem.costs;
+        let doubles = Doubles { costs, row, scale };
+        let cheap = &cheap;
+        let mut rows = Rows::Cheap(CheapRows { cheap, doubles });
+        let path = self.search_cold(&mut rows, usize::MAX);
+        Ok(self.with_margin(&mut rows, scale, path) == Path::Found)
+    }
+
+    // A search from nothing over all pairs, with room for them, in fewer bits first where that is
+    // faster.
+    fn search_all(
+        &mut self,
+        alloc: Global,
+        problem: Problem<'_>,
+        room: &mut [i64],
+        row: &mut [i64],
+        scale: Scale,
+    ) -> Result<Path, AllocError> {
+        if !problem.is_dense() {
+            let mut rows = problem.listed(room, scale);
+            let path = self.search_cold(&mut rows, problem.most_scans());
+            if path != Path::Long {
+                return Ok(self.with_margin(&mut rows, scale, path));
             }
-            write(lists, scale, objects, prices);
-            Ok(Tried::Plan)
         }
+        self.search_dense(alloc, problem, room, row, scale)
     }
-}
 
-// A search in this unit from a plan in which few persons have no object, over the doubles. None
-// where there is more to do.
-fn search_few_in(
-    alloc: Global,
-    problem: Problem<'_>,
-    scale: Scale,
-    objects: &mut [u32],
-    prices: &mut [f64],
-) -> Result<Option<Tried>, AllocError>
-    ensures objects { length objects.new ≡ length objects.old }
-    ensures prices { length prices.new ≡ length prices.old }
-{
-    let (n, m) = (problem.persons, problem.objects);
-    let mut memory = vec![in alloc; 0i64; m.saturating_add(room_of(n, m))]?;
-    let (row, block) = cut(memory.as_mut_slice(), m);
-    let mut lists = lists_in(n, m, block);
-    let costs = problem.costs;
-    let mut rows = Rows::Made(Doubles { costs, row, scale });
-    enter(&mut lists, scale, objects, prices);
-    match lists.search_few(&mut rows, scale) {
-        Some(path) => Ok(Some(ended_by(alloc, problem, scale, &lists, path, objects, prices)?)),
-        None => Ok(None),
-    }
-}
-
-// A search from nothing in this unit over cheap pairs, where few pairs are cheap. None where there
-// is more to do.
-fn search_cheap_in(
-    alloc: Global,
-    problem: Problem<'_>,
-    limits: &Limits,
-    scale: Scale,
-    objects: &mut [u32],
-    prices: &mut [f64],
-) -> Result<Option<Tried>, AllocError>
-    ensures objects { length objects.new ≡ length objects.old }
-    ensures prices { length prices.new ≡ length prices.old }
-{
-    let Some(cheap) = limits.cheap_pairs(alloc, problem, scale)? else {
-        return Ok(None);
-    };
-    let (n, m) = (problem.persons, problem.objects);
-    let room = m.saturating_mul(2).saturating_add(room_of(n, m));
-    let mut memory = vec![in alloc; 0i64; room]?;
-    let (row, block) = cut(memory.as_mut_slice(), m);
-    let (turns, block) = cut(block, m);
-    let mut lists = lists_in(n, m, block);
-    let costs = problem.costs;
-    let doubles = Doubles { costs, row, scale };
-    if !lists.search_cheaply(&cheap, &doubles, turns) {
-        return Ok(None);
-    }
-    let mut rows = Rows::Cheap(CheapRows {
-        cheap: &cheap,
-        doubles,
-    });
-    let _ = lists.spread(&mut rows, scale, 0);
-    Ok(Some(ended_by(alloc, problem, scale, &lists, Path::Found, objects, prices)?))
-}
-
-// A search in this unit over all pairs.
-fn search_in(
-    alloc: Global,
-    problem: Problem<'_>,
-    scale: Scale,
-    begin: Begin,
-    objects: &mut [u32],
-    prices: &mut [f64],
-) -> Result<Tried, AllocError>
-    ensures objects { length objects.new ≡ length objects.old }
-    ensures prices { length prices.new ≡ length prices.old }
-{
-    let (n, m) = (problem.persons, problem.objects);
-    let pairs = problem.costs.len();
-    let mut memory = vec![in alloc; 0i64; pairs.saturating_add(room_of(n, m))]?;
-    let (room, block) = cut(memory.as_mut_slice(), pairs);
-    let mut lists = lists_in(n, m, block);
-    let is_dense = matches!(begin, Begin::Nothing) && problem.is_dense();
-    let dense = if is_dense {
-        lists.search_dense(alloc, problem, room, scale)?
-    } else {
-        Dense::Nothing
-    };
-    let path = match dense {
-        Dense::Apart => Path::Found,
-        Dense::Near => {
-            search_whole(
-                problem,
-                &mut lists,
-                room,
-                scale,
-                Begin::Near,
-                objects,
-                prices,
-            )
+    // A search from nothing: over few pairs where that is enough.
+    fn search_from_nothing(
+        &mut self,
+        alloc: Global,
+        problem: Problem<'_>,
+        limits: &Limits,
+        room: &mut [i64],
+        row: &mut [i64],
+        scale: Scale,
+    ) -> Result<Path, AllocError> {
+        if self.search_cheap(alloc, problem, limits, row, scale)? {
+            return Ok(Path::Found);
         }
-        Dense::Nothing => search_whole(problem, &mut lists, room, scale, begin, objects, prices),
-    };
-    ended_by(alloc, problem, scale, &lists, path, objects, prices)
-}
+        let pairs = problem.costs.len();
+        if room.len() == pairs {
+            return self.search_all(alloc, problem, room, row, scale);
+        }
+        let mut memory = vec![in alloc; 0i64; pairs]?;
+        self.search_all(alloc, problem, memory.as_mut_slice(), row, scale)
+    }
 
-// A search in this unit: over few pairs where that is enough.
-fn search_first_in(
-    alloc: Global,
-    problem: Problem<'_>,
-    limits: &Limits,
-    scale: Scale,
-    begin: Begin,
-    objects: &mut [u32],
-    prices: &mut [f64],
-) -> Result<Tried, AllocError>
-    ensures objects { length objects.new ≡ length objects.old }
-    ensures prices { length prices.new ≡ length prices.old }
-{
-    let tried = match begin {
-        Begin::Plan => search_few_in(alloc, problem, scale, objects, prices)?,
-        Begin::Nothing => search_cheap_in(alloc, problem, limits, scale, objects, prices)?,
-        Begin::Near => None,
-    };
-    match tried {
-        Some(tried) => Ok(tried),
-        None => search_in(alloc, problem, scale, begin, objects, prices),
+    // A search in this unit. Returns nothing if its plan has a cost that was cut.
+    fn search_in(
+        &mut self,
+        alloc: Global,
+        problem: Problem<'_>,
+        limits: &Limits,
+        room: &mut [i64],
+        row: &mut [i64],
+        scale: Scale,
+        begin: Begin<'_>,
+    ) -> Result<Option<Path>, AllocError> {
+        let path = if begin.has_plan {
+            self.search_from_plan(alloc, problem, row, scale, begin)?
+        } else {
+            self.search_from_nothing(alloc, problem, limits, room, row, scale)?
+        };
+        let is_cut = path == Path::Found && scale.is_cut && problem.has_cut(self, scale);
+        Ok(if is_cut { None } else { Some(path) })
     }
 }
 
-// The margin of a plan of a small problem, where a search begins with nothing.
-fn solve_small(
-    problem: Problem<'_>,
-    begin: Begin,
-    objects: &mut [u32],
-    prices: &mut [f64],
-) -> Option<f64>
-    ensures objects { length objects.new ≡ length objects.old }
-    ensures prices { length prices.new ≡ length prices.old }
-{
-    match begin {
-        Begin::Nothing => problem.solve_small(objects, prices),
-        _ => None,
-    }
-}
-
-fn search_all(
+// A search for persons, no more than there are objects.
+fn search_by(
     alloc: Global,
     problem: Problem<'_>,
-    begin: Begin,
+    has_plan: bool,
     objects: &mut [u32],
     prices: &mut [f64],
 ) -> Result<Ended, AllocError>
     ensures objects { length objects.new ≡ length objects.old }
     ensures prices { length prices.new ≡ length prices.old }
 {
-    let (n, m) = (problem.persons, problem.objects);
-    if n > m {
-        return Ok(Ended::Hall(all_persons(alloc, n, m, problem.costs)?));
-    }
-    if let Some(margin) = solve_small(problem, begin, objects, prices) {
-        return Ok(Ended::Plan(margin));
-    }
     let limits = Limits::of(alloc, problem)?;
     let range = limits.range;
-    let scale = problem.scale(range);
-    match search_first_in(alloc, problem, &limits, scale, begin, objects, prices)? {
-        Tried::Plan => Ok(Ended::Plan(range.margin())),
-        Tried::Hall(set) => Ok(Ended::Hall(set)),
-        Tried::Lost => Ok(Ended::Lost),
-        Tried::Cut => {
-            let scale = problem.full_scale(range);
-            match search_first_in(alloc, problem, &limits, scale, begin, objects, prices)? {
-                Tried::Plan => Ok(Ended::Plan(range.margin())),
-                Tried::Hall(set) => Ok(Ended::Hall(set)),
-                Tried::Lost | Tried::Cut => Ok(Ended::Lost),
-            }
+    let mut scale = problem.scale(range);
+    let (n, m) = (problem.persons, problem.objects);
+    let pairs = if has_plan || limits.may_be_few(problem) {
+        0
+    } else {
+        problem.costs.len()
+    };
+    let size = pairs.saturating_add(m).saturating_add(room_of(n, m));
+    let mut memory = vec![in alloc; 0i64; size]?;
+    let (room, block) = cut(memory.as_mut_slice(), pairs);
+    let (row, block) = cut(block, m);
+    let mut lists = lists_in(n, m, block);
+    let begin = Begin {
+        has_plan,
+        objects,
+        prices,
+    };
+    let mut found = lists.search_in(alloc, problem, &limits, room, row, scale, begin)?;
+    if found.is_none() {
+        scale = problem.full_scale(range);
+        found = lists.search_in(alloc, problem, &limits, room, row, scale, begin)?;
+    }
+    match found {
+        Some(Path::Found) => {
+            write(&lists, scale, objects, prices);
+            Ok(Ended::Plan(range.margin()))
         }
+        Some(Path::None(turns)) => Ok(Ended::Hall(hall_set_of(alloc, &lists, turns)?)),
+        _ => Ok(Ended::Lost),
     }
 }
 
@@ -409,7 +307,13 @@ pub fn search(
     ensures objects { length objects.new ≡ length objects.old }
     ensures prices { length prices.new ≡ length prices.old }
 {
-    search_all(alloc, problem, Begin::Nothing, objects, prices)
+    if problem.persons > problem.objects {
+        return Ok(Ended::Hall(all_persons(alloc, problem)?));
+    }
+    match problem.solve_small(objects, prices) {
+        Some(margin) => Ok(Ended::Plan(margin)),
+        None => search_by(alloc, problem, false, objects, prices),
+    }
 }
 
 /// The same from an earlier plan and its prices. Persons with object 0, and those who have a better
@@ -426,5 +330,8 @@ pub fn search_from(
     ensures objects { length objects.new ≡ length objects.old }
     ensures prices { length prices.new ≡ length prices.old }
 {
-    search_all(alloc, problem, Begin::Plan, objects, prices)
+    if problem.persons > problem.objects {
+        return Ok(Ended::Hall(all_persons(alloc, problem)?));
+    }
+    search_by(alloc, problem, true, objects, prices)
 }

@@ -1,11 +1,11 @@
 // Whether numbers fall in rows of costs.
-ghost use Rattle.std.specs.Prelude.{◌≡◌, ◌<◌, ◌≤◌, ◌≤ℤ◌, ◌+ℤ◌, ℕ, IsTrue, length, slice_index_or, All};
+ghost use Rattle.std.specs.Prelude.{◌≡◌, ◌<◌, ◌≤◌, ◌≤ℤ◌, ◌<ℤ◌, ◌+◌, ◌+ℤ◌, ℕ, IsTrue, length, slice_index_or, All};
 ghost use Rattle.assign_core.specs.Numbered.{IsNumber};
 ghost use Rattle.assign_core.specs.Rows.{IsCost};
 ghost use Rattle.cost_lists.specs.Exact.{IsPriceInLimits};
 ghost use Rattle.cost_lists.specs.Own.{minimised};
 ghost use Rattle.cost_lists.specs.Source.{AreCosts};
-ghost use Rattle.group_checker.specs.inside.Reading.{IsPlan, RowFalls, RowsFall};
+ghost use Rattle.group_checker.specs.inside.Reading.{AllExceed, IsPlan, PartFalls, RowFalls, RowsFall};
 
 use super::plan::{Group, Plan, group_of, own_sum};
 use assign_core::{Cost, Sense};
@@ -40,18 +40,44 @@ fn highest_of(groups: &[Group]) -> Group
     highest
 }
 
-// Whether the numbers of a person's row fall. It reads on after one that doesn't, so that several are
-// looked at in one step.
-fn row_falls(plan: Plan<'_>, person: Person, row: &[Cost]) -> bool
-    requires plan { (n : ℕ) × IsPlan n (length row.now) plan × IsNumber n person }
+// How many costs of a row are looked at together.
+const BLOCK: usize = 32;
+
+// Whether an object costs more than a sum.
+fn exceeds(sense: Sense, cost: Cost, price: Price, sum: Cost) -> bool
+    requires cost { IsCost cost }
+    requires price { IsPriceInLimits price }
+    ensures { IsTrue result → sum <ℤ (minimised sense cost +ℤ price) }
+{
+    sum_of(sense, cost, price) > sum
+}
+
+// Whether all objects of a block cost more than a sum. It reads on after one that doesn't, so that
+// several are looked at in one step.
+fn all_exceed(plan: Plan<'_>, row: &[Cost], from: usize, sum: Cost) -> bool
+    requires plan { (n : ℕ) × IsPlan n (length row.now) plan }
     requires few { length row.now ≤ GREATEST_NUMBER }
     requires costs { All IsCost row.now }
-    ensures { IsTrue result → RowFalls plan.entry person row.now }
+    requires room { from + BLOCK ≤ length row.now }
+    ensures { IsTrue result → AllExceed plan.entry row.now sum from (from + BLOCK) }
 {
-    let sum = own_sum(plan, person);
-    let group = group_of(plan, plan.objects[person as usize - 1]);
     let mut all = true;
-    for j in 0..row.len() {
+    for j in from..from + BLOCK {
+        all = exceeds(plan.sense, row[j], plan.prices[j], sum) & all;
+    }
+    all
+}
+
+// Whether the numbers fall from one place of a row up to another. It reads on after one that doesn't.
+fn part_falls(plan: Plan<'_>, row: &[Cost], from: usize, to: usize, sum: Cost, group: Group) -> bool
+    requires plan { (n : ℕ) × IsPlan n (length row.now) plan }
+    requires few { length row.now ≤ GREATEST_NUMBER }
+    requires costs { All IsCost row.now }
+    requires to { to ≤ length row.now }
+    ensures { IsTrue result → PartFalls plan.entry row.now sum group from to }
+{
+    let mut all = true;
+    for j in from..to {
         all = is_behind(
             plan.sense,
             row[j],
@@ -62,6 +88,36 @@ fn row_falls(plan: Plan<'_>, person: Person, row: &[Cost]) -> bool
         ) & all;
     }
     all
+}
+
+// The same of a block. Mostly there is no more to read of it than the costs.
+fn block_falls(plan: Plan<'_>, row: &[Cost], from: usize, sum: Cost, group: Group) -> bool
+    requires plan { (n : ℕ) × IsPlan n (length row.now) plan }
+    requires few { length row.now ≤ GREATEST_NUMBER }
+    requires costs { All IsCost row.now }
+    requires room { from + BLOCK ≤ length row.now }
+    ensures { IsTrue result → PartFalls plan.entry row.now sum group from (from + BLOCK) }
+{
+    all_exceed(plan, row, from, sum) || part_falls(plan, row, from, from + BLOCK, sum, group)
+}
+
+// Whether the numbers of a person's row fall.
+fn row_falls(plan: Plan<'_>, person: Person, row: &[Cost]) -> bool
+    requires plan { (n : ℕ) × IsPlan n (length row.now) plan × IsNumber n person }
+    requires few { length row.now ≤ GREATEST_NUMBER }
+    requires costs { All IsCost row.now }
+    ensures { IsTrue result → RowFalls plan.entry person row.now }
+{
+    let sum = own_sum(plan, person);
+    let group = group_of(plan, plan.objects[person as usize - 1]);
+    let mut at = 0;
+    while row.len() - at >= BLOCK {
+        if !block_falls(plan, row, at, sum, group) {
+            return false;
+        }
+        at += BLOCK;
+    }
+    part_falls(plan, row, at, row.len(), sum, group)
 }
 
 // The same, if no number is higher than this one: there is nothing to read where a person's own object

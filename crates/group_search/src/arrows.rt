@@ -5,6 +5,7 @@ use super::values::{place_of, set_value, value_at};
 use assign_core::{Cost, Sense};
 use cost_lists::{Object, Pairs, Price, Source};
 use std::alloc::{AllocError, Global};
+use std::simd::prelude::*;
 
 /// An optimal assignment: its persons' objects with their sums of cost and price, and the prices.
 #[derive(Clone, Copy)]
@@ -25,7 +26,7 @@ struct Part<'a> {
 }
 
 // How many costs of a row are looked at together.
-const BLOCK: Object = 16;
+const BLOCK: usize = 32;
 
 // The sum of a cost and a price; under Max, of the cost with the other sign.
 fn sum_of(sense: Sense, cost: Cost, price: Price) -> Cost {
@@ -35,19 +36,57 @@ fn sum_of(sense: Sense, cost: Cost, price: Price) -> Cost {
     }
 }
 
-// The least sum of a part.
-fn least_sum(part: Part<'_>) -> Cost {
-    let mut least = Cost::MAX;
-    for (cost, price) in part.costs.iter().zip(part.prices.iter()) {
-        least = least.min(sum_of(part.sense, *cost, *price));
+// The sums of eight costs and prices, less a bound.
+fn differences(sense: Sense, costs: &[Cost; 8], prices: &[Price; 8], bound: i64x8) -> i64x8 {
+    let (costs, prices) = (i64x8::from_array(*costs), i64x8::from_array(*prices));
+    match sense {
+        Sense::Min => prices + costs - bound,
+        Sense::Max => prices - costs - bound,
     }
-    least
 }
 
-// Writes the objects whose sums are at most this one, after so many that are written and after the
-// object `first`. Returns how many are written then. No branch depends on a cost, as many may be
-// equal.
-fn write_block(found: &mut [Object], written: usize, part: Part<'_>, first: Object) -> usize {
+// Whether a sum of a block is below a bound: the signs of differences show it, so that nothing branches on a cost.
+fn has_below(sense: Sense, costs: &[Cost; BLOCK], prices: &[Price; BLOCK], bound: Cost) -> bool {
+    let (costs, _) = costs.as_slice().as_chunks::<8>();
+    let (prices, _) = prices.as_slice().as_chunks::<8>();
+    let mut signs = i64x8::splat(0);
+    for (costs, prices) in costs.iter().zip(prices.iter()) {
+        signs |= differences(sense, costs, prices, i64x8::splat(bound));
+    }
+    signs.simd_lt(i64x8::splat(0)).to_bitmask() != 0
+}
+
+// Which sums of a block are below a bound, as bits.
+fn bits_below(sense: Sense, costs: &[Cost; BLOCK], prices: &[Price; BLOCK], bound: Cost) -> u64 {
+    let (costs, _) = costs.as_slice().as_chunks::<8>();
+    let (prices, _) = prices.as_slice().as_chunks::<8>();
+    let mut bits = 0u64;
+    for (costs, prices) in costs.iter().zip(prices.iter()) {
+        let signs = differences(sense, costs, prices, i64x8::splat(bound));
+        let byte = signs.simd_lt(i64x8::splat(0)).to_bitmask();
+        bits = (bits >> 8) | (byte << 24);
+    }
+    bits
+}
+
+// Writes the objects of set bits, after so many that are written and after the object `first`. Returns how many are
+// written then.
+fn write_bits(found: &mut [Object], written: usize, bits: u64, first: Object) -> usize {
+    let (mut count, mut left) = (written, bits);
+    for _ in 0..BLOCK {
+        if left == 0 {
+            break;
+        }
+        let object = first.wrapping_add(left.trailing_zeros()).wrapping_add(1);
+        set_value(found, count, object);
+        count = count.wrapping_add(1);
+        left &= left.wrapping_sub(1);
+    }
+    count
+}
+
+// The same of the last costs of a row, fewer than a block.
+fn write_last(found: &mut [Object], written: usize, part: Part<'_>, first: Object) -> usize {
     let mut count = written;
     let mut to = first;
     for (cost, price) in part.costs.iter().zip(part.prices.iter()) {
@@ -58,7 +97,7 @@ fn write_block(found: &mut [Object], written: usize, part: Part<'_>, first: Obje
     count
 }
 
-// The same of a part of a row, block by block, until enough are written.
+// Writes the objects of a part of a row whose sums are at most the own one, block by block, until enough are written.
 fn write_part(
     found: &mut [Object],
     written: usize,
@@ -66,27 +105,26 @@ fn write_part(
     start: Object,
     enough: usize,
 ) -> usize {
-    let mut count = written;
-    let mut first = start;
-    for (costs, prices) in part
-        .costs
-        .chunks(BLOCK as usize)
-        .zip(part.prices.chunks(BLOCK as usize))
-    {
+    let (blocks, last_costs) = part.costs.as_chunks::<BLOCK>();
+    let (block_prices, last_prices) = part.prices.as_chunks::<BLOCK>();
+    let bound = part.sum.wrapping_add(1);
+    let (mut count, mut first) = (written, start);
+    for (costs, prices) in blocks.iter().zip(block_prices.iter()) {
         if count >= enough {
-            break;
+            return count;
         }
-        let block = Part {
-            costs,
-            prices,
-            ..part
-        };
-        if least_sum(block) <= part.sum {
-            count = write_block(found, count, block, first);
+        if has_below(part.sense, costs, prices, bound) {
+            let bits = bits_below(part.sense, costs, prices, bound);
+            count = write_bits(found, count, bits, first);
         }
-        first = first.wrapping_add(BLOCK);
+        first = first.wrapping_add(BLOCK as Object);
     }
-    count
+    let last = Part {
+        costs: last_costs,
+        prices: last_prices,
+        ..part
+    };
+    write_last(found, count, last, first)
 }
 
 // Writes objects of a row that are as good for its person as the own one, and counts them: from one on,
@@ -100,8 +138,8 @@ fn write_row(
 ) -> usize {
     let (n, m) = (best.objects.len(), best.prices.len());
     let at = place.wrapping_mul(m).checked_div(n).unwrap_or(0);
-    let start = (u32::try_from(at).unwrap_or(0) / BLOCK).wrapping_mul(BLOCK);
-    let end = (start as usize).min(row.len()).min(m);
+    let end = (at / BLOCK).wrapping_mul(BLOCK).min(row.len()).min(m);
+    let start = u32::try_from(end).unwrap_or(0);
     let (costs_before, costs) = row.split_at(end);
     let (prices_before, prices) = best.prices.split_at(end);
     let first_part = Part {

@@ -9,10 +9,6 @@ use dual_checker::confirms;
 use std::alloc::{AllocError, Global};
 use std::thread::Threads;
 
-/// The least number of listed pairs for which threads are worth their start: for fewer pairs the
-/// calling thread takes a few milliseconds.
-pub const LEAST_PAIRS: usize = 1 << 21;
-
 // Whether an assignment and prices are a certificate. By their types no object is given twice, and
 // the prices are in range.
 fn is_certificate(

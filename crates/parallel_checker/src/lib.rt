@@ -4,4 +4,4 @@
 mod confirm;
 mod slack;
 
-pub use confirm::{LEAST_PAIRS, confirms_in_parts};
+pub use confirm::confirms_in_parts;

@@ -27,6 +27,7 @@ pub struct Plan<'a> {
 }
 
 // Whether a sum of cost and price is below another one and the bound.
+#[inline(always)]
 fn is_below(sum: Cost, own_sum: Cost, bound: Cost) -> bool
     requires sum { IsSum sum }
     requires own_sum { IsSum own_sum }
@@ -45,6 +46,7 @@ fn is_above(own: Rank, other: Rank, is_strict: bool) -> bool
 
 // Whether a pair of the core is dearer than the own one by each further list that the lists before
 // leave it to, and if it stays open by all the object's rank rises.
+#[inline(always)]
 fn rises_later(plan: Plan<'_>, person: Person, object: Object, cost: Cost) -> bool
     requires plan { (n m : ℕ) × IsPlan n m plan × IsNumber n person × IsNumber m object }
     requires cost { IsCost cost }
@@ -71,6 +73,7 @@ fn rises_later(plan: Plan<'_>, person: Person, object: Object, cost: Cost) -> bo
 
 // Whether the reduced cost of a pair reaches the bound, or the object is the person's own, or the
 // further lists and the ranks show that it rises.
+#[inline(always)]
 pub fn pair_rises(plan: Plan<'_>, person: Person, object: Object, cost: Cost) -> bool
     requires plan { (n m : ℕ) × IsPlan n m plan × IsNumber n person × IsNumber m object }
     requires cost { IsCost cost }

@@ -62,6 +62,11 @@ impl Arcs {
         value_at(self.owners.as_slice(), place_of(object), 0)
     }
 
+    /// The node of each object by its place.
+    pub fn owners(&self) -> &[usize] {
+        self.owners.as_slice()
+    }
+
     /// Whether all arcs below the bound are there.
     pub fn is_whole(&self) -> bool {
         self.is_whole
@@ -76,6 +81,14 @@ impl Arcs {
         let cost = value_at(above.as_slice(), place, Cost::MAX);
         let least = value_at(above.as_slice(), 0, Cost::MAX);
         Ok(if cost == Cost::MAX { least } else { cost })
+    }
+
+    /// No arcs of another plan yet.
+    pub fn clear(&mut self, objects: &[Object]) {
+        self.starts.clear();
+        self.objects.clear();
+        self.weights.clear();
+        set_owners(self.owners.as_mut_slice(), objects);
     }
 
     /// Adds an arc of the last node that was begun.
@@ -150,12 +163,25 @@ pub struct Best<'a> {
     pub prices: &'a [Price],
 }
 
+// Sets the node of each object; before, all are nobody's.
+fn add_owners(owners: &mut [usize], objects: &[Object]) {
+    for (node, object) in objects.iter().enumerate() {
+        set_value(owners, place_of(*object), node);
+    }
+}
+
+// Sets the node of each object.
+fn set_owners(owners: &mut [usize], objects: &[Object]) {
+    for owner in owners.iter_mut() {
+        *owner = objects.len();
+    }
+    add_owners(owners, objects);
+}
+
 /// The node of each object.
 pub fn owners_of(alloc: Global, objects: &[Object], m: usize) -> Result<Vec<usize>, AllocError> {
     let mut owners = vec![in alloc; objects.len(); m]?;
-    for (node, object) in objects.iter().enumerate() {
-        set_value(owners.as_mut_slice(), place_of(*object), node);
-    }
+    add_owners(owners.as_mut_slice(), objects);
     Ok(owners)
 }
 

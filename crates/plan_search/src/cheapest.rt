@@ -9,11 +9,24 @@ use std::alloc::{AllocError, Global};
 /// A search along the pairs of a part.
 #[derive(Drop)]
 pub struct Cheapest {
-    /// How far each column is from the row.
+    /// How far each column is from the row; the row's own one without the least weight that leads there.
     paths: Paths,
+    least_back: Cost,
     /// The row by which each column was reached, and the column by which each row was.
     from: Vec<usize>,
     via: Vec<usize>,
+}
+
+// The least reduced weight by which a row after this one takes its column.
+fn least_back(inner: &Inner, part: &Part, first: usize) -> Cost {
+    let (own, mut least) = (part.column(first), Cost::MAX);
+    for place in inner.taker_start(own)..inner.taker_start(own.wrapping_add(1)) {
+        let (row, pair) = inner.taker(place);
+        if row > first {
+            least = least.min(part.reduced(inner, row, pair));
+        }
+    }
+    least
 }
 
 impl Cheapest {
@@ -22,6 +35,7 @@ impl Cheapest {
             paths: Paths::new(alloc, inner.columns())?,
             from: vec![in alloc; 0usize; inner.columns()]?,
             via: vec![in alloc; 0usize; inner.rows().wrapping_add(1)]?,
+            least_back: 0,
         })
     }
 
@@ -35,9 +49,13 @@ impl Cheapest {
         most: Cost,
     ) -> Result<(), AllocError> {
         let (own, before) = (part.column(row), length.saturating_sub(part.value(row)));
+        let end = part.column(first);
         let (columns, weights) = inner.pairs(row);
         for (column, weight) in columns.iter().zip(weights.iter()) {
-            let longer = before.saturating_add(part.sum(*column, *weight));
+            let mut longer = before.saturating_add(part.sum(*column, *weight));
+            if *column == end {
+                longer = longer.saturating_sub(self.least_back);
+            }
             if longer <= most
                 && *column != own
                 && part.holder(*column) >= first
@@ -62,13 +80,15 @@ impl Cheapest {
     ) -> Result<Option<Cost>, AllocError> {
         let (own, last) = (part.column(first), inner.rows());
         let mut is_nobody_met = false;
+        self.least_back = least_back(inner, part, first);
+        let most = most.saturating_sub(self.least_back);
         self.look(inner, part, first, (first, 0), most)?;
         for _ in 0..inner.size().wrapping_add(1) {
             let Some((column, length)) = self.paths.next() else {
                 return Ok(None);
             };
             if column == own {
-                return Ok(Some(length));
+                return Ok(Some(length.saturating_add(self.least_back)));
             }
             let holder = part.holder(column);
             if holder != last || !is_nobody_met {
@@ -82,10 +102,12 @@ impl Cheapest {
         Ok(None)
     }
 
-    // Raises values and prices, so that the pairs of the way have the reduced weight 0.
-    fn raise(&self, part: &mut Part, last: usize, first: usize, length: Cost) {
-        let mut of_nobody = 0;
+    // Raises values and prices, and lowers that of the row's own column, so that the pairs of the way have
+    // the reduced weight 0.
+    fn raise(&self, part: &mut Part, last: usize, first: usize, own: usize) {
+        let (mut of_nobody, length) = (0, self.paths.distance(own));
         part.raise_value(first, length);
+        part.raise_price(own, self.least_back.wrapping_neg());
         for column in self.paths.reached() {
             let rise = length.saturating_sub(self.paths.distance(*column));
             let holder = part.holder(*column);
@@ -121,11 +143,10 @@ impl Cheapest {
         first: usize,
         length: Cost,
     ) -> Result<Part, AllocError> {
-        let mut other = part.split(alloc, first)?;
-        let last = inner.rows();
+        let (mut other, own) = (part.split(alloc, first)?, part.column(first));
         other.add_cost(length);
-        self.raise(&mut other, last, first, length);
-        self.give(&mut other, first, part.column(first));
+        self.raise(&mut other, inner.rows(), first, own);
+        self.give(&mut other, first, own);
         Ok(other)
     }
 

@@ -1,7 +1,7 @@
 // The arcs of a plan within its part of a tree of plans.
-use super::arcs::{Arcs, Best, add_last, no_arcs};
+use super::arcs::{Arcs, Best, add_last};
 use super::tree::Tree;
-use super::values::{place_of, set_value, value_at};
+use super::values::{elements, place_of, set_value, value_at};
 use assign_core::{Cost, Sense};
 use cost_lists::{Object, Price};
 use std::alloc::{AllocError, Global};
@@ -78,10 +78,26 @@ impl Pairs {
         value_at(self.objects.as_slice(), pair, 0)
     }
 
-    // The sum of the cost and the price of a pair.
-    fn sum(&self, pair: usize, prices: &[Price]) -> Cost {
-        let price = value_at(prices, place_of(self.object(pair)), 0);
-        value_at(self.costs.as_slice(), pair, 0).wrapping_add(price)
+    /// How many pairs there are.
+    pub fn size(&self) -> usize {
+        self.objects.len()
+    }
+
+    /// The objects of a person's pairs, how much dearer each is, and whether it is closed.
+    pub fn of(&self, person: usize) -> (&[Object], &[Cost], &[bool]) {
+        let (start, end) = (self.start(person), self.start(person.wrapping_add(1)));
+        let objects = elements(self.objects.as_slice(), start, end);
+        let costs = elements(self.costs.as_slice(), start, end);
+        (
+            objects,
+            costs,
+            elements(self.is_closed.as_slice(), start, end),
+        )
+    }
+
+    /// Whether a person keeps its object.
+    pub fn keeps(&self, person: usize) -> bool {
+        value_at(self.is_kept.as_slice(), person, true)
     }
 
     // Closes the pairs of a person and an object.
@@ -136,15 +152,16 @@ impl Pairs {
 
     // The sum of a person's cost and price by a plan.
     fn own_sum(&self, person: usize, own: Object, prices: &[Price]) -> Cost {
-        for pair in self.start(person)..self.start(person.wrapping_add(1)) {
-            if self.object(pair) == own {
-                return self.sum(pair, prices);
+        let (objects, costs, _) = self.of(person);
+        for (object, cost) in objects.iter().zip(costs.iter()) {
+            if *object == own {
+                return cost.wrapping_add(value_at(prices, place_of(own), 0));
             }
         }
         0
     }
 
-    // Adds the arcs of a person.
+    // Adds the arcs of a person below a bound.
     fn add_arcs(
         &self,
         arcs: &mut Arcs,
@@ -153,37 +170,51 @@ impl Pairs {
         prices: &[Price],
         bound: Cost,
     ) -> Result<(), AllocError> {
-        let (start, end) = (self.start(person), self.start(person.wrapping_add(1)));
-        if end.wrapping_sub(start) == 1 || value_at(self.is_kept.as_slice(), person, true) {
+        let (objects, costs, closed) = self.of(person);
+        if objects.len() == 1 || self.keeps(person) {
             return Ok(());
         }
         let own_sum = self.own_sum(person, own, prices);
-        for pair in start..end {
-            let object = self.object(pair);
-            let weight = self.sum(pair, prices).wrapping_sub(own_sum);
-            let is_closed = value_at(self.is_closed.as_slice(), pair, true);
-            if weight < bound && !is_closed && object != own {
-                arcs.push(object, weight)?;
+        for ((object, cost), is_closed) in objects.iter().zip(costs.iter()).zip(closed.iter()) {
+            let sum = cost.wrapping_add(value_at(prices, place_of(*object), 0));
+            let weight = sum.wrapping_sub(own_sum);
+            if weight < bound && !*is_closed && *object != own {
+                arcs.push(*object, weight)?;
             }
         }
         Ok(())
     }
 
-    /// The arcs of a plan of the part, which the prices prove to be its best one, below a bound.
-    pub fn arcs(
-        &self,
-        alloc: Global,
-        objects: &[Object],
-        prices: &[Price],
-        bound: Cost,
-    ) -> Result<Arcs, AllocError> {
-        let mut arcs = no_arcs(alloc, objects, prices.len(), self.objects.len())?;
-        for (person, own) in objects.iter().enumerate() {
+    /// Sets the arcs of a plan of the part, which the prices prove to be its best one, below a bound.
+    pub fn set_arcs(&self, arcs: &mut Arcs, best: Best<'_>, bound: Cost) -> Result<(), AllocError> {
+        arcs.clear(best.objects);
+        for (person, own) in best.objects.iter().enumerate() {
             arcs.begin_node()?;
-            self.add_arcs(&mut arcs, person, *own, prices, bound)?;
+            self.add_arcs(arcs, person, *own, best.prices, bound)?;
         }
-        add_last(&mut arcs, best_of(objects, prices), bound)?;
-        Ok(arcs)
+        add_last(arcs, best, bound)
+    }
+}
+
+/// A plan of a part, with prices that prove it to be the best one.
+#[derive(Clone, Copy)]
+pub struct Leaf<'a> {
+    pub pairs: &'a Pairs,
+    pub objects: &'a [Object],
+    pub owners: &'a [usize],
+    pub prices: &'a [Price],
+}
+
+impl Leaf<'_> {
+    /// The sum of a person's own cost and price.
+    pub fn own_sum(&self, person: usize) -> Cost {
+        let own = value_at(self.objects, person, 0);
+        self.pairs.own_sum(person, own, self.prices)
+    }
+
+    /// The person of an object by its place, or the number of persons.
+    pub fn owner(&self, object: Object) -> usize {
+        value_at(self.owners, place_of(object), 0)
     }
 }
 

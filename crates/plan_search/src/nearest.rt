@@ -3,7 +3,7 @@ use super::arcs::Arcs;
 use super::paths::Paths;
 use super::values::{set_value, value_at};
 use assign_core::Cost;
-use cost_lists::{Object, Price};
+use cost_lists::Object;
 use std::alloc::{AllocError, Global};
 
 /// A search for the least cycle.
@@ -12,7 +12,7 @@ pub struct Nearest {
     paths: Paths,
     /// The node and the object by which each node was reached.
     from: Vec<(usize, Object)>,
-    /// The least weight of an arc into each node; empty where the paths to all nodes are wanted.
+    /// The least weight of an arc into each node.
     entering: Vec<Cost>,
     /// The weight of the least cycle so far, and the objects that its nodes take.
     best: Cost,
@@ -20,20 +20,15 @@ pub struct Nearest {
 }
 
 impl Nearest {
-    fn all_paths(alloc: Global, arcs: &Arcs, most: Cost) -> Result<Nearest, AllocError> {
-        Ok(Nearest {
-            paths: Paths::new(alloc, arcs.nodes())?,
-            from: vec![in alloc; (0usize, 0u32); arcs.nodes()]?,
-            entering: Vec::new(alloc),
-            best: most,
-            cycle: Vec::new(alloc),
-        })
-    }
-
     /// A search for cycles that weigh less than this.
     pub fn new(alloc: Global, arcs: &Arcs, most: Cost) -> Result<Nearest, AllocError> {
-        let mut nearest = Nearest::all_paths(alloc, arcs, most)?;
-        nearest.entering = vec![in alloc; Cost::MAX; arcs.nodes()]?;
+        let mut nearest = Nearest {
+            paths: Paths::new(alloc, arcs.nodes())?,
+            from: vec![in alloc; (0usize, 0u32); arcs.nodes()]?,
+            entering: vec![in alloc; Cost::MAX; arcs.nodes()]?,
+            best: most,
+            cycle: Vec::new(alloc),
+        };
         for node in 0..arcs.nodes() {
             nearest.enter(arcs, node);
         }
@@ -131,34 +126,4 @@ impl Nearest {
         }
         Ok(())
     }
-
-    // By how much the prices of the objects of a node rise, so that the cycle has the weight 0.
-    fn rise(&self, first: usize, node: usize) -> Cost {
-        if node == first {
-            return 0;
-        }
-        self.best.saturating_sub(self.paths.distance(node)).max(0)
-    }
-}
-
-/// Adds the prices that prove the best plan without the pair of a node, if there is one. The last node's
-/// objects keep the price 0.
-pub fn add_risen(
-    alloc: Global,
-    risen: &mut Vec<Price>,
-    arcs: &Arcs,
-    first: usize,
-    prices: &[Price],
-    arc_scans: &mut u64,
-) -> Result<(), AllocError> {
-    let mut nearest = Nearest::all_paths(alloc, arcs, Cost::MAX)?;
-    nearest.search(arcs, &[], first, arc_scans)?;
-    let last = nearest.rise(first, arcs.nodes().wrapping_sub(1));
-    let mut object: Object = 0;
-    for price in prices {
-        object = object.wrapping_add(1);
-        let more = nearest.rise(first, arcs.owner(object)).wrapping_sub(last);
-        risen.push(price.wrapping_add(more))?;
-    }
-    Ok(())
 }

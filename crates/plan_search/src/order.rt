@@ -23,8 +23,10 @@ pub struct Order {
     most: Cost,
     /// The least costs of plans that are known, up to that number.
     costs: Least,
-    /// The least reduced weight of a pair of each column, of the rows after one.
+    /// The least reduced weight of a pair of each column, of the rows after one; and that of each of these
+    /// rows with a column that isn't its own.
     entering: Vec<Cost>,
+    leaving: Vec<Cost>,
     cheapest: Cheapest,
     earliest: Earliest,
 }
@@ -39,6 +41,7 @@ impl Order {
             most,
             costs: Least::new(alloc, count),
             entering: vec![in alloc; Cost::MAX; inner.columns()]?,
+            leaving: vec![in alloc; Cost::MAX; inner.rows().wrapping_add(1)]?,
             cheapest: Cheapest::new(alloc, inner)?,
             earliest: Earliest::new(alloc, inner)?,
         })
@@ -94,9 +97,10 @@ impl Order {
         self.queue.push(self.parts.as_slice(), entry)
     }
 
-    // Looks for what a best plan of a split costs. The plan itself waits until it is wanted.
+    // Looks for the best plan of a split.
     fn solve(
         &mut self,
+        alloc: Global,
         inner: &Inner,
         entry: Entry,
         arc_scans: &mut u64,
@@ -105,99 +109,91 @@ impl Order {
             return Ok(());
         };
         let (row, most) = (entry.row, self.most.saturating_sub(part.cost()));
-        let length = self.cheapest.search(inner, part, row, most, arc_scans)?;
-        self.cheapest.clear();
-        let Some(length) = length else {
-            return Ok(());
-        };
-        let cost = part.cost().saturating_add(length);
-        let next = first_within(part, inner, row, (part.column(row), length));
-        self.know(cost)?;
-        self.push(cost, Stage::Known, (entry.part, row), (row, next))
-    }
-
-    // The part of a split, with the best plan that was found.
-    fn split(
-        &mut self,
-        alloc: Global,
-        inner: &Inner,
-        entry: Entry,
-        arc_scans: &mut u64,
-    ) -> Result<Option<Part>, AllocError> {
-        let Some(part) = self.parts.get(entry.part) else {
-            return Ok(None);
-        };
-        let (row, most) = (entry.row, entry.cost.saturating_sub(part.cost()));
-        let length = self.cheapest.search(inner, part, row, most, arc_scans)?;
-        let made = match length {
+        let made = match self.cheapest.search(inner, part, row, most, arc_scans)? {
             None => None,
-            Some(length) => Some(self.cheapest.split(alloc, inner, part, row, length)?),
+            Some(length) => {
+                let next = first_within(part, inner, row, (part.column(row), length));
+                let part = self.cheapest.split(alloc, inner, part, row, length)?;
+                Some((part, next))
+            }
         };
         self.cheapest.clear();
-        Ok(made)
+        match made {
+            None => Ok(()),
+            Some((part, next)) => self.add_part(part, row, next),
+        }
     }
 
-    // Adds a part, with the first one of its best plans.
+    // Adds a part. In so many rows its first plan has the columns of this one.
     fn add_part(
         &mut self,
-        inner: &Inner,
         part: Part,
-        arc_scans: &mut u64,
+        known: usize,
+        next: Option<usize>,
     ) -> Result<(), AllocError> {
-        let (mut part, place) = (part, self.parts.len());
-        *arc_scans = arc_scans.saturating_sub(inner.columns() as u64);
-        self.earliest.improve_all(inner, &mut part, arc_scans)?;
-        let cost = part.cost();
+        let (cost, place) = (part.cost(), self.parts.len());
+        self.know(cost)?;
         self.parts.push(part)?;
-        self.push(cost, Stage::First, (place, 0), (inner.rows(), None))
+        self.push(cost, Stage::Known, (place, 0), (known, next))
     }
 
-    // Finds the best plan of a split that is wanted.
+    // Finds the first one of the best plans of a part.
     fn improve(
         &mut self,
-        alloc: Global,
         inner: &Inner,
         entry: Entry,
         arc_scans: &mut u64,
     ) -> Result<(), AllocError> {
-        match self.split(alloc, inner, entry, arc_scans)? {
-            None => Ok(()),
-            Some(part) => self.add_part(inner, part, arc_scans),
+        *arc_scans = arc_scans.saturating_sub(inner.columns() as u64);
+        if let Some(part) = self.parts.get_mut(entry.part) {
+            self.earliest.improve_all(inner, part, arc_scans)?;
         }
+        self.push(
+            entry.cost,
+            Stage::First,
+            (entry.part, 0),
+            (inner.rows(), None),
+        )
     }
 
-    // Begins to bound the costs of parts from below: only nobody can take a column.
-    fn enter_nobody(&mut self, inner: &Inner, part: usize) {
-        for least in self.entering.iter_mut() {
-            *least = Cost::MAX;
-        }
-        self.enter(inner, part, inner.rows());
-    }
-
-    // A row can take columns too.
-    fn enter(&mut self, inner: &Inner, part: usize, row: usize) {
+    // What plans cost more at least that differ from a part's first in this row, and the first column that
+    // the row has in one at this bound. From now on the row can take columns.
+    fn enter(&mut self, inner: &Inner, part: usize, row: usize) -> (Cost, usize) {
+        let (mut least, mut next, mut leaving) = (Cost::MAX, usize::MAX, Cost::MAX);
         let Some(part) = self.parts.get(part) else {
-            return;
+            return (least, next);
         };
-        let value = part.value(row);
+        let (own, value) = (part.column(row), part.value(row));
+        let entering_own = value_at(self.entering.as_slice(), own, Cost::MAX);
         let (columns, weights) = inner.pairs(row);
         for (column, weight) in columns.iter().zip(weights.iter()) {
-            if part.holder(*column) != row {
+            let holder = part.holder(*column);
+            if holder != row {
                 let reduced = part.sum(*column, *weight).saturating_sub(value);
-                let least = value_at(self.entering.as_slice(), *column, 0).min(reduced);
-                set_value(self.entering.as_mut_slice(), *column, least);
+                let entering = value_at(self.entering.as_slice(), *column, 0).min(reduced);
+                set_value(self.entering.as_mut_slice(), *column, entering);
+                if holder >= part.first() {
+                    leaving = leaving.min(reduced);
+                }
+                let more = value_at(self.leaving.as_slice(), holder, 0).max(entering_own);
+                let bound = reduced.saturating_add(more);
+                if bound < least && part.allows(row, *column) {
+                    least = bound;
+                    next = *column;
+                }
             }
         }
+        set_value(self.leaving.as_mut_slice(), row, leaving);
+        (least, next)
     }
 
     // Bounds the costs of the plans that differ from one first in this row.
     fn bound(&mut self, inner: &Inner, place: usize, row: usize) -> Result<(), AllocError> {
+        let (least, next) = self.enter(inner, place, row);
         let Some(part) = self.parts.get_mut(place) else {
             return Ok(());
         };
-        let entering = value_at(self.entering.as_slice(), part.column(row), Cost::MAX);
-        let (least, next) = least_other(part, inner, row);
-        let cost = least.saturating_add(entering).saturating_add(part.cost());
+        let cost = least.saturating_add(part.cost());
         if cost > self.most {
             return Ok(());
         }
@@ -215,14 +211,16 @@ impl Order {
         self.push(cost, Stage::Bound, (place, row), (row, Some(next)))
     }
 
-    // Bounds the costs of all splits of a part.
+    // Bounds the costs of all splits of a part from below. At first only nobody can take a column.
     fn bound_all(&mut self, inner: &Inner, place: usize, first: usize) -> Result<(), AllocError> {
-        self.enter_nobody(inner, place);
+        for least in self.entering.iter_mut() {
+            *least = Cost::MAX;
+        }
+        let _nobody = self.enter(inner, place, inner.rows());
         let mut row = inner.rows();
         for _ in first..inner.rows() {
             row = row.wrapping_sub(1);
             self.bound(inner, place, row)?;
-            self.enter(inner, place, row);
         }
         if let Some(part) = self.parts.get_mut(place) {
             part.sort_splits();
@@ -268,29 +266,13 @@ impl Order {
         match entry.stage {
             Stage::Bound => {
                 self.add_split(entry.part)?;
-                self.solve(inner, entry, arc_scans)?;
+                self.solve(alloc, inner, entry, arc_scans)?;
             }
-            Stage::Known => self.improve(alloc, inner, entry, arc_scans)?,
+            Stage::Known => self.improve(inner, entry, arc_scans)?,
             Stage::First => self.hand_out(inner, entry, arc_scans)?,
         }
         Ok(true)
     }
-}
-
-// The least reduced weight of another pair that a row may take, if the rows before keep theirs, and
-// the first column at which it is.
-fn least_other(part: &Part, inner: &Inner, row: usize) -> (Cost, usize) {
-    let (own, value) = (part.column(row), part.value(row));
-    let (mut least, mut next) = (Cost::MAX, usize::MAX);
-    let (columns, weights) = inner.pairs(row);
-    for (column, weight) in columns.iter().zip(weights.iter()) {
-        let reduced = part.sum(*column, *weight).saturating_sub(value);
-        if reduced < least && *column != own && part.allows(row, *column) {
-            least = reduced;
-            next = *column;
-        }
-    }
-    (least, next)
 }
 
 // The first column but one that a row may take by a pair of at most a reduced weight.
@@ -320,8 +302,7 @@ pub fn order_of(
     arc_scans: &mut u64,
 ) -> Result<Order, AllocError> {
     let mut order = Order::new(alloc, inner, count, most)?;
-    order.know(0)?;
-    order.add_part(inner, Part::whole(alloc, inner)?, arc_scans)?;
+    order.add_part(Part::whole(alloc, inner)?, 0, None)?;
     for _ in 0..u64::MAX {
         if *arc_scans == 0 || order.found() >= count || !order.step(alloc, inner, arc_scans)? {
             break;

@@ -25,9 +25,9 @@ pub struct Pricing {
 }
 
 impl Pricing {
-    pub fn new(alloc: Global, nodes: usize, margin: Cost) -> Result<Pricing, AllocError> {
+    pub fn new(alloc: Global, nodes: usize) -> Result<Pricing, AllocError> {
         Ok(Pricing {
-            margin,
+            margin: 0,
             rises: vec![in alloc; 0i64; nodes]?,
             is_cut: vec![in alloc; false; nodes]?,
             paths: Paths::new(alloc, nodes)?,
@@ -47,7 +47,8 @@ impl Pricing {
     }
 
     /// Begins another list.
-    pub fn begin(&mut self) {
+    pub fn begin(&mut self, margin: Cost) {
+        self.margin = margin;
         for rise in self.rises.iter_mut() {
             *rise = 0;
         }

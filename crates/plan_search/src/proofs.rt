@@ -1,10 +1,11 @@
 // What shows that each plan of a tree is the first one of its part, and the next one dear enough.
-use super::arcs::{Arcs, Best};
-use super::leaf::{Pairs, best_of};
-use super::nearest::add_risen;
+use super::arcs::{Arcs, Best, no_arcs};
+use super::leaf::{Leaf, Pairs, best_of};
 use super::order::Order;
-use super::search::show;
+use super::raising::Raising;
+use super::showing::Showing;
 use super::tree::Tree;
+use super::values::{elements, value_at};
 use assign_core::Cost;
 use cost_lists::Price;
 use std::alloc::{AllocError, Global};
@@ -25,6 +26,12 @@ impl Costs<'_> {
             None => Cost::MAX,
         }
     }
+
+    // How much more a plan costs than another one.
+    fn more(&self, place: usize, other: usize) -> Cost {
+        let more = self.order.cost(other);
+        more.saturating_sub(self.order.cost(place))
+    }
 }
 
 /// For each plan prices, and ranks with some further lists of prices.
@@ -34,6 +41,19 @@ pub struct Proofs {
     pub ranks: Vec<i32>,
     pub lists: Vec<u32>,
     pub others: Vec<Price>,
+}
+
+// The prices of the plan at a place.
+fn prices_at(prices: &[Price], place: usize, m: usize) -> &[Price] {
+    let start = place.wrapping_mul(m);
+    elements(prices, start, start.wrapping_add(m))
+}
+
+// The prices from the plan at a place on.
+fn prices_from(prices: &mut [Price], place: usize, m: usize) -> &mut [Price] {
+    let start = place.wrapping_mul(m).min(prices.len());
+    let (_, rest) = prices.split_at_mut(start);
+    rest
 }
 
 impl Proofs {
@@ -48,17 +68,11 @@ impl Proofs {
         })
     }
 
-    // The prices of the plan at a place.
-    fn of(&self, place: usize, m: usize) -> &[Price] {
-        let prices = self.prices.as_slice();
-        let (_, rest) = prices.split_at(place.wrapping_mul(m).min(prices.len()));
-        let (of_plan, _) = rest.split_at(m.min(rest.len()));
-        of_plan
-    }
-
-    fn add_prices(&mut self, prices: &[Price]) -> Result<(), AllocError> {
-        for price in prices {
-            self.prices.push(*price)?;
+    // Adds the prices of the plan at a place again.
+    fn add_prices(&mut self, place: usize, m: usize) -> Result<(), AllocError> {
+        let start = place.wrapping_mul(m);
+        for at in start..start.wrapping_add(m) {
+            self.prices.push(value_at(self.prices.as_slice(), at, 0))?;
         }
         Ok(())
     }
@@ -70,107 +84,88 @@ impl Proofs {
         self.lists.push(0)?;
         Ok(())
     }
+}
 
-    fn add_ranks(&mut self, ranks: &[i32], count: usize) -> Result<(), AllocError> {
-        for rank in ranks {
-            self.ranks.push(*rank)?;
-        }
-        self.lists.push(u32::try_from(count).unwrap_or(u32::MAX))?;
-        Ok(())
-    }
+// A search for the proofs of the plans of a tree.
+#[derive(Drop)]
+struct Search<'a> {
+    tree: &'a Tree,
+    costs: Costs<'a>,
+    pairs: Pairs,
+    arcs: Arcs,
+    raising: Raising,
+    showing: Showing,
+    proofs: Proofs,
+    m: usize,
+}
 
-    fn add_others(&mut self, others: &[Price]) -> Result<(), AllocError> {
-        for price in others {
-            self.others.push(*price)?;
-        }
-        Ok(())
-    }
-
+impl Search<'_> {
     // Adds the prices of the plan at a place. They are its parent's, raised so that they prove the best
     // plan that leaves out the pair by which the two differ.
-    fn raise(
-        &mut self,
-        alloc: Global,
-        tree: &Tree,
-        pairs: &mut Pairs,
-        (place, margin): (usize, Cost),
-        m: usize,
-        arc_scans: &mut u64,
-    ) -> Result<(), AllocError> {
-        let parent = tree.parent(place);
-        pairs.restrict(tree, parent, place);
-        let before = Vec::from_slice(alloc, self.of(parent, m))?;
-        let before = before.as_slice();
-        let arcs = pairs.arcs(alloc, tree.plan(parent), before, margin.saturating_add(1))?;
-        *arc_scans = arc_scans.saturating_sub(arcs.size() as u64);
-        let first = tree.person(place);
-        add_risen(alloc, &mut self.prices, &arcs, first, before, arc_scans)
+    fn raise(&mut self, place: usize, arc_scans: &mut u64) -> Result<(), AllocError> {
+        let (parent, first) = (self.tree.parent(place), self.tree.person(place));
+        let length = self.costs.more(parent, place);
+        self.proofs.add_prices(parent, self.m)?;
+        if length == 0 {
+            return Ok(());
+        }
+        let objects = self.tree.plan(parent);
+        self.pairs.restrict(self.tree, parent, place);
+        self.arcs.clear(objects);
+        let leaf = Leaf {
+            pairs: &self.pairs,
+            objects,
+            owners: self.arcs.owners(),
+            prices: prices_at(self.proofs.prices.as_slice(), parent, self.m),
+        };
+        self.raising.search(leaf, first, length, arc_scans)?;
+        let prices = prices_from(self.proofs.prices.as_mut_slice(), place, self.m);
+        self.raising.raise(prices, objects, first, length);
+        Ok(())
     }
 
     // Adds the ranks of the plan at a place; returns whether there are any.
     fn rank(
         &mut self,
         alloc: Global,
-        tree: &Tree,
-        pairs: &mut Pairs,
-        (place, margin): (usize, Cost),
-        m: usize,
+        place: usize,
         arc_scans: &mut u64,
     ) -> Result<bool, AllocError> {
+        let margin = self.costs.margin(place);
         if margin == 0 {
-            self.add_no_ranks(m)?;
+            self.proofs.add_no_ranks(self.m)?;
             return Ok(true);
         }
-        pairs.restrict(tree, place, tree.count());
-        let best = best_of(tree.plan(place), self.of(place, m));
-        let arcs = pairs.arcs(alloc, best.objects, best.prices, margin)?;
-        *arc_scans = arc_scans.saturating_sub(arcs.size() as u64);
-        let Some(shown) = show(alloc, arcs, best, margin, arc_scans)? else {
+        self.pairs.restrict(self.tree, place, self.tree.count());
+        let prices = prices_at(self.proofs.prices.as_slice(), place, self.m);
+        let best = best_of(self.tree.plan(place), prices);
+        self.pairs.set_arcs(&mut self.arcs, best, margin)?;
+        *arc_scans = arc_scans.saturating_sub(self.arcs.size() as u64);
+        let (ranks, others) = (&mut self.proofs.ranks, &mut self.proofs.others);
+        let count = self
+            .showing
+            .show(alloc, &self.arcs, best, margin, ranks, others, arc_scans)?;
+        let Some(count) = count else {
             return Ok(false);
         };
-        self.add_ranks(shown.ranks.as_slice(), shown.count)?;
-        self.add_others(shown.others.as_slice())?;
+        self.proofs
+            .lists
+            .push(u32::try_from(count).unwrap_or(u32::MAX))?;
         Ok(true)
     }
-}
 
-// Prices of all plans.
-fn raise_all(
-    alloc: Global,
-    proofs: &mut Proofs,
-    tree: &Tree,
-    pairs: &mut Pairs,
-    costs: Costs<'_>,
-    m: usize,
-    arc_scans: &mut u64,
-) -> Result<(), AllocError> {
-    for place in 1..tree.count() {
-        if *arc_scans == 0 {
-            return Ok(());
+    // Proves all plans; returns whether the arc scans suffice.
+    fn prove(&mut self, alloc: Global, arc_scans: &mut u64) -> Result<bool, AllocError> {
+        for place in 0..self.tree.count() {
+            if place != 0 {
+                self.raise(place, arc_scans)?;
+            }
+            if *arc_scans == 0 || !self.rank(alloc, place, arc_scans)? {
+                return Ok(false);
+            }
         }
-        let margin = costs.margin(tree.parent(place));
-        proofs.raise(alloc, tree, pairs, (place, margin), m, arc_scans)?;
+        Ok(true)
     }
-    Ok(())
-}
-
-// Ranks of all plans; returns whether each has them.
-fn rank_all(
-    alloc: Global,
-    proofs: &mut Proofs,
-    tree: &Tree,
-    pairs: &mut Pairs,
-    costs: Costs<'_>,
-    m: usize,
-    arc_scans: &mut u64,
-) -> Result<bool, AllocError> {
-    for place in 0..tree.count() {
-        let margin = costs.margin(place);
-        if !proofs.rank(alloc, tree, pairs, (place, margin), m, arc_scans)? {
-            return Ok(false);
-        }
-    }
-    Ok(true)
 }
 
 /// For plans that all cost the same as the best one nothing needs to be shown.
@@ -184,23 +179,30 @@ pub fn no_proofs(alloc: Global, count: usize, m: usize) -> Result<Proofs, AllocE
 }
 
 /// Prices and ranks of all plans of a tree, if the arc scans suffice.
-pub fn proofs_of(
+pub fn proofs_of<'a>(
     alloc: Global,
-    tree: &Tree,
+    tree: &'a Tree,
     core: &Arcs,
     best: Best<'_>,
-    costs: Costs<'_>,
+    costs: Costs<'a>,
     arc_scans: &mut u64,
 ) -> Result<Option<Proofs>, AllocError> {
-    let m = best.prices.len();
-    let mut proofs = Proofs::new(alloc, tree.count(), m)?;
+    let (n, m) = (best.objects.len(), best.prices.len());
     let bound = costs.margin(0).saturating_add(1);
-    let mut pairs = Pairs::below(alloc, core, best, bound)?;
-    proofs.add_prices(best.prices)?;
-    raise_all(alloc, &mut proofs, tree, &mut pairs, costs, m, arc_scans)?;
-    if *arc_scans == 0 {
-        return Ok(None);
+    let mut search = Search {
+        tree,
+        costs,
+        pairs: Pairs::below(alloc, core, best, bound)?,
+        arcs: no_arcs(alloc, best.objects, m, core.size())?,
+        raising: Raising::new(alloc, n)?,
+        showing: Showing::new(alloc, n.saturating_add(1))?,
+        proofs: Proofs::new(alloc, tree.count(), m)?,
+        m,
+    };
+    for price in best.prices {
+        search.proofs.prices.push(*price)?;
     }
-    let is_ranked = rank_all(alloc, &mut proofs, tree, &mut pairs, costs, m, arc_scans)?;
-    Ok(if is_ranked { Some(proofs) } else { None })
+    let is_proved = search.prove(alloc, arc_scans)?;
+    let Search { proofs, .. } = search;
+    Ok(if is_proved { Some(proofs) } else { None })
 }

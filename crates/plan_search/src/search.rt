@@ -3,7 +3,7 @@ ghost use Rattle.std.specs.Prelude.{◌≡◌, length};
 
 use super::arcs::{Arcs, Best, core_below, own_sums};
 use super::nearest::Nearest;
-use super::pricing::Pricing;
+use super::showing::Showing;
 use super::values::set_value;
 use super::walk::Walk;
 use assign_core::Cost;
@@ -25,18 +25,6 @@ pub struct Shown {
     pub ranks: Vec<i32>,
     pub count: usize,
     pub others: Vec<Price>,
-}
-
-// The rank of each object: how long its owner was left before the node of unowned objects.
-fn ranks_of(alloc: Global, arcs: &Arcs, walk: &Walk, m: usize) -> Result<Vec<i32>, AllocError> {
-    let mut ranks = Vec::with_capacity(alloc, m)?;
-    let last = walk.left(arcs.nodes().wrapping_sub(1));
-    let mut object: Object = 0;
-    for _ in 0..m {
-        object = object.wrapping_add(1);
-        ranks.push(last.wrapping_sub(walk.left(arcs.owner(object))))?;
-    }
-    Ok(ranks)
 }
 
 // The least cycle of a core, if it weighs less than this: looked for at each node that closes one, which
@@ -91,64 +79,6 @@ fn wider(alloc: Global, arcs: &Arcs, bound: Cost, weight: Cost) -> Result<Cost, 
         bound.saturating_mul(8)
     };
     Ok(most.min(weight))
-}
-
-// Walks along all open arcs, and cuts a node of each cycle, which the walk leaves then.
-fn cut_all(
-    alloc: Global,
-    pricing: &mut Pricing,
-    open: &Arcs,
-    best: Best<'_>,
-    arc_scans: &mut u64,
-) -> Result<Walk, AllocError> {
-    let mut walk = Walk::new(alloc, open.nodes())?;
-    pricing.begin();
-    for _ in 0..open.nodes().wrapping_add(1) {
-        if *arc_scans == 0 {
-            break;
-        }
-        let Some(last) = walk.next(open)? else {
-            break;
-        };
-        pricing.cut(open, best, last, arc_scans)?;
-        walk.leave(last);
-    }
-    Ok(walk)
-}
-
-// There are so many further prices at most.
-const MOST_PRICES: usize = 1 << 24;
-
-/// Ranks of the core below a margin, with further lists of prices: each leaves fewer arcs open,
-/// until these have no cycle.
-pub fn show(
-    alloc: Global,
-    core: Arcs,
-    best: Best<'_>,
-    margin: Cost,
-    arc_scans: &mut u64,
-) -> Result<Option<Shown>, AllocError> {
-    let m = best.prices.len();
-    let (mut open, mut others) = (core, Vec::new(alloc));
-    let mut pricing = Pricing::new(alloc, open.nodes(), margin)?;
-    for count in 0..MOST_PRICES {
-        let walk = cut_all(alloc, &mut pricing, &open, best, arc_scans)?;
-        if !pricing.met_cycle() && *arc_scans != 0 {
-            let ranks = ranks_of(alloc, &open, &walk, m)?;
-            return Ok(Some(Shown {
-                ranks,
-                count,
-                others,
-            }));
-        }
-        let full = others.len().saturating_add(m) > MOST_PRICES;
-        if full || !pricing.has_cut() || *arc_scans == 0 {
-            return Ok(None);
-        }
-        pricing.add_prices(&open, best.prices, &mut others)?;
-        open = pricing.still_open(alloc, &open)?;
-    }
-    Ok(None)
 }
 
 // The least cycle: how much it weighs, the plan that it makes, and the core below it.
@@ -215,7 +145,24 @@ fn search_all(
         other,
         core,
     } = least;
-    let shown = show(alloc, core, best, weight, arc_scans)?;
+    let (mut ranks, mut others) = (Vec::new(alloc), Vec::new(alloc));
+    let mut showing = Showing::new(alloc, core.nodes())?;
+    let shown = match showing.show(
+        alloc,
+        &core,
+        best,
+        weight,
+        &mut ranks,
+        &mut others,
+        arc_scans,
+    )? {
+        Some(count) => Some(Shown {
+            ranks,
+            count,
+            others,
+        }),
+        None => None,
+    };
     Ok(Found { other, shown })
 }
 

@@ -32,6 +32,19 @@ impl Walk {
         })
     }
 
+    /// Begins another walk.
+    pub fn begin(&mut self) {
+        for left in self.left.iter_mut() {
+            *left = 0;
+        }
+        for is_on in self.is_on.iter_mut() {
+            *is_on = false;
+        }
+        self.path.clear();
+        self.count = 0;
+        self.first = 0;
+    }
+
     /// When a node was left.
     pub fn left(&self, node: usize) -> i32 {
         value_at(self.left.as_slice(), node, 0)

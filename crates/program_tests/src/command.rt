@@ -41,8 +41,8 @@ fn lines_that_are_taken(rt: HostRuntime) -> Result<(), Fail> {
         ("solve --help", 0, SOLVE_HELP),
         ("verify --help", 0, VERIFY_HELP),
         ("help verify", 0, VERIFY_HELP),
-        ("--version", 0, "auction_cli 5.12.0"),
-        ("--version solve", 0, "auction_cli 5.12.0"),
+        ("--version", 0, "auction_cli 5.13.0"),
+        ("--version solve", 0, "auction_cli 5.13.0"),
     ];
     for (line, status, out) in table {
         let seen = run_with(&rt, rt.alloc(), line, TEXT, REPORT, 100)?;

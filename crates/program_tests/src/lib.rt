@@ -1,8 +1,11 @@
-//! Tests of the program's words, runs and lines.
+//! Tests of the texts that are read and written, of the examples for other crates, and of the
+//! program's words, runs and lines.
 #![tactic(auto)]
 
 #[cfg(test)]
 mod command;
+#[cfg(test)]
+mod examples;
 #[cfg(test)]
 mod faults;
 #[cfg(test)]
@@ -15,6 +18,10 @@ mod methods;
 mod modes;
 #[cfg(test)]
 mod progress;
+#[cfg(test)]
+mod reading;
+#[cfg(test)]
+mod reporting;
 #[cfg(test)]
 mod reports;
 #[cfg(test)]

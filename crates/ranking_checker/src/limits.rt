@@ -22,6 +22,7 @@ pub struct Limits {
 
 // Adds what plan u says of the assignments of a part by the plans up to it, and answers their part by
 // those before it.
+#[inline(always)]
 fn add_step(tree: Tree<'_>, limits: &mut Limits, u: usize, part: usize) -> Result<usize, AllocError>
     requires tree { IsTree tree }
     requires u { (0 < u) × (u < tree.count) }

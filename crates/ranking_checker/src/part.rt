@@ -38,6 +38,7 @@ struct Columns {
 }
 
 // Whether a pair is closed.
+#[inline(always)]
 fn is_closed(closed: &[Closed], person: Person, object: Object) -> bool
     ensures { (ys : List ℕ) → All (λ c. object_in ys c.person ≢ c.object) closed.now
         → object_in ys person ≡ object → result ≡ false }
@@ -51,6 +52,7 @@ fn is_closed(closed: &[Closed], person: Person, object: Object) -> bool
 }
 
 // Whether an assignment of a part may have a pair.
+#[inline(always)]
 fn may_have(limits: &Limits, pair: Pair) -> bool
     requires { IsNumber (length limits.now.kept.items) pair.person }
     ensures { CanHave limits.now.kept.items limits.now.closed.items pair → IsTrue result }
@@ -61,6 +63,7 @@ fn may_have(limits: &Limits, pair: Pair) -> bool
 }
 
 // Adds a pair that an assignment of a part may have.
+#[inline(always)]
 fn add_open(pairs: &mut Vec<Pair>, limits: &Limits, pair: Pair) -> Result<(), AllocError>
     requires { IsNumber (length limits.now.kept.items) pair.person }
     ensures { IfOk result (λ _. Adds (CanHave limits.now.kept.items limits.now.closed.items) pair
@@ -78,7 +81,7 @@ fn pairs_of(alloc: Global, core: &[Pair], limits: &Limits) -> Result<Vec<Pair>, 
     ensures { IfOk result (λ pairs. AddsFrom (CanHave limits.now.kept.items limits.now.closed.items)
         (pair_at core.now) (length core.now) [] pairs.items) }
 {
-    let mut pairs = Vec::new(alloc);
+    let mut pairs = Vec::with_capacity(alloc, core.len())?;
     for k in 0..core.len() {
         add_open(&mut pairs, limits, core[k])?;
     }

@@ -19,6 +19,7 @@ pub struct Tree<'a> {
 }
 
 // The plan at a place.
+#[inline(always)]
 pub fn plan_at(tree: Tree<'_>, place: usize) -> &[Object]
     requires tree { IsTree tree }
     requires place { place < tree.count }
@@ -31,6 +32,7 @@ pub fn plan_at(tree: Tree<'_>, place: usize) -> &[Object]
 }
 
 // The part in which objects fall by plan u, if they fell in a part by those before it.
+#[inline(always)]
 fn next_of(tree: Tree<'_>, objects: &[Object], u: usize, part: usize) -> usize
     requires tree { IsTree tree }
     requires long { length objects.now ≡ tree.n }

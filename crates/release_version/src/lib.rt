@@ -5,9 +5,9 @@
 ghost use Rattle.std.specs.Prelude.{◌≡◌, codes};
 
 /// The version, as the file VERSION at the top has it.
-pub const VERSION: &str = "5.12.0";
+pub const VERSION: &str = "5.13.0";
 
 /// The version as a text.
 pub fn version_text()
-    ensures { VERSION.now ≡ codes "5.12.0" }
+    ensures { VERSION.now ≡ codes "5.13.0" }
 {}

@@ -12,7 +12,7 @@ use assign_core::{Person, Prices};
 use bidder::{Ask, BelowFloor, Offer, make_bid};
 use candidates::{CandidateLists, Candidates, make_bid_with};
 use rayon::prelude::*;
-use scaled_values::Scaled;
+use scaled_values::{LEAST_PAIRS_IN_PARTS, Scaled};
 use std::alloc::{AllocError, Global};
 use std::thread::Threads;
 
@@ -21,7 +21,7 @@ use std::thread::Threads;
 /// have equally many persons, so a piece whose persons list less has fewer pairs, and the last
 /// piece may be short. A piece takes a millisecond or more: next to other work a round waits for
 /// the thread that starts last.
-pub const LEAST_PAIRS: usize = 1 << 21;
+pub const LEAST_PAIRS: usize = LEAST_PAIRS_IN_PARTS;
 
 // The content of a buffer before it is filled.
 const NOTHING: Offer = Offer::Below(BelowFloor {

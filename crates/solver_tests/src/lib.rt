@@ -1,7 +1,9 @@
-//! Tests of rounds of offers and of shortest augmenting paths.
+//! Tests of rounds of offers, of workers who share a book, and of shortest augmenting paths.
 #![tactic(auto)]
 
 #[cfg(test)]
 mod by_paths;
 #[cfg(test)]
 mod by_rounds;
+#[cfg(test)]
+mod by_workers;

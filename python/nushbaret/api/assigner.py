@@ -1,5 +1,6 @@
 """A problem whose rows and columns change one after the other: the plan and the prices of before are where the next
 search begins."""
+import sys
 from array import array
 from typing import Any, List, Optional, Tuple
 
@@ -17,6 +18,8 @@ _MOST_WHOLE = 2**53
 # From so many costs on an array is worth making.
 _FEW = 32
 _AS_PRINTED = reading.Manner(False)
+# Whole numbers of 64 bits as NumPy writes their kind.
+_LONGS = "<i8" if sys.byteorder == "little" else ">i8"
 
 
 class Assigner:
@@ -95,7 +98,10 @@ class Assigner:
         1
         """
         row = self._place(row, "row", len(self._costs))
-        self._write_row(row, self._row_of(costs, row, self._width))
+        if self._are_alike(costs, self._width):
+            self._costs[row] = costs
+        else:
+            self._write_row(row, self._row_of(costs, row, self._width))
         self._change(lambda numbers: numbers.write(row, self._costs[row], False))
 
     def update_column(self, column: int, costs: Any) -> None:
@@ -123,13 +129,14 @@ class Assigner:
         """
         column = self._place(column, "column", self._width)
         costs = self._row_of(costs, column, len(self._costs), "column")
-        if hasattr(self._costs, "dtype"):
-            own = self._fitting(costs)
-            self._costs[:, column] = own
-        else:
+        if type(self._costs) is list:
             for row, cost in enumerate(row_in_list(costs, _AS_PRINTED)):
                 self._costs[row][column] = cost
-        own = self._costs[:, column] if hasattr(self._costs, "dtype") else [row[column] for row in self._costs]
+            own = [held[column] for held in self._costs]
+        else:
+            own = self._fitting(costs)
+            self._costs[:, column] = own
+            own = self._costs[:, column]
         self._change(lambda numbers: numbers.write(column, own, True))
 
     def add_row(self, costs: Any, name: Any = None) -> int:
@@ -166,7 +173,7 @@ class Assigner:
             self._width = len(row_of_any(costs, row))
         costs = self._row_of(costs, row, self._width)
         if hasattr(self._costs, "dtype"):
-            numpy = reading.numpy_of(self._costs)
+            numpy = self._numpy
             joined: Any = numpy.ma.concatenate if isinstance(self._costs, numpy.ma.MaskedArray) else numpy.concatenate
             self._costs = joined((self._costs, self._costs[:1] if row else numpy.zeros((1, self._width))))
         else:
@@ -200,7 +207,7 @@ class Assigner:
         """
         row = self._place(row, "row", len(self._costs))
         if hasattr(self._costs, "dtype"):
-            numpy = reading.numpy_of(self._costs)
+            numpy = self._numpy
             stays = numpy.arange(len(self._costs)) != row
             self._costs = self._costs[stays]
         else:
@@ -225,6 +232,17 @@ class Assigner:
             raise ValueError(f"{kind} {row} has {count} costs, and {len(costs)} were given")
         return costs
 
+    @property
+    def _numpy(self) -> Any:
+        """NumPy's module if the costs are an array."""
+        return None if type(self._costs) is list else sys.modules["numpy"]
+
+    def _are_alike(self, costs: Any, count: int) -> bool:
+        """Whether these are so many whole numbers in an array of the kind that all costs have."""
+        held = self._costs
+        return (type(held) is not list and type(costs) is type(held) is self._numpy.ndarray
+                and costs.shape == (count,) and costs.dtype == held.dtype and held.dtype.kind in "iu")
+
     def _change(self, change: Any) -> None:
         """What a change does to the numbers of before, if it leaves any."""
         self._result = None
@@ -233,7 +251,7 @@ class Assigner:
 
     def _write_row(self, row: int, costs: Any) -> None:
         """Gives the copy this row. An array of numbers that can't hold others becomes one of objects."""
-        if not hasattr(self._costs, "dtype"):
+        if type(self._costs) is list:
             self._costs[row] = list(row_in_list(costs, _AS_PRINTED))
             return
         own = self._fitting(costs)
@@ -241,7 +259,7 @@ class Assigner:
 
     def _fitting(self, costs: Any) -> Any:
         """Costs as an array; that of all costs becomes one that can hold these too."""
-        numpy = reading.numpy_of(self._costs)
+        numpy = self._numpy
         if type(costs) is numpy.ndarray and costs.dtype.kind in "iu" and costs.dtype == self._costs.dtype:
             return costs
         if not hasattr(costs, "dtype"):
@@ -277,12 +295,11 @@ class Assigner:
             return self._costs
         import pandas  # type: ignore
         rows, columns = map(list, self._labels)
-        return pandas.DataFrame(self._costs.view(reading.numpy_of(self._costs).ndarray), rows, columns, copy=False)
+        return pandas.DataFrame(self._costs.view(self._numpy.ndarray), rows, columns, copy=False)
 
     def _found(self, numbers: "HeldCosts") -> Optional[proved.ResultParts]:
         """What a result is made of; None where this way finds nothing that is sure to be best."""
-        labels = None if self._labels is None else (list(self._labels[0]), list(self._labels[1]))
-        numpy = reading.numpy_of(self._costs)
+        labels, numpy = None if self._labels is None else (list(self._labels[0]), list(self._labels[1])), self._numpy
         found = None if numpy is None else numbers.found_in_array(numpy, self._maximize, labels)
         answer = None if found else numbers.answer(self._maximize)
         return self._parts(numbers, answer, labels) if answer else found
@@ -291,7 +308,7 @@ class Assigner:
         """The same by an answer."""
         shape = AssignmentProblem(len(self._costs), self._width, self._maximize, kinds.shape(numbers.decimals),
                                   labels=labels)
-        numpy = reading.numpy_of(self._costs)
+        numpy = self._numpy
         if numpy is None:
             rows, columns = proved.pairs_of(shape, answer)
             own = [numbers.flat[numbers.place(row, column)] for row, column in zip(rows, columns)]
@@ -344,7 +361,8 @@ class HeldCosts:
 
     def _numbers(self, costs: Any) -> Any:
         """Other costs as numbers of this kind; None where one is none."""
-        if self.decimals == 0 and getattr(costs, "dtype", None) == "int64" and not hasattr(costs, "mask"):
+        kind = getattr(costs, "dtype", None)
+        if self.decimals == 0 and kind is not None and kind.str == _LONGS and not hasattr(costs, "mask"):
             return array("q", costs.tobytes())
         found = doubles_of(costs)
         return found if found is None or self.decimals is None else in_decimal_units(found, self.decimals)

@@ -2,7 +2,7 @@
 pairs of doubles are packed for it into small matrices."""
 import ctypes
 import math
-from typing import Any, Dict, List, NamedTuple, Optional, Tuple
+from typing import Any, List, NamedTuple, Optional, Tuple
 
 import numpy
 
@@ -12,7 +12,6 @@ from ..lap.doubles import DoublesInfo
 # The number of a row whose pairs are all better, and the least sum of a row without pairs.
 GREATEST = 2**63 - 1
 _NONE = numpy.empty(0, numpy.uint32)
-_calls: Dict[str, Any] = {}
 
 
 class Look(NamedTuple):
@@ -71,16 +70,13 @@ def look_listed(n: int, rows: Any, columns: Any, costs: Any, asked: Asked) -> Lo
 # Whole numbers.
 
 
-_LIST = (ctypes.c_void_p, ctypes.c_size_t)
-_KINDS = {"nushbaret_block": (*_LIST * 6, ctypes.c_size_t, *_LIST * 5),
-          "nushbaret_block_doubles": (*_LIST * 5, ctypes.c_size_t, *_LIST * 6)}
+_LISTS = {"block": (6, 5), "block_doubles": (5, 6)}
 
 
 def _call(name: str) -> Any:
-    if name not in _calls:
-        kinds = ctypes.c_uint32, ctypes.c_size_t, ctypes.c_size_t, *_KINDS[name], ctypes.c_void_p
-        _calls[name] = ctypes.CFUNCTYPE(ctypes.c_int32, *kinds)(library.address(name))
-    return _calls[name]
+    before, after = _LISTS[name]
+    return library.function(name, ctypes.c_uint32, *[ctypes.c_size_t] * 2, *library.LIST * before, ctypes.c_size_t,
+                            *library.LIST * after, ctypes.c_void_p)
 
 
 def _looked(n: int, persons: Any, objects: Any, costs: Any, asked: Asked) -> Look:
@@ -90,7 +86,7 @@ def _looked(n: int, persons: Any, objects: Any, costs: Any, asked: Asked) -> Loo
     given = persons, objects, costs, own, asked.numbers, asked.prices
     least, shown = numpy.empty(n, numpy.int64), numpy.empty(n, numpy.uint8)
     info = library.Info()
-    code = library.CODES[_call("nushbaret_block")(0, n, len(asked.prices), *_addresses(given), asked.most,
+    code = library.CODES[_call("block")(0, n, len(asked.prices), *_addresses(given), asked.most,
                                                   *_addresses((least, shown, *better)), ctypes.addressof(info))]
     if code == "COST":
         raise ValueError(f"a cost is {costs[info.place]}, beyond 10**12")
@@ -156,7 +152,7 @@ def _looked_at_doubles(costs: Any, asked: Asked) -> Look:
     better = _room(min(n * asked.most, costs.size), numpy.float64)
     objects, paid, shown = numpy.empty(n, numpy.uint32), numpy.empty(n), numpy.empty(n, numpy.uint8)
     info = DoublesInfo()
-    code = library.CODES[_call("nushbaret_block_doubles")(
+    code = library.CODES[_call("block_doubles")(
         0, n, m, *_addresses(given), asked.most, *_addresses((objects, paid, shown, *better)), ctypes.addressof(info))]
     if code == "COST":
         raise ValueError(f"a cost is {costs.ravel()[info.place]}")

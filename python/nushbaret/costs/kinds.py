@@ -1,5 +1,6 @@
 """The costs of a problem, of one of four kinds: whole numbers of 64 bits, whole numbers of any size, exact numbers of
 any kind, and doubles. All of them answer the same questions, so that nobody asks which kind they are."""
+import functools
 import importlib
 import math
 from array import array
@@ -273,6 +274,7 @@ def whole_numbers(costs: Sequence[int], unit: Unit = ONE, fractions: bool = Fals
         return AnyWholeNumbers(list(costs), unit, fractions)
 
 
+@functools.lru_cache(None)
 def shape(decimals: Optional[int]) -> Costs:
     """What results need of costs without the numbers: whole ones of a decimal unit of so many decimals, or floats."""
     return ExactNumbers(None) if decimals is None else WholeNumbers(None, of_decimals(decimals))

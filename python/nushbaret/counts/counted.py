@@ -7,7 +7,7 @@ from operator import itemgetter, le
 from typing import Any, Dict, Iterator, List, NamedTuple, Sequence, Tuple, Union
 
 from ..costs.limits import GREATEST_COST, MOST_PERSONS, Numbers, TooLarge
-from ..lap.counts_call import BEST, COLUMNS_LACK, searched_counts
+from ..lap.counts_call import BEST, COLUMNS_LACK, are_shown, searched_counts
 from ..lap.library import progress_asked
 
 Pair = Tuple[int, int]
@@ -135,6 +135,12 @@ def solved(counted: Counted, is_part: bool = False) -> Union[Best, Marked]:
     if written.code == BEST:
         return Best(written.plan, *written.numbers)
     return Marked(written.code == COLUMNS_LACK, *written.marks)
+
+
+def is_shown(counted: Counted, best: Best) -> bool:
+    """Whether numbers in 64 bits prove a plan best for costs that are in the library's range, as its call says."""
+    numbers = [array("q", own) for own in (best.row_numbers, best.column_numbers)]
+    return are_shown(_given(counted), array("B", best.plan), numbers)
 
 
 def _of_one_side(counted: Counted) -> Union[Best, Marked]:

@@ -5,8 +5,8 @@ from typing import Any, Collection, Dict, FrozenSet, Iterator, List, NamedTuple,
 from ..rows.certificate_check import shows
 from .count_levels import Given, Levelled, best_of
 from .count_rows import Shown, certificate_of_best, check_lacks
-from .counted import Bounds, Counted, Marked, Pair, show_progress
-from .exchanges import Exchanges, Other, exchanges_of, free_pairs, next_plan
+from .counted import Best, Bounds, Counted, Marked, Pair, is_shown, show_progress
+from .exchanges import Exchanges, Other, exact_numbers, exchanges_of, free_pairs, next_plan
 from .lack import Cut, Lack, cut_of, lacks_of
 from .narrowed import Part, fixed, narrowed, reduced_costs, settled, whole
 
@@ -30,8 +30,13 @@ class Plans(NamedTuple):
         return exchanges_of(counted, counted.pairs_of(self.best.plan), self.best.row_numbers, self.best.column_numbers)
 
     def free_pairs(self) -> List[List[Pair]]:
-        """The pairs that are in some best plan and not in all, in groups that depend on each other."""
-        return [sorted(self.part.named(those)) for those in free_pairs(self.exchanges())]
+        """The pairs that are in some best plan and not in all, in groups that depend on each other. The library checks
+        that all best plans have the same of the others."""
+        found, counted = free_pairs(self.exchanges()), self.part.counted
+        free = {pair for those in found for pair in those}
+        _check_marks(counted, self.best, [0 if pair in free else 1 if is_chosen else -1 for pair, is_chosen in zip(
+            zip(counted.rows, counted.columns), self.best.plan)])
+        return [sorted(self.part.named(those)) for those in found]
 
     def after(self) -> Iterator[Other]:
         """The plans after the best one, each with what it costs more."""
@@ -94,11 +99,38 @@ def with_fewest_changes(plans: Plans, kept: Collection[Pair]) -> Plans:
     plan = face.plan(found.plan, len(counted.rows))
     if _sum(counted, plan) != _sum(counted, best.plan):
         raise RuntimeError("a plan was found to be as good as the best, and isn't: please report this problem")
-    return plans._replace(best=best._replace(plan=plan))
+    best = best._replace(plan=plan)
+    marks = [-1 if pair in kept else 1 for pair in plans.part.named(zip(counted.rows, counted.columns))]
+    none = [0] * len(rows), [0] * len(columns)
+    _check_marks(counted, best, marks, face.numbers(found.row_numbers, found.column_numbers, none))
+    return plans._replace(best=best)
 
 
 def _sum(counted: Counted, plan: Any) -> int:
     return sum(cost for cost, is_chosen in zip(counted.costs, plan) if is_chosen)
+
+
+def _check_marks(counted: Counted, best: Levelled, marks: Sequence[int],
+                 more: Optional[Sequence[Sequence[int]]] = None) -> None:
+    """Lets the library check that a best plan is best at marked costs too: many times each cost, and its mark more.
+    Then no best plan has a smaller sum of marks. Where these costs are beyond its range, nothing is checked. `more`
+    has what is known to be added to as many times the plan's numbers.
+
+    By the laws `marks_mean_fewest_changes` and `marks_mean_the_same` of `count_checker` the plan has the fewest changes
+    from pairs whose mark is -1 where all others have 1, and all best plans have the same of the marked pairs where its
+    own have 1 and others -1."""
+    times = 2 * counted.most_pairs() + 1
+    marked = counted._replace(costs=[times * cost + mark for cost, mark in zip(counted.costs, marks)])
+    if not marks or not marked.in_range():
+        return
+    numbers = [[times * number for number in own] for own in (best.row_numbers, best.column_numbers)]
+    if more is not None:
+        numbers = [[number + own for number, own in zip(*both)] for both in zip(numbers, more)]
+        if is_shown(marked, Best(best.plan, *numbers)):
+            return
+    if not is_shown(marked, Best(best.plan, *exact_numbers(marked, counted.pairs_of(best.plan), *numbers))):
+        raise RuntimeError("best plans were found to agree in some pairs, or one to have the fewest changes, and the "
+                           "check doesn't show it: please report this problem")
 
 
 def missing(bounds: Sequence[Bounds], had: Dict[int, int]) -> Dict[int, int]:

@@ -2,15 +2,17 @@
 import ctypes
 from array import array
 from itertools import chain
-from typing import Any, Callable, List, NamedTuple, Optional, Sequence, Tuple
+from typing import Any, Callable, NamedTuple, Optional, Sequence, Tuple
 
-from .library import PIECES, Pace, address, address_and_count, look_at_time
+from .library import LIST, PIECES, Pace, address_and_count, function, look_at_time
 
 # The library's codes that aren't faults of its lists.
 BEST, ROWS_LACK, COLUMNS_LACK, _MEMORY, STOPPED = 0, 1, 2, 15, 16
 # Lists that are given and written; then the sense comes first, and in the end a budget, a record and an info.
 _LISTS = 13
-_call: List[Any] = []
+_KINDS = (ctypes.c_uint32, *LIST * _LISTS, ctypes.c_uint64, *[ctypes.c_void_p] * 2)
+# Lists of the check; the sense comes first, and in the end an info.
+_CHECKED = (ctypes.c_uint32, *LIST * 11, ctypes.c_void_p)
 
 
 class _Record(ctypes.Structure):
@@ -30,16 +32,6 @@ class Written(NamedTuple):
     plan: Any
     numbers: Tuple[Any, Any]
     marks: Tuple[Any, Any]
-
-
-def loaded() -> Any:
-    """The call."""
-    if not _call:
-        lists = [ctypes.c_void_p, ctypes.c_size_t] * _LISTS
-        prototype = ctypes.CFUNCTYPE(ctypes.c_int32, ctypes.c_uint32, *lists, ctypes.c_uint64, ctypes.c_void_p,
-                                     ctypes.c_void_p)
-        _call.append(prototype(address("nushbaret_counts_from")))
-    return _call[0]
 
 
 def searched_counts(given: Sequence[Any], n: int, m: int, after: Optional[Callable[[Any], Any]] = None,
@@ -63,7 +55,8 @@ def searched_counts(given: Sequence[Any], n: int, m: int, after: Optional[Callab
     code = STOPPED
     while code == STOPPED:
         look_at_time()
-        code = loaded()(int(maximize), *words, pace.budget(), ctypes.addressof(record), ctypes.addressof(info))
+        code = function("counts_from", *_KINDS)(int(maximize), *words, pace.budget(), ctypes.addressof(record),
+                                                ctypes.addressof(info))
         if code in (BEST, STOPPED) and after is not None:
             after(plan)
     if code == _MEMORY:
@@ -71,3 +64,9 @@ def searched_counts(given: Sequence[Any], n: int, m: int, after: Optional[Callab
     if code not in (BEST, ROWS_LACK, COLUMNS_LACK):
         raise RuntimeError(f"the library gives no answer to counts, by its code {code}: please report this problem")
     return Written(code, plan, numbers, marks)
+
+
+def are_shown(given: Sequence[Any], plan: Any, numbers: Sequence[Any]) -> bool:
+    """Whether these numbers of rows and columns prove a plan best, whose sum of costs is to be least."""
+    words = chain.from_iterable(map(address_and_count, (*given, plan, *numbers)))
+    return bool(function("check_counts", *_CHECKED)(0, *words, ctypes.addressof(_Info())) == BEST)

@@ -31,6 +31,10 @@ EXPORTS = ("nushbaret_doubles", "nushbaret_check_doubles", "nushbaret_dense_from
 BEST, FIRST, WORST, ONLY, NEXT = range(5)
 
 
+# What a source has besides costs and rows where the costs alone were given.
+_PLAIN = {maximize: Source(None, None, None, None, reading.Manner(maximize))[2:] for maximize in (False, True)}
+
+
 def extension() -> Any:
     """The extension module, or None. With None under its name in sys.modules it isn't used."""
     if NAME not in sys.modules:
@@ -149,16 +153,15 @@ def from_earlier(costs: Any, maximize: bool, decimals: int, plan: Optional[Tuple
                  labels: Any) -> Optional[proved.ResultParts]:
     """What a result is made of, for an array of whole numbers of a decimal unit; the search begins at objects and
     prices of an earlier plan, if there is one. None where the longer way is to be taken."""
-    begun = () if plan is None else (_as_bytes(len(costs), *plan, None, 0),)
-    answer = _said(costs, maximize, math.inf, BEST, 0, 0, *begun)
-    n_rows, n_columns = costs.shape
-    return None if answer is None else _parts(n_rows, n_columns, maximize, answer, labels, decimals)
+    held, (n_rows, n_columns) = extension(), costs.shape
+    begun = () if plan is None else (_as_bytes(n_rows, *plan, None, 0),)
+    answer = held and held.found(costs, maximize, math.inf, BEST, 0, 0, *begun)
+    return _parts(n_rows, n_columns, maximize, answer, labels, decimals) if answer else None
 
 
 def about(question: int, source: Source, shape: AssignmentProblem, best: proved.Assignment, paid: List[Any]) -> Any:
     """What the library says of a plan of a matrix as its costs are now; None where the longer way is to be taken."""
-    plain = Source(source.costs, None, None, None, reading.Manner(shape.maximize))
-    if source.rows is not None or source[2:] != plain[2:]:
+    if source.rows is not None or source[2:] != _PLAIN[shape.maximize]:
         return None
     if not isinstance(best.objects, array) or not isinstance(best.prices, (array, type(None))):
         return None

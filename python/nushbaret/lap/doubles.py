@@ -2,7 +2,7 @@
 import ctypes
 import math
 from array import array
-from typing import Any, Dict, NamedTuple, Optional, Tuple
+from typing import Any, NamedTuple, Optional, Tuple
 
 from ..costs.orientation import costs_by_persons
 from ..costs.parts import MOST_SHIFT, in_fixed_point, size_of
@@ -12,7 +12,7 @@ from . import library
 
 # Rounded costs have so many bits.
 BITS = 39
-_calls: Dict[str, Any] = {}
+_KINDS = (ctypes.c_uint32, *[ctypes.c_size_t] * 2, *library.LIST * 4, ctypes.c_void_p)
 
 
 class DoublesInfo(ctypes.Structure):
@@ -31,22 +31,13 @@ class DoublesPlan(NamedTuple):
     by_margin: bool
 
 
-def _call() -> Any:
-    """The call that searches from an earlier plan."""
-    if not _calls:
-        found = ctypes.CFUNCTYPE(ctypes.c_int32, ctypes.c_uint32, *[ctypes.c_size_t] * 2,
-                                 *[ctypes.c_void_p, ctypes.c_size_t] * 4, ctypes.c_void_p)
-        _calls["doubles_from"] = found(library.address("nushbaret_doubles_from"))
-    return _calls["doubles_from"]
-
-
 def search(sense: bool, n: int, m: int, costs: Any, objects: Any, prices: Any) -> Optional[DoublesPlan]:
     """A plan that the library proves best for doubles, from these objects (0: nobody's) and prices, which are written;
     None where it finds none, or none that it can prove. MemoryError where memory is refused."""
     info, persons = DoublesInfo(), array("I", bytes(4 * n))
     lists = [word for values in (costs, objects, persons, prices) for word in (
         values.buffer_info() if isinstance(values, array) else (values.ctypes.data, values.size))]
-    code = _call()(int(sense), n, m, *lists, ctypes.addressof(info))
+    code = library.function("doubles_from", *_KINDS)(int(sense), n, m, *lists, ctypes.addressof(info))
     if code == library.CODES.index("MEMORY"):
         raise MemoryError("the library was refused memory")
     return None if code else DoublesPlan(objects, prices, bool(info.by_margin))

@@ -17,13 +17,13 @@ def fewest_changes(problem: AssignmentProblem, kept: Collection[Tuple[int, int]]
     Rows and columns of `kept` count from 0. The plan's prices are whole, and prove it for the costs alone; the library
     proves at combined ones that no best plan changes fewer."""
     asked = proved.instance_of(problem)
-    persons, items = oriented(problem, [row for row, _ in kept], [column for _, column in kept])
-    if not asked.n or len(set(persons)) < len(kept):
+    given = dict(zip(*oriented(problem, *zip(*kept)))) if kept else {}
+    if not asked.n or len(given) < len(kept):
         return None
-    own = array("I", bytes(4 * asked.n))
-    for person, item in zip(persons, items):
+    own = [0] * asked.n
+    for person, item in given.items():
         own[person] = item + 1
-    found = wide.solved(problem.maximize, asked, own)
+    found = wide.solved(problem.maximize, asked, array("I", own))
     if isinstance(found, proved.HallSet):
         return None
     prices = _own_prices(asked.n + 1, found.objects, found.prices)

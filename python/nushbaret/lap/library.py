@@ -11,7 +11,7 @@ from typing import Any, Callable, Dict, Iterator, List, NamedTuple, Optional, Se
 
 from ..costs.limits import FEW, BorrowedNumbers, Numbers
 
-VERSION = "5.12.0"
+VERSION = "5.13.0"
 
 CODES = (
     "BEST", "HALL",
@@ -56,6 +56,8 @@ class Record(ctypes.Structure):
                 ("flags", ctypes.c_uint32), ("arc_scans", ctypes.c_uint64)]
 
 
+# A list, as exports take it: where it begins, and how long it is.
+LIST = (ctypes.c_void_p, ctypes.c_size_t)
 # How many lists each call takes.
 _LISTS = {"dense": 4, "dense_from": 5, "sparse": 6, "sparse_from": 7, "check": 5, "check_hall": 5, "bottleneck": 6,
           "groups": 6, "next": 5, "ranked": 5, "unique": 7, "wide": 6, "fewest_changes": 7}
@@ -63,10 +65,10 @@ _LISTS = {"dense": 4, "dense_from": 5, "sparse": 6, "sparse_from": 7, "check": 5
 # written.
 _IN_PIECES = [ctypes.c_uint64, ctypes.c_void_p]
 _MORE: Dict[str, List[Any]] = {"dense_from": _IN_PIECES, "sparse_from": _IN_PIECES, "bottleneck": _IN_PIECES,
-         "next": [ctypes.c_uint64, ctypes.c_void_p, ctypes.c_size_t, ctypes.c_void_p],
-         "ranked": [ctypes.c_uint64, *[ctypes.c_void_p, ctypes.c_size_t] * 2, ctypes.c_void_p],
+         "next": [ctypes.c_uint64, *LIST, ctypes.c_void_p], "ranked": [ctypes.c_uint64, *LIST * 2, ctypes.c_void_p],
          "wide": [ctypes.c_void_p], "fewest_changes": [ctypes.c_void_p]}
 _loading = threading.Lock()
+# The library once it is loaded, and its calls by their names once each is made.
 _calls: Dict[str, Any] = {}
 
 
@@ -80,7 +82,7 @@ def _open() -> ctypes.CDLL:
     raise LibraryNotFound(f"{NAME} isn't there: {_MADE_BY} makes it, at the top of a checkout of Nushbaret")
 
 
-def _load() -> None:
+def _load() -> ctypes.CDLL:
     library = _open()
     text = (ctypes.c_uint8 * 32)()
     library.nushbaret_version.argtypes = [ctypes.c_void_p, ctypes.c_size_t]
@@ -89,21 +91,13 @@ def _load() -> None:
     found = bytes(text).split(b"\0")[0].decode()
     if found != VERSION:
         raise LibraryNotFound(f"the library is of version {found}, and {VERSION} is needed: {_MADE_BY} builds it again")
-    calls: Dict[str, Any] = {"library": library}
-    for name, lists in _LISTS.items():
-        call = getattr(library, f"nushbaret_{name}")
-        sense = [] if name == "check_hall" else [ctypes.c_uint32]
-        call.argtypes = sense + [ctypes.c_size_t] * 2 + [ctypes.c_void_p, ctypes.c_size_t] * lists + _MORE.get(
-            name, []) + [ctypes.c_void_p]
-        call.restype = ctypes.c_int32
-        calls[name] = call
     with contextlib.suppress(MemoryError):
         bytes(_KEPT)
-    # All at once: other threads don't wait where any call is there.
-    _calls.update(calls)
+    return library
 
 
 _SPARE = array("Q", [0])
+_EMPTY = _SPARE.buffer_info()[0], 0
 # A block of this size, which nobody writes to, makes the C library of GNU keep up to twice as much for later calls once
 # it is freed. Otherwise each call on a large problem takes all its pages from the system again, which takes about as
 # long as to solve it.
@@ -121,21 +115,29 @@ def address_and_count(values: Any) -> Tuple[Union[int, bytes], int]:
         return values.tobytes(), values.size
     else:
         begin, count = values.__array_interface__["data"][0], values.size
-    return (begin, count) if count else (_SPARE.buffer_info()[0], 0)
-
-
-def loaded() -> Dict[str, Any]:
-    """The calls by their names."""
-    if not _calls:
-        with _loading:
-            if not _calls:
-                _load()
-    return _calls
+    return (begin, count) if count else _EMPTY
 
 
 def address(export: str) -> int:
     """The address of an export."""
-    return ctypes.cast(getattr(loaded()["library"], export), ctypes.c_void_p).value or 0
+    if "library" not in _calls:
+        with _loading:
+            if "library" not in _calls:
+                _calls["library"] = _load()
+    return ctypes.cast(getattr(_calls["library"], export), ctypes.c_void_p).value or 0
+
+
+def function(name: str, *kinds: Any) -> Any:
+    """The call of a name, which takes values of these kinds and returns a code."""
+    if name not in _calls:
+        _calls[name] = ctypes.CFUNCTYPE(ctypes.c_int32, *kinds)(address("nushbaret_" + name))
+    return _calls[name]
+
+
+def _on_lists(name: str) -> Any:
+    """A call whose lists `_LISTS` counts."""
+    sense = [] if name == "check_hall" else [ctypes.c_uint32]
+    return function(name, *sense, *[ctypes.c_size_t] * 2, *LIST * _LISTS[name], *_MORE.get(name, ()), ctypes.c_void_p)
 
 
 def call(name: str, sense: Optional[bool], n: int, m: int, *lists: Any, piece: Sequence[Any] = ()) -> Tuple[str, Info]:
@@ -144,8 +146,8 @@ def call(name: str, sense: Optional[bool], n: int, m: int, *lists: Any, piece: S
     info = Info()
     words: List[Any] = [n, m] if sense is None else [1 if sense else 0, n, m]
     for values in lists:
-        words += address_and_count(values)
-    code = CODES[loaded()[name](*words, *piece, ctypes.addressof(info))]
+        words += values.buffer_info() if type(values) is array and values else address_and_count(values)
+    code = CODES[(_calls.get(name) or _on_lists(name))(*words, *piece, ctypes.addressof(info))]
     if code == "MEMORY":
         raise MemoryError("the library was refused memory")
     return code, info
@@ -160,9 +162,9 @@ def searched(sense: bool, n: int, m: int, lists: Sequence[Any], first: Optional[
     A search that may take long is done in pieces, so that Ctrl-C ends it, and TimeoutError is raised where the time of
     `limited` is over. After each piece its `progress` is called with how many persons are assigned."""
     name, pairs = "dense" if len(lists) == 1 else "sparse", len(lists[-1])
-    progress = progress_asked()
-    if first is None and not is_limited() and n * pairs < LONG:
+    if first is None and n * pairs < LONG and not is_limited():
         return call(name, sense, n, m, *lists, *written)
+    progress = progress_asked()
     record, code, info, pace = Record(), "STOPPED", Info(), Pace(PIECES[name], pairs)
     start = _SPARE[:0] if first is None else begun(first, written[0])
     while code == "STOPPED":

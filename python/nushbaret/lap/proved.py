@@ -154,11 +154,12 @@ def groups(problem: AssignmentProblem, best: Assignment) -> Optional[Numbers]:
     """The number of each object's group, by `nushbaret_groups`: the same for two that can change places without another
     cost; dummies are among them. None where it can't be asked."""
     most = max(problem.n_rows, problem.n_columns)
-    about = _asked_about(problem, best._replace(m=most))
+    has_dummies = best.m > most
+    about = _asked_about(problem, best._replace(m=most) if has_dummies else best)
     if about is None:
         return None
     sense, n, _, lists, objects, prices = about
-    out = {person: item for person, item in enumerate(objects, 1) if item > most}
+    out = {person: item for person, item in enumerate(objects, 1) if item > most} if has_dummies else {}
     if out:
         lists = [joined(problem.numpy, own, more) for own, more in zip(lists, _exchanged(n, out))]
     found = array("I", bytes(4 * best.m))

@@ -1,9 +1,8 @@
 """The problem of single nodes of a roster in which each name counts once; who could swap, which the library says; and
 where some of the fewer side stay out, a plan with the fewest changes from an earlier one."""
 from array import array
-from collections import Counter
 from itertools import compress
-from typing import Collection, Dict, List, NamedTuple, Sequence, Tuple
+from typing import Collection, Dict, List, NamedTuple, Sequence, Set, Tuple
 
 from ..costs.kinds import WholeNumbers
 from ..costs.limits import GREATEST_COST, Numbers, TooLarge
@@ -32,6 +31,9 @@ class RosterNodes(NamedTuple):
 
     def numbered(self, pairs: Collection[Pair]) -> List[Pair]:
         """The rows and columns that stand for pairs of persons and objects, where these are there."""
+        n_rows, n_columns = len(self.of_rows), len(self.of_columns)
+        if self.of_rows == [*range(n_rows)] and self.of_columns == [*range(n_columns)]:
+            return [pair for pair in pairs if pair[0] < n_rows and pair[1] < n_columns]
         rows, columns = (dict(zip(names, range(len(names)))) for names in (self.of_rows, self.of_columns))
         return [(rows[person], columns[object_]) for person, object_ in pairs if person in rows and object_ in columns]
 
@@ -83,17 +85,35 @@ class Swap(NamedTuple):
 def swaps_of(nodes: RosterNodes, best: BestPlan) -> List[Swap]:
     """The groups that could swap, in the order of their first persons; none where the plan is the only best one."""
     numbers = (groups(best.problem, best.answer) if best.rows else None) or ()
-    counts, own = Counter(numbers), [numbers[item - 1] for item in best.answer.objects] if numbers else []
-    joined: Dict[int, Tuple[List[int], List[int]]] = {number: ([], []) for number in own if counts[number] > 1}
+    different = set(numbers)
+    if len(different) == len(numbers):
+        return []
+    persons: Dict[int, List[int]] = {number: [] for number in different}
+    items: Dict[int, List[int]] = {number: [] for number in different}
+    for person, number in enumerate(map([0, *numbers].__getitem__, best.answer.objects)):
+        persons[number].append(person)
+    for place, number in enumerate(numbers):
+        items[number].append(place)
     # After the objects come those of who stays out.
-    items = numbers[:max(len(nodes.of_rows), len(nodes.of_columns))]
-    for side, of_side in enumerate((own, items) if joined else ()):
-        for place, number in enumerate(of_side):
-            if number in joined:
-                joined[number][side].append(place)
-    sides = (oriented(best.problem, *both) for both in joined.values() if both[1])
+    most = max(len(nodes.of_rows), len(nodes.of_columns))
+    stay = _who_stays(nodes, best, numbers) if best.answer.m > most else set()
+    joined = (([person for person in persons[number] if person not in stay] if stay else persons[number],
+               own if own[-1] < most else [place for place in own if place < most])
+              for number, own in items.items() if len(own) > 1)
+    sides = (oriented(best.problem, *both) for both in joined if all(both))
     return sorted(Swap([nodes.of_rows[row] for row in rows], [nodes.of_columns[column] for column in columns])
                   for rows, columns in sides)
+
+
+def _who_stays(nodes: RosterNodes, best: BestPlan, numbers: Sequence[int]) -> Set[int]:
+    """Persons who stay out in each best plan: none of their pairs is as good as that and of their group."""
+    objects, prices = best.answer.objects, best.answer.prices
+    most = max(len(nodes.of_rows), len(nodes.of_columns))
+    out = {person for person, item in enumerate(objects) if item > most}
+    pairs = zip(*oriented(best.problem, nodes.rows, nodes.columns), best.problem.costs.numbers)
+    return out.difference(person for person, item, cost in pairs if person in out
+                          and cost + prices[item] == prices[objects[person] - 1]
+                          and numbers[item] == numbers[objects[person] - 1])
 
 
 def kept_most(nodes: RosterNodes, best: BestPlan, kept: Collection[Pair]) -> List[Pair]:

@@ -3,7 +3,7 @@ import ctypes
 from array import array
 from typing import Any, Dict, Iterable, Iterator, List, NamedTuple, Optional, Sequence, Tuple
 
-from ..lap.library import LibraryNotFound, address
+from ..lap.library import LIST, LibraryNotFound, function
 from .certificates import Lists, certificate_of, lists_of, refuse_unfit
 from .model import Certificate, Limits, Terms, bounds_costs
 
@@ -13,7 +13,7 @@ SHOWN = 0
 _UNDECIDED = (2, 13)
 _LISTS = 7
 _NO_LEAST, _NO_MOST = -2**63, 2**63 - 1
-_call: List[Any] = []
+_KINDS = (ctypes.c_size_t, *LIST * _LISTS, ctypes.c_void_p)
 
 
 class _Info(ctypes.Structure):
@@ -22,14 +22,10 @@ class _Info(ctypes.Structure):
 
 def _rows_call() -> Any:
     """The library's call; None where there is no library of this version."""
-    if not _call:
-        prototype = ctypes.CFUNCTYPE(ctypes.c_int32, ctypes.c_size_t, *[ctypes.c_void_p, ctypes.c_size_t] * _LISTS,
-                                     ctypes.c_void_p)
-        try:
-            _call.append(prototype(address("nushbaret_rows")))
-        except LibraryNotFound:
-            _call.append(None)
-    return _call[0]
+    try:
+        return function("rows", *_KINDS)
+    except LibraryNotFound:
+        return None
 
 
 def _bounds(values: Iterable[Optional[int]], absent: int) -> "array[int]":

@@ -244,17 +244,20 @@ class Results(unittest.TestCase):
         self.assertFalse(wrong)
 
     def test_first_calls_of_threads(self):
-        """While the library's calls are looked up no thread finds only some of them."""
-        opened, found = library._open(), []
+        """Threads that call the library first find it loaded once, and of the right version."""
+        opened, wrong = [], []
 
-        class Watched:
-            def __getattr__(self, name):
-                found.append(len(library._calls))
-                return getattr(opened, name)
+        def opens(open_it=library._open):
+            opened.append(open_it())
+            return opened[-1]
 
-        with mock.patch.dict(library._calls, clear=True), mock.patch.object(library, "_open", Watched):
-            self.assertGreater(len(library.loaded()), len(library._LISTS))
-        self.assertEqual(set(found), {0})
+        def work():
+            if nushbaret.solve([[2**30, 1], [2, 3]], decimals=0).cost != 3:
+                wrong.append(True)
+
+        with mock.patch.dict(library._calls, clear=True), mock.patch.object(library, "_open", opens):
+            in_eight_threads(work)
+        self.assertEqual((len(opened), wrong), (1, []))
 
 
 if __name__ == "__main__":

@@ -43,7 +43,6 @@ def endless_call():
     def stops(*words):
         time.sleep(0.001)
         return library.CODES.index("STOPPED")
-    library.loaded()
     return mock.patch.dict(library._calls, {name: stops for name in ("dense_from", "sparse_from")})
 
 

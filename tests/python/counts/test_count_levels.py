@@ -6,7 +6,7 @@ from fractions import Fraction
 from unittest import mock
 
 import nushbaret
-from nushbaret.counts import count_levels as levels
+from nushbaret.counts import count_levels as levels, planned as plans
 from nushbaret.counts.planned import planned
 import drawn
 from counts.test_counts import rosters
@@ -183,6 +183,33 @@ class Others(unittest.TestCase):
                 self.assertEqual(len(free), len(set(free)))
                 self.assertEqual(set(free), set.union(*alike) - set.intersection(*alike))
         self.assertGreater(ranked, 100)
+
+    def test_claims_on_best_plans_are_checked(self):
+        """That all best plans have a pair, or all lack it, is refused where they differ there; and that a best plan has
+        the fewest changes where another one has fewer."""
+        draw, refused = random.Random(88), 0
+        for case, (roster, _) in enumerate(rosters(88, DRAWN)):
+            if draw.random() < 0.7:
+                roster.costs = [[None if cost is None else cost // 6 for cost in row] for row in roster.costs]
+            found = planned(roster.counted(), True).plans
+            free, counted = [pair for those in found.free_pairs() for pair in those], found.part.counted
+            least = min(those[:2] for those in roster.plans())
+            alike = [set(pairs) for *sums, pairs in roster.plans() if tuple(sums) == least]
+            kept = max(alike, key=lambda pairs: len(pairs ^ set(found.pairs())))
+            with self.subTest(case=case):
+                for pair in free:
+                    others = [[own for those in plans.free_pairs(found.exchanges()) for own in those
+                               if found.part.named([own]) != [pair]]]
+                    with mock.patch.object(plans, "free_pairs", return_value=others):
+                        self.assertRaisesRegex(RuntimeError, "please report", found.free_pairs)
+                    refused += 1
+                marks = [-1 if pair in kept else 1 for pair in found.part.named(zip(counted.rows, counted.columns))]
+                if kept != set(found.pairs()):
+                    self.assertRaisesRegex(RuntimeError, "please report", plans._check_marks, counted, found.best,
+                                           marks)
+                fewest = plans.with_fewest_changes(found, kept)
+                self.assertEqual(set(fewest.pairs()), kept)
+        self.assertGreater(refused, 100)
 
 
 @unittest.skipUnless(optimize, "needs SciPy")

@@ -201,7 +201,7 @@ def stopped():
     def stops(*words):
         time.sleep(0.001)
         return counts_call.STOPPED
-    return mock.patch.object(counts_call, "_call", [stops])
+    return mock.patch.dict(library._calls, counts_from=stops)
 
 
 class Time(unittest.TestCase):

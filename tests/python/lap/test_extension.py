@@ -305,6 +305,13 @@ class Exact(unittest.TestCase):
         self.assertGreater((found, without), (750, 0))
         exact_doubles.look(nushbaret.linear_sum_assignment, 3, 42, exact_doubles.LARGE, nushbaret.Infeasible)
 
+    def test_rectangles_that_many_rows_compete_in(self):
+        """Each row has nearly the same order of columns: shortest paths are long then."""
+        little = np.random.default_rng(4).random((300, 320))
+        costs = 1.5 * np.arange(300)[:, None] + 0.7 * np.arange(320) + 0.01 * little
+        rows, columns = nushbaret.linear_sum_assignment(costs)
+        self.assertTrue(exact_doubles.is_best(costs, rows, columns))
+
     def test_who_judges_sees_worse_plans(self):
         rng = np.random.default_rng(5)
         for name, draw in exact_doubles.KINDS.items():

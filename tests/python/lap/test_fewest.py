@@ -1,11 +1,13 @@
 """Plans with the fewest changes, compared with all plans."""
 import itertools
+import operator
 import random
 import unittest
 from array import array
 
 from nushbaret.costs.kinds import WholeNumbers
 from nushbaret.costs.problem import AssignmentProblem
+from nushbaret.lap import proved, wide
 from nushbaret.lap.fewest import fewest_changes
 from nushbaret.lap.solving import rents_of
 
@@ -56,6 +58,22 @@ class Fewest(unittest.TestCase):
                     continue
                 self.assertEqual(judged(list(zip(found.rows, found.columns))), min(map(judged, plans)))
                 self.judge_rents(problem, costs, found, sign)
+
+    def test_dense_as_listed(self):
+        """A dense problem is searched by its tight pairs, listed pairs at combined costs: both change as few."""
+        draw = random.Random(3)
+        for case in range(60):
+            n, more, span = draw.randint(8, 40), draw.choice((0, 0, 1, 20)), draw.choice((2, 5, 100))
+            m, maximize = n + more, draw.random() < 0.5
+            costs = array("q", [draw.randrange(span) for _ in range(n * m)])
+            pairs = array("I", [i + 1 for i in range(n) for _ in range(m)]), array("I", [*range(1, m + 1)] * n)
+            kept = array("I", draw.sample(range(1, m + 1), n))
+            both = [wide.solved(maximize, proved.Instance(n, m, *lists, costs), kept)
+                    for lists in ((proved.NONE, proved.NONE), pairs)]
+            judged = {(sum(costs[i * m + item - 1] for i, item in enumerate(found.objects)),
+                       sum(map(operator.ne, kept, found.objects))) for found in both}
+            with self.subTest(case=case):
+                self.assertEqual(len(judged), 1)
 
     def judge_rents(self, problem, costs, found, sign):
         """With what the columns cost in addition no row that has a column has a better one."""

@@ -163,6 +163,9 @@ class Plans(Runs):
         self.file("r.csv", "a,b,c\nAda,x,1\n")
         self.expect(0, "least c: 1\nAda: x, 1\nno other plan is as good\n", "", "r.csv", "--lines", "--others")
         self.refused(2, "not with --change-cost", "r.csv", "--others", "--keep", "f.csv", "--change-cost", "1")
+        self.file("r.csv", ",early,late\nAda,,9\nBen,,0\nCy,,0\nDan,,\n")
+        self.assertEqual(self.run_words("r.csv", "--others", "--as-many-as-can")[1].splitlines()[-1],
+                         "could change places at no cost: 2 people (Ben, Cy) on 1 object (late)")
 
     def test_compare_with_names_that_are_gone(self):
         self.file("r.csv", SQUARE)

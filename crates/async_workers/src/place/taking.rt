@@ -16,26 +16,23 @@ ghost use Rattle.async_workers.specs.declared.rule.View.TheVariants.{Away, Holdi
 use super::listing::{drop_listed, put_listed};
 use super::{BookPlace, Claimed, Desk, Held};
 use crate::boxed::BoxedBook;
+use crate::pause::sleep;
 use crate::rule::{DeskPass, Give, Giver, Known, Queue, Take};
 use auction_book::Book;
 use std::marker::Brand;
 use std::sync::Wait;
-use std::thread::Parker;
-use std::time::Duration;
 use std::{hint, thread};
 
 // A pause doubles at most so often.
 const MOST_DOUBLED: u32 = 10;
 
-// After so many more looks without the book than books taken a worker sleeps, for so many microseconds.
+// After so many more looks without the book than books taken a worker sleeps.
 const MOST_LOOKS: u32 = 14;
-
-const SLEEP: u64 = 50;
 
 // Pauses between two looks for the book, each of which slows the worker who has it.
 fn back_off<R: Wait>(rt: &R, looks: u32) {
     if looks >= MOST_LOOKS {
-        Parker::new().park_timeout(rt, Duration::from_micros(SLEEP));
+        sleep(rt);
         return;
     }
     for _ in 0..1u32 << looks.min(MOST_DOUBLED) {

@@ -1,5 +1,5 @@
 -- Combined costs of the pairs that a caller gives.
-use Rattle.std.specs.Prelude.{◌≡◌, ℕ, ℤ, pos, ◌+◌, ◌-◌, ◌*◌, ◌/◌, ◌%◌, ◌<◌, ◌≤◌, List, length, map, All, slice_index_or}
+use Rattle.std.specs.Prelude.{◌≡◌, ℕ, ℤ, pos, ◌+◌, ◌-◌, ◌/◌, ◌%◌, ◌<◌, ◌≤◌, List, length, map, All, slice_index_or}
 use Rattle.assign_core.specs.declared.sense.Sense.{Sense}
 use Rattle.c_calls.specs.declared.lists.form.Form.{Form}
 use Rattle.c_calls.specs.declared.lists.form.Form.TheVariants.{Dense, Sparse}
@@ -33,16 +33,3 @@ pub record AreCombined (sense : Sense) (g : InputLists) (kept : List ℕ) (k : �
   pub long : length costs ≡ k
   pub each : (i : ℕ) → i < k → slice_index_or (map wide_value costs) i (pos 0) ≡ combined_at sense g kept i
   pub within : All IsWideCost costs
-
--- the first k of these costs n + 1 times, each worse by a change
-pub record AreChanged (sense : Sense) (n : ℕ) (costs : List ℤ) (k : ℕ) (values : List ℤ) : Type 0 where
-  pub long : length values ≡ k
-  pub each : (i : ℕ) → i < k → slice_index_or values i (pos 0) ≡ with_change sense n (slice_index_or costs i (pos 0)) 1
-
--- costs of n persons and m objects, row by row, combined for the first k persons; the others keep nothing
-pub record AreCombinedRows (sense : Sense) (n m : ℕ) (costs : List ℤ) (kept : List ℕ) (k : ℕ) (values : List ℤ) : Type 0 where
-  pub long : length values ≡ length costs
-  pub each : (i j : ℕ) → i < k → j < m → slice_index_or values (i * m + j) (pos 0)
-      ≡ with_change sense n (slice_index_or costs (i * m + j) (pos 0)) (change (slice_index_or kept i 0) (j + 1))
-  pub left : (i j : ℕ) → k ≤ i → i < n → j < m → slice_index_or values (i * m + j) (pos 0)
-      ≡ with_change sense n (slice_index_or costs (i * m + j) (pos 0)) 1

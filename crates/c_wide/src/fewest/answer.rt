@@ -1,17 +1,19 @@
 // Proved answers that change fewest persons.
-ghost use Rattle.std.specs.Prelude.{◌≡◌, ℕ, List, length, All, IfOk};
+ghost use Rattle.std.specs.Prelude.{◌≡◌, ℕ, List, length, map, All, IfOk};
+ghost use Rattle.assign_core.specs.Assignment.{IsBest};
 ghost use Rattle.c_calls.specs.lists.Faults.{IsWhole};
 ghost use Rattle.c_calls.specs.lists.Input.{lists_in};
 ghost use Rattle.c_calls.specs.lists.Shapes.{IsShape};
-ghost use Rattle.wide_checker.specs.WideNumbers.{IsWideCost};
+ghost use Rattle.wide_checker.specs.WideNumbers.{IsWideCost, wide_value};
+ghost use Rattle.wide_checker.specs.WideOptimum.{IsWideOptimum};
 ghost use Rattle.c_wide.specs.Answers.{IsWideAnswer};
 ghost use Rattle.c_wide.specs.fewest.Answers.{IsFewestAnswer};
 ghost use Rattle.c_wide.specs.fewest.Changes.{combined_lists};
 ghost use Rattle.c_wide.specs.fewest.Combined.{AreCombined};
 
 use super::combine::{combined_costs, lists_combined};
+use super::dense::dense_answer;
 use super::kept::changes_of;
-use super::narrow::narrow_answer;
 use crate::answer::{Answer, answer_of};
 use assign_core::Cost;
 use c_calls::Shape;
@@ -44,6 +46,30 @@ pub enum FewestAnswer {
     Undecided,
 }
 
+/// An optimal assignment at combined costs, with exact prices, as an answer to the given problem.
+pub fn plan_of(
+    alloc: Global,
+    lists: &CostLists<'_>,
+    kept: &[Object],
+    objects: Vec<Object>,
+    prices: Vec<Wide>,
+) -> Result<FewestAnswer, AllocError>
+    requires kept { length kept.now ≡ length lists.now.rows }
+    requires optimum { IsWideOptimum (combined_lists kept.now lists.now) objects.items
+        (map wide_value prices.items) }
+    requires best { IsBest lists.now.sense (combined_lists kept.now lists.now).rows objects.items }
+    ensures { IfOk result (IsFewestAnswer lists.now kept.now) }
+{
+    let total = lists.total(alloc, objects.as_slice())?;
+    let changes = changes_of(kept, objects.as_slice());
+    Ok(FewestAnswer::Best(FewestPlan {
+        objects,
+        prices,
+        total,
+        changes,
+    }))
+}
+
 // An answer at combined costs as one of the given problem.
 fn answer_from(
     alloc: Global,
@@ -56,16 +82,7 @@ fn answer_from(
     ensures { IfOk result (IsFewestAnswer lists.now kept.now) }
 {
     match answer {
-        Answer::Best(objects, prices, _) => {
-            let total = lists.total(alloc, objects.as_slice())?;
-            let changes = changes_of(kept, objects.as_slice());
-            Ok(FewestAnswer::Best(FewestPlan {
-                objects,
-                prices,
-                total,
-                changes,
-            }))
-        }
+        Answer::Best(objects, prices, _) => plan_of(alloc, lists, kept, objects, prices),
         Answer::Hall(set) => Ok(FewestAnswer::Hall(set)),
         Answer::Undecided => Ok(FewestAnswer::Undecided),
     }
@@ -102,7 +119,7 @@ pub fn fewest_of(
     requires kept { length kept.now ≡ input.now.n }
     ensures { IfOk result (IsFewestAnswer (lists_in shape.sense input.now) kept.now) }
 {
-    if let Some(found) = narrow_answer(alloc, shape, input, kept)? {
+    if let Some(found) = dense_answer(alloc, shape, input, kept)? {
         return Ok(found);
     }
     let costs = combined_costs(alloc, shape, input, kept)?;

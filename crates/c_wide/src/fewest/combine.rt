@@ -18,7 +18,7 @@ use std::alloc::{AllocError, Global};
 use wide_checker::{Wide, WideLists, WidePairs};
 
 // A cost that counts before all changes of n persons.
-pub fn scaled(n: Person, cost: Cost) -> i64
+fn scaled(n: Person, cost: Cost) -> i64
     requires persons { IsCount n }
     requires cost { IsCost cost }
     ensures value { result ≡ pos (n + 1) *ℤ cost }
@@ -29,7 +29,7 @@ pub fn scaled(n: Person, cost: Cost) -> i64
 }
 
 // A cost of 64 bits that is worse by a change.
-pub fn changed(sense: Sense, scaled: i64, by: u32) -> i64
+fn changed(sense: Sense, scaled: i64, by: u32) -> i64
     requires least { neg_ℤ (pos (2 ^ 62)) ≤ℤ scaled }
     requires greatest { scaled ≤ℤ pos (2 ^ 62) }
     requires few { by ≤ 1 }

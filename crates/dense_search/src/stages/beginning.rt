@@ -1,6 +1,7 @@
 // How a search begins: least prices, first bids, somebody's prices.
 use super::super::bids::{bid_within, give_least};
 use super::super::cheapest::take_cheapest;
+use super::super::firsts::first_values;
 use super::super::matrix::Matrix;
 use super::super::narrow::are_narrow;
 use super::super::prices::{begin, begin_at_zero, cut};
@@ -47,7 +48,7 @@ impl<'a> Work<'a> {
     pub fn bid_first<R: Reading<i64>>(&mut self, matrix: &Matrix<'_, i64, R>) -> bool {
         let all = matrix.persons.saturating_mul(first_bids(matrix)) as u64;
         let left = all.saturating_sub(self.record.bids) as usize;
-        let bids = bid_within(matrix, &mut self.market, 0, left, &mut self.arc_scans);
+        let bids = bid_within(matrix, &mut self.market, left, &mut self.arc_scans);
         self.record.bids = self.record.bids.saturating_add(bids.made as u64);
         bids.made > 0 && bids.are_cut
     }
@@ -66,7 +67,7 @@ impl<'a> Work<'a> {
             return Ok(self.begin_paths());
         }
         self.market.release_all();
-        let firsts = matrix.first_values(alloc)?;
+        let firsts = first_values(alloc, matrix)?;
         let arc_scans = begin(matrix, firsts.as_slice(), self.market.prices);
         self.arc_scans.add(arc_scans);
         if matrix.persons == matrix.objects {

@@ -1,11 +1,12 @@
 // Searches over a copy of the costs in 32 bits.
-use super::super::capped::{Capped, capped_costs};
-use super::super::copied::{search_copy, search_market};
+use super::super::capped::{Capped, capped_costs, is_cut};
+use super::super::copied::search_market;
 use super::super::matrix::Matrix;
 use super::super::narrow::{narrow_costs, narrow_prices, widen};
-use super::super::reading::{AsCosts, Reading};
+use super::super::reading::Reading;
 use super::super::record::{Ended, Outcome, Stage};
 use super::super::shifted::shifted_costs;
+use super::super::squared::search_copy;
 use super::{Step, Work};
 use std::alloc::{AllocError, Global};
 
@@ -72,11 +73,11 @@ impl<'a> Work<'a> {
             return self.after_copy(alloc, matrix, ended);
         }
         if let Some(costs) = narrow_costs(alloc, matrix)? {
-            let ended = self.search_narrow(alloc, &matrix.over(costs.as_slice()))?;
+            let ended = self.search_narrow(alloc, costs)?;
             return self.after_copy(alloc, matrix, ended);
         }
         match capped_costs(alloc, matrix)? {
-            Some(capped) => self.search_capped(alloc, matrix, &capped),
+            Some(capped) => self.search_capped(alloc, matrix, capped),
             None => Ok(None),
         }
     }
@@ -87,11 +88,11 @@ impl<'a> Work<'a> {
         &mut self,
         alloc: Global,
         matrix: &Matrix<'_, i64, R>,
-        capped: &Capped,
+        capped: Capped,
     ) -> Result<Option<Step>, AllocError> {
-        let ended = self.search_narrow(alloc, &matrix.over(capped.costs.as_slice()))?;
+        let ended = self.search_narrow(alloc, capped.costs)?;
         if let Ended::Assigned = ended {
-            if capped.is_cut(matrix, &self.market) {
+            if is_cut(matrix, &self.market, capped.first) {
                 self.record.passes = 0;
                 return Ok(Some(Step::To(Stage::Retry)));
             }
@@ -110,11 +111,11 @@ impl<'a> Work<'a> {
             return Ok(None);
         }
         let before = self.record;
-        let shifted = shifted_costs(alloc, matrix)?;
+        let (shifted, costs) = shifted_costs(alloc, matrix)?;
         if self.record.stage.is_copied() && !shifted.enter(self.market.prices) {
             return Ok(None);
         }
-        let ended = self.search_narrow(alloc, &matrix.over(shifted.costs.as_slice()))?;
+        let ended = self.search_narrow(alloc, costs)?;
         shifted.restore(self.market.prices);
         match ended {
             Ended::Assigned if shifted.shift > 0 => {
@@ -130,17 +131,13 @@ impl<'a> Work<'a> {
         }
     }
 
-    fn search_narrow(
-        &mut self,
-        alloc: Global,
-        matrix: &Matrix<'_, i32, AsCosts>,
-    ) -> Result<Ended, AllocError> {
+    fn search_narrow(&mut self, alloc: Global, costs: Vec<i32>) -> Result<Ended, AllocError> {
         self.may_copy = false;
         let mut prices = narrow_prices(alloc, self.market.prices)?;
         let (mut record, mut arc_scans) = (self.record, self.arc_scans);
         let objects = &mut *self.market.objects;
         let slice = prices.as_mut_slice();
-        let ended = search_copy(alloc, matrix, slice, objects, &mut record, &mut arc_scans)?;
+        let ended = search_copy(alloc, costs, slice, objects, &mut record, &mut arc_scans)?;
         self.record = record;
         self.arc_scans = arc_scans;
         widen(prices.as_slice(), self.market.prices);

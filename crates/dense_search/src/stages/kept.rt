@@ -20,21 +20,13 @@ impl Kept {
 
     // Changes places with those of the market.
     fn swap(&mut self, market: &mut Market<'_, i64>) {
-        swap_prices(market.prices, self.prices.as_mut_slice());
-        swap_objects(market.objects, self.objects.as_mut_slice());
+        swap(market.prices, self.prices.as_mut_slice());
+        swap(market.objects, self.objects.as_mut_slice());
         market.enter_objects();
     }
 }
 
-fn swap_prices(some: &mut [i64], others: &mut [i64]) {
-    for (one, other) in some.iter_mut().zip(others.iter_mut()) {
-        let before = *one;
-        *one = *other;
-        *other = before;
-    }
-}
-
-fn swap_objects(some: &mut [u32], others: &mut [u32]) {
+fn swap<T: Copy + Drop>(some: &mut [T], others: &mut [T]) {
     for (one, other) in some.iter_mut().zip(others.iter_mut()) {
         let before = *one;
         *one = *other;

@@ -1,6 +1,6 @@
 // The auction in phases, and searches to the end after it.
 use super::super::auction::auction;
-use super::super::bids::bid_without_slackness;
+use super::super::bids::bid_within;
 use super::super::matrix::Matrix;
 use super::super::paths::{Allowance, augment_all, lower_unowned};
 use super::super::prices::magnify;
@@ -30,15 +30,19 @@ impl<'a> Work<'a> {
         }
         let matrix = &matrix.magnified(self.record.shift);
         let record = &mut self.record;
-        let ended = auction(alloc, matrix, &mut self.market, record, &mut self.arc_scans)?;
-        Ok(after(ended, Step::To(Stage::Finish), Stage::Finish))
+        let arc_scans = &mut self.arc_scans;
+        Ok(if auction(alloc, matrix, &mut self.market, record, arc_scans)? {
+            Step::To(Stage::Finish)
+        } else {
+            Step::End(Outcome::Stopped)
+        })
     }
 
     // Who keeps or takes a best object, in the unit of the prices, and bids of the others.
     fn begin_finish<R: Reading<i64>>(&mut self, matrix: &Matrix<'_, i64, R>) {
         self.arc_scans.add(settle_all(matrix, &mut self.market));
         let unassigned = self.market.unassigned();
-        let _ = bid_without_slackness(matrix, &mut self.market, unassigned, &mut self.arc_scans);
+        let _ = bid_within(matrix, &mut self.market, unassigned, &mut self.arc_scans);
         self.record.passes = 1;
     }
 

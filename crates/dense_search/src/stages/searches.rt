@@ -41,8 +41,8 @@ fn arc_scans_of_core<R: Reading<i64>>(matrix: &Matrix<'_, i64, R>) -> u64 {
 }
 
 impl<'a> Work<'a> {
-    // Whether searches over a copy with loss can be faster than a core. With many more objects than persons
-    // those over all costs find an unowned object soon.
+    // Whether searches over a copy with loss, and an auction with dummies after them, can be faster than a core.
+    // With many more objects than persons searches over all costs find an unowned object soon.
     fn may_shift<R: Reading<i64>>(&self, matrix: &Matrix<'_, i64, R>) -> bool {
         self.may_copy
             && matrix.pairs() >= SMALL
@@ -146,13 +146,14 @@ impl<'a> Work<'a> {
         if self.bid_first(matrix) {
             return Ok(Step::End(Outcome::Stopped));
         }
-        let ended = if self.is_hard(matrix) {
+        let is_hard = self.is_hard(matrix);
+        let ended = if is_hard {
             Ended::Long
         } else {
             self.augment_first(alloc, matrix)?
         };
         if let Ended::Long = ended {
-            if self.is_hard(matrix) || self.may_shift(matrix) && matrix.pairs() < MIDDLE {
+            if is_hard || self.may_shift(matrix) && matrix.pairs() < MIDDLE {
                 if let Some(step) = self.search_shifted(alloc, matrix)? {
                     return Ok(step);
                 }

@@ -1,5 +1,5 @@
 -- An optimum with numbers of its objects as it is read, and trees of arrows.
-use Rattle.std.specs.Prelude.{◌≡◌, ◌≢◌, ◌↔◌, ◌⊎◌, ◌-◌, ◌+◌, ℕ, ℤ, pos, ◌+ℤ◌, ◌≤ℤ◌, ◌<◌, ◌≤◌, List, Bool, true, false, length, slice_index_or, All, Contains, IsTrue}
+use Rattle.std.specs.Prelude.{◌≡◌, ◌≢◌, ◌↔◌, ◌⊎◌, ◌-◌, ◌+◌, ℕ, ℤ, pos, ◌+ℤ◌, ◌≤ℤ◌, ◌<ℤ◌, ◌<◌, ◌≤◌, List, Bool, true, false, length, slice_index_or, All, Contains, IsTrue}
 use Rattle.assign_core.specs.Numbered.{IsMarked, IsNumber, numbered}
 use Rattle.assign_core.specs.Rows.{IsCost}
 use Rattle.cost_lists.specs.declared.source.Pairs.{Pairs}
@@ -53,6 +53,15 @@ sum_to p k cost = minimised p.sense cost +ℤ price_at p k
 -- if object k is as good for person i at this cost, its number isn't higher than the own one's
 abbrev pub Falls : Plan → ℕ → ℕ → ℤ → Type 0
 Falls p i k cost = sum_to p k cost ≤ℤ sum_at p i → group_at p k ≤ group_at p (object_at p i)
+
+-- from one place of a row up to another each object costs more than a sum
+abbrev pub AllExceed : Plan → List ℤ → ℤ → ℕ → ℕ → Type 0
+AllExceed p row sum from to = (k : ℕ) → k < to → from ≤ k → sum <ℤ sum_to p (k + 1) (slice_index_or row k (pos 0))
+
+-- or, if it is as good, its number isn't higher than this one
+abbrev pub PartFalls : Plan → List ℤ → ℤ → ℕ → ℕ → ℕ → Type 0
+PartFalls p row sum group from to =
+    (k : ℕ) → k < to → from ≤ k → sum_to p (k + 1) (slice_index_or row k (pos 0)) ≤ℤ sum → group_at p (k + 1) ≤ group
 
 -- the objects of a row of costs, of person i
 abbrev pub RowFalls : Plan → ℕ → List ℤ → Type 0

@@ -21,6 +21,10 @@ enum Kind {
     Neighbours,
     // Nearly products, of 39 bits.
     WideProducts,
+    // Each eighth object costs all persons the same.
+    Padded,
+    // A number of each person, and noise.
+    Rows,
 }
 
 fn draw_kind(seed: &mut u64) -> Kind {
@@ -60,6 +64,9 @@ fn cost_at(seed: &mut u64, kind: Kind, span: u64, person: usize, object: usize) 
                 .wrapping_shl(24)
                 .wrapping_add(draw_cost(seed, 1 << 24))
         }
+        Kind::Padded if column & 7 == 0 => 0,
+        Kind::Padded => draw_cost(seed, 1 << 20).wrapping_add(1 << 20),
+        Kind::Rows => row.wrapping_mul(1000).wrapping_add(draw_cost(seed, 1000)),
     }
 }
 
@@ -261,15 +268,24 @@ fn larger_problems_end_at_exact_prices(rt: HostRuntime) -> Result<(), Fail> {
     Ok(())
 }
 
-// A problem of persons and as many objects.
-fn square_of(alloc: Global, persons: usize, kind: Kind) -> Result<Lists, AllocError> {
-    let costs = costs_of(alloc, &mut 7u64, kind, 2, persons, persons)?;
+fn rectangle_of(
+    alloc: Global,
+    persons: usize,
+    objects: usize,
+    kind: Kind,
+) -> Result<Lists, AllocError> {
+    let costs = costs_of(alloc, &mut 7u64, kind, 2, persons, objects)?;
     Ok(Lists {
         sense: Sense::Min,
         persons,
-        objects: persons,
+        objects,
         costs,
     })
+}
+
+// A problem of persons and as many objects.
+fn square_of(alloc: Global, persons: usize, kind: Kind) -> Result<Lists, AllocError> {
+    rectangle_of(alloc, persons, persons, kind)
 }
 
 // The arc scans of a search from nothing by calls of a budget each (0: one call).
@@ -295,6 +311,36 @@ fn a_band_among_dear_pairs_takes_few_passes(rt: HostRuntime) -> Result<(), Fail>
         arc_scans <= pairs.saturating_mul(6),
         "{arc_scans} arc_scans at {pairs} pairs"
     );
+    Ok(())
+}
+
+// The passes over all pairs of a search from nothing.
+fn passes_of(alloc: Global, lists: &Lists) -> Result<u64, AllocError> {
+    Ok(arc_scans_of(alloc, lists, 0)? / (lists.costs.len() as u64).max(1))
+}
+
+// A few persons have the least costs of all objects.
+#[test]
+fn rows_of_noise_take_few_passes(rt: HostRuntime) -> Result<(), Fail> {
+    let passes = passes_of(rt.alloc(), &square_of(rt.alloc(), 200, Kind::Rows)?)?;
+    assert!(rt; passes <= 10, "{passes} passes");
+    Ok(())
+}
+
+// All persons want the objects that cost them the same.
+#[test]
+fn a_padded_square_takes_few_passes(rt: HostRuntime) -> Result<(), Fail> {
+    let passes = passes_of(rt.alloc(), &square_of(rt.alloc(), 160, Kind::Padded)?)?;
+    assert!(rt; passes <= 9, "{passes} passes");
+    Ok(())
+}
+
+// With more objects than persons too an auction comes before searches that take too long.
+#[test]
+fn a_rectangle_of_products_takes_few_passes(rt: HostRuntime) -> Result<(), Fail> {
+    let lists = rectangle_of(rt.alloc(), 300, 310, Kind::Products)?;
+    let passes = passes_of(rt.alloc(), &lists)?;
+    assert!(rt; passes <= 125, "{passes} passes");
     Ok(())
 }
 

@@ -5,6 +5,7 @@ ghost use Rattle.rounds.specs.Rounds.{IsAtRest};
 
 use super::beside::alike;
 use super::*;
+use crate::by_workers::accepted_by;
 use auction_book::{Book, begin_next_if_over};
 use bidder::{Ask, Offer};
 use rounds::{Round, Rounds};
@@ -18,15 +19,6 @@ fn phase_line(alloc: Global, ask: Ask, prices: &[Price]) -> Result<String, Alloc
         write!(line, " {price}")?;
     }
     Ok(line)
-}
-
-// How many bids of workers 1, 2, .. were accepted.
-fn accepted_by(alloc: Global, book: &Book) -> Result<Vec<u128>, AllocError> {
-    let mut counts = Vec::new(alloc);
-    for i in 0..book.workers() {
-        counts.push(book.accepted_by(i + 1))?;
-    }
-    Ok(counts)
 }
 
 // An offer with its answer, as a line.

@@ -6,7 +6,7 @@ use Rattle.ranking_checker.proofs.AddLaws.{none_yet, one_more}
 use Rattle.ranking_checker.proofs.part.pairs_of.Goals as goal
 
 pub loop-k-init : goal.loop-k-init
-loop-k-init c = rw c.new-pairs.ensures.items (none_yet (CanHave c.args.limits.now.kept.items c.args.limits.now.closed.items) (pair_at c.args.core.now) [])
+loop-k-init c = rw c.in_ok-pairs.ensures.items (none_yet (CanHave c.args.limits.now.kept.items c.args.limits.now.closed.items) (pair_at c.args.core.now) [])
 
 pub loop-k-preserved : goal.loop-k-preserved
 loop-k-preserved c =

@@ -1,5 +1,0 @@
-use Rattle.price_log.proofs.Histories.{GoesOn}
-use Rattle.book_tests.proofs.logs.raise_times.Given as goal
-
-abbrev pub invariant-loop : goal.invariant-loop
-invariant-loop l = GoesOn l.fn.log l.log

@@ -1,5 +1,0 @@
-//! Tests of the examples for other crates.
-#![tactic(auto)]
-
-#[cfg(test)]
-mod examples;

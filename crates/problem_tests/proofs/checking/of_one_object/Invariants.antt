@@ -1,7 +1,0 @@
-use Rattle.std.specs.List.{All}
-use Rattle.assign_core.specs.Sparse.{IsTriple}
-use Rattle.assign_core.specs.declared.numbers.TheConstants.{MOST_PERSONS}
-use Rattle.problem_tests.proofs.checking.of_one_object.Given as goal
-
-abbrev pub invariant-loop-i : goal.invariant-loop-i
-invariant-loop-i l = All (IsTriple MOST_PERSONS) l.triples.items

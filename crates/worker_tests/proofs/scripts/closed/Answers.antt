@@ -1,4 +1,0 @@
-use Rattle.worker_tests.proofs.scripts.closed.Goals as goal
-
-pub close_place-requires-clause-ready : goal.close_place-requires-clause-ready
-close_place-requires-clause-ready g c = λ k d lt. (c.requires k d lt).ready

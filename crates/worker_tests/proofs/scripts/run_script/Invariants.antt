@@ -1,6 +1,0 @@
-use Rattle.std.specs.List.{All}
-use Rattle.async_workers.specs.Turns.{CanTurn}
-use Rattle.worker_tests.proofs.scripts.run_script.Given as goal
-
-abbrev pub invariant-loop-letter : goal.invariant-loop-letter
-invariant-loop-letter g l = All (CanTurn l.place) l.desks.items
