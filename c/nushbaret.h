@@ -831,8 +831,7 @@ int32_t nushbaret_counts(uint32_t sense,
     struct nushbaret_counts_info *info);
 
 /* The same, from what record says, with a budget in arc scans, 0 for none. After NUSHBARET_COUNTS_STOPPED call it again
-   with the same problem, plan, numbers and record. Whatever these hold, an answer is as good; from numbers of 2^57 and more
-   it may be NUSHBARET_COUNTS_UNDECIDED. */
+   with the same problem, plan, numbers and record. Whatever these hold, an answer is as good. */
 int32_t nushbaret_counts_from(uint32_t sense,
     const uint32_t *of_rows, size_t of_rows_count,
     const uint32_t *of_columns, size_t of_columns_count,

@@ -288,7 +288,7 @@ def main():
         problem = drawn(dice)
         judge_answer(library, problem, solve(library, problem))
         judge_answer(library, problem, solve(library, problem, dice.choice([0, 1, 50])))
-        numbers = [dice.choice([-1, 1]) * dice.getrandbits(dice.randint(1, 56)) for _ in problem["column_least"]]
+        numbers = [dice.choice([-1, 1]) * dice.getrandbits(dice.randint(1, 63)) for _ in problem["column_least"]]
         start = [1, 0, 0, 0, 0, dice.choice([0, 2**64 - 1]), 0, 0], numbers
         judge_answer(library, problem, solve(library, problem, 0, start))
         judge_checkers(library, problem, dice)

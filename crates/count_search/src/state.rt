@@ -37,7 +37,7 @@ pub struct Keys {
 }
 
 // Greater numbers are cut: sums of several of them would reach `FAR`.
-const MOST_NUMBER: i64 = 1 << 57;
+const MOST_NUMBER: i64 = 1 << 56;
 
 const UNSEEN: u32 = u32::MAX;
 
