@@ -36,8 +36,8 @@ pub struct Keys {
     pub is_grouped: bool,
 }
 
-// Greater numbers are cut: sums of several of them would reach `FAR`.
-const MOST_NUMBER: i64 = 1 << 56;
+// Greater numbers are cut: sums along a path of 256 columns stay below `FAR`.
+const MOST_NUMBER: i64 = 1 << 52;
 
 const UNSEEN: u32 = u32::MAX;
 
