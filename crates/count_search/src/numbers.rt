@@ -2,7 +2,7 @@
 use super::answers::{most_held, range_of};
 use super::chosen::next_chosen;
 use super::problem::Problem;
-use super::state::State;
+use super::state::{MOST_NUMBER, State};
 use super::values::{add_count, count_at, set_price};
 use search_base::place_at;
 use std::alloc::{AllocError, Global};
@@ -75,7 +75,7 @@ impl Numbers {
             let number = column_number(state, column, *count, most);
             set_price(numbers.columns.as_mut_slice(), column, number);
         }
-        state.take_numbers(numbers.columns.as_slice());
+        state.take_numbers(numbers.columns.as_slice(), MOST_NUMBER);
         numbers.set_rows(problem, state);
         Ok(numbers)
     }

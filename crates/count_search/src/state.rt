@@ -36,8 +36,11 @@ pub struct Keys {
     pub is_grouped: bool,
 }
 
-// Greater numbers are cut: sums along a path of 256 columns stay below `FAR`.
-const MOST_NUMBER: i64 = 1 << 52;
+/// Greater numbers are cut: sums of several of them would reach `FAR`.
+pub const MOST_NUMBER: i64 = 1 << 57;
+
+/// The same of numbers that a caller begins with, whose sums grow from path to path.
+pub const MOST_FIRST_NUMBER: i64 = 1 << 52;
 
 const UNSEEN: u32 = u32::MAX;
 
@@ -286,13 +289,10 @@ impl State {
         }
     }
 
-    /// Takes over columns' numbers, in the unit of the costs.
-    pub fn take_numbers(&mut self, numbers: &[i64]) {
+    /// Takes over columns' numbers, in the unit of the costs, each at most so far from 0.
+    pub fn take_numbers(&mut self, numbers: &[i64], most: i64) {
         for (price, number) in self.prices.as_mut_slice().iter_mut().zip(numbers) {
-            *price = number
-                .wrapping_neg()
-                .max(MOST_NUMBER.wrapping_neg())
-                .min(MOST_NUMBER);
+            *price = number.wrapping_neg().max(most.wrapping_neg()).min(most);
         }
         let outside = self.outside();
         set_price(self.prices.as_mut_slice(), outside, 0);

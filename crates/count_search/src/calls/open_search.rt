@@ -7,7 +7,7 @@ use super::super::problem::{CostRange, Problem};
 use super::super::record::{AUCTION, COLD, REPAIR, Record, WARM};
 use super::super::repair::{PathEnd, Repair, answer_all};
 use super::super::shortage::{Lack, Marks, find_shortage};
-use super::super::state::State;
+use super::super::state::{MOST_FIRST_NUMBER, MOST_NUMBER, State};
 use super::super::values::{copy_numbers, count_at, set_byte, unsigned};
 use super::{Answer, Found, copy_bytes, found_of};
 use search_base::{ArcScans, place_at};
@@ -223,9 +223,15 @@ impl OpenSearch<'_, '_> {
 
     // From numbers and a plan, or from where a repair stood. None if that takes too long.
     fn go_on(&mut self, answer: &mut Answer<'_>) -> Result<Option<Found>, AllocError> {
-        self.state.take_numbers(answer.column_numbers);
+        let is_first = self.record.stage == WARM && self.record.until == 0;
+        let most = if is_first {
+            MOST_FIRST_NUMBER
+        } else {
+            MOST_NUMBER
+        };
+        self.state.take_numbers(answer.column_numbers, most);
         self.state.take_plan(self.problem, answer.plan);
-        if self.record.stage == WARM && self.record.until == 0 {
+        if is_first {
             let most = self.most_warm_arc_scans();
             self.record.until = self.arc_scans.done.saturating_add(most);
         }
