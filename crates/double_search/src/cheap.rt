@@ -3,7 +3,6 @@
 use super::best::{lowest, others};
 use super::reach::LANES;
 use super::scale::Scale;
-use super::whole::whole_of;
 use std::alloc::{AllocError, Global};
 use std::simd::prelude::*;
 
@@ -95,7 +94,7 @@ impl CheapPairs {
         let mut left = bits;
         for _ in 0..bits.count_ones() {
             let k = lowest(left);
-            let cost = whole_of(span.get(k).copied().unwrap_or(0.0), scale);
+            let cost = scale.form.whole_of(span.get(k).copied().unwrap_or(0.0));
             let object = from.wrapping_add(k);
             self.pairs.push(CheapPair { object, cost })?;
             left = others(left);
@@ -113,8 +112,8 @@ impl CheapPairs {
         scale: Scale,
     ) -> Result<(), AllocError> {
         self.starts.push(self.pairs.len())?;
-        let sign = if scale.factor < 0.0 { -1.0 } else { 1.0 };
-        self.rests.push(whole_of(rest * sign, scale))?;
+        let sign = if scale.form.factor < 0.0 { -1.0 } else { 1.0 };
+        self.rests.push(scale.form.whole_of(rest * sign))?;
         let mut from = 0usize;
         for (k, span) in row.chunks(SPAN).enumerate() {
             if least.get(k).copied().unwrap_or(f64::NEG_INFINITY) < rest {

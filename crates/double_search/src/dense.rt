@@ -1,10 +1,10 @@
 // A search of many persons by what the search of dense problems finds in whole numbers of fewer bits.
 use super::lists::{Lists, at};
-use super::narrow::{MOST_COPIED, Narrow};
 use super::paths::Path;
 use super::rows::Rows;
 use super::scale::Scale;
 use super::solver::Problem;
+use super::whole::{MOST_COPIED, to_whole};
 use assign_core::Sense;
 use dense_search::{DenseProblem, Outcome, Record, search};
 use std::alloc::{AllocError, Global};
@@ -62,11 +62,11 @@ fn negate(duals: &mut [i64], shift: u32) {
 
 impl<'a> Lists<'a> {
     // Gives persons the objects at these places, but no pair that isn't allowed.
-    fn enter_places(&mut self, places: &[u32], m: usize, costs: &[i64], narrow: Narrow) {
+    fn enter_places(&mut self, places: &[u32], m: usize, costs: &[i64], forbidden: i64) {
         for (person, place) in places.iter().enumerate() {
             let object = *place as usize;
             let cost = at(costs, person.wrapping_mul(m).wrapping_add(object));
-            if object < m && narrow.allows(cost) {
+            if object < m && cost < forbidden {
                 self.give(person, object);
             }
         }
@@ -79,7 +79,7 @@ impl<'a> Lists<'a> {
         alloc: Global,
         problem: Problem<'_>,
         costs: &[i64],
-        narrow: Narrow,
+        forbidden: i64,
         shift: u32,
     ) -> Result<bool, AllocError> {
         let dense = DenseProblem {
@@ -97,7 +97,7 @@ impl<'a> Lists<'a> {
         }
         negate(self.duals, shift);
         self.release_all();
-        self.enter_places(places.as_slice(), problem.objects, costs, narrow);
+        self.enter_places(places.as_slice(), problem.objects, costs, forbidden);
         Ok(self.count_left() == 0)
     }
 
@@ -111,10 +111,9 @@ impl<'a> Lists<'a> {
         row: &mut [i64],
         scale: Scale,
     ) -> Result<Path, AllocError> {
-        let narrow = Narrow::of(problem.costs.len());
-        let shift = narrow.shift(scale);
-        narrow.to_whole(problem.costs, room, scale);
-        if !self.begin_narrow(alloc, problem, room, narrow, shift)? {
+        let (narrow, shift) = scale.form.narrow(problem.costs.len());
+        to_whole(problem.costs, room, narrow);
+        if !self.begin_narrow(alloc, problem, room, narrow.forbidden, shift)? {
             let mut rows = problem.listed(room, scale);
             let path = self.search_cold(&mut rows, usize::MAX);
             return Ok(self.with_margin(&mut rows, scale, path));

@@ -245,9 +245,9 @@ impl<'a> Lists<'a> {
         off: i64,
     ) -> bool {
         let persons = (self.objects.len() as u64).cast_signed();
-        let unit = scale.grid().max(off).max(margin >> 2);
+        let unit = scale.grid.max(off).max(margin >> 2);
         let bounds = Bounds {
-            grid: scale.grid(),
+            grid: scale.grid,
             margin: margin.max(off),
             most: unit.wrapping_mul(persons.wrapping_mul(8).wrapping_add(16)),
         };

@@ -3,7 +3,7 @@ use super::best::{Two, two_best, two_best_of};
 use super::cheap::CheapPairs;
 use super::lists::Matrix;
 use super::scale::Scale;
-use super::whole::{to_whole, whole_of};
+use super::whole::to_whole;
 
 #[derive(Drop)]
 pub enum Rows<'a> {
@@ -32,13 +32,14 @@ impl<'a> Doubles<'a> {
         let m = self.row.len();
         let from = person.wrapping_mul(m);
         let costs = self.costs.get(from..from.wrapping_add(m)).unwrap_or(&[]);
-        to_whole(costs, self.row, self.scale);
+        to_whole(costs, self.row, self.scale.form);
         self.row
     }
 
     pub fn cost(&self, person: usize, object: usize) -> i64 {
         let pair = person.wrapping_mul(self.row.len()).wrapping_add(object);
-        whole_of(self.costs.get(pair).copied().unwrap_or(0.0), self.scale)
+        let cost = self.costs.get(pair).copied().unwrap_or(0.0);
+        self.scale.form.whole_of(cost)
     }
 }
 

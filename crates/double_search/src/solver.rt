@@ -9,7 +9,7 @@ use super::paths::Path;
 use super::range::{Range, sign_of};
 use super::rows::{CheapRows, Doubles, Rows};
 use super::scale::Scale;
-use super::whole::{to_duals, to_prices, to_whole, whole_of};
+use super::whole::{to_prices, to_whole};
 use assign_core::Sense;
 use std::alloc::{AllocError, Global};
 
@@ -38,13 +38,17 @@ pub enum Ended {
     Lost,
 }
 
-// Where a search begins.
+// An earlier plan and its prices.
 #[derive(Clone, Copy)]
 struct Begin<'a> {
-    // With the plan and the prices, or with nothing.
-    has_plan: bool,
     objects: &'a [u32],
     prices: &'a [f64],
+}
+
+impl<'a> Begin<'a> {
+    fn of(has_plan: bool, objects: &'a [u32], prices: &'a [f64]) -> Option<Begin<'a>> {
+        has_plan.then_some(Begin { objects, prices })
+    }
 }
 
 impl<'a> Problem<'a> {
@@ -53,38 +57,22 @@ impl<'a> Problem<'a> {
     }
 
     fn full_scale(self, range: Range) -> Scale {
-        Scale::of(
-            range.size(),
-            self.sign(),
-            range.margin(),
-            range.has_infinite,
-            false,
-        )
+        Scale::of(range.size(), range, self.sign())
     }
 
-    // The size of the costs that a plan will need, where most are far greater; else that of all.
-    fn size_in(self, range: Range) -> f64 {
+    // By the size of the costs that a plan will need, where most are far greater; else by all.
+    fn scale(self, range: Range) -> Scale {
         let near = range.near_size();
         if near > 0.0 && range.size() > CUT_FROM * near {
-            CUT_TO * near
+            Scale::of(CUT_TO * near, range, self.sign())
         } else {
-            range.size()
+            self.full_scale(range)
         }
     }
 
-    fn scale(self, range: Range) -> Scale {
-        let size = self.size_in(range);
-        Scale::of(
-            size,
-            self.sign(),
-            range.margin(),
-            range.has_infinite,
-            size < range.size(),
-        )
-    }
     // All pairs in whole numbers, in this room.
     pub fn listed<'b>(self, room: &'b mut [i64], scale: Scale) -> Rows<'b> {
-        to_whole(self.costs, room, scale);
+        to_whole(self.costs, room, scale.form);
         Rows::Listed(Matrix {
             m: self.objects,
             costs: room,
@@ -105,13 +93,12 @@ impl<'a> Problem<'a> {
 
     // Whether a person has an object whose cost was cut.
     fn has_cut(self, lists: &Lists<'_>, scale: Scale) -> bool {
-        let limit = scale.limit();
         for (person, place) in lists.objects.iter().enumerate() {
             let pair = person
                 .wrapping_mul(self.objects)
                 .wrapping_add(place_of(*place));
             let cost = self.costs.get(pair).copied().unwrap_or(0.0);
-            if whole_of(cost, scale) >= limit {
+            if scale.form.whole_of(cost) >= scale.far() {
                 return true;
             }
         }
@@ -119,29 +106,18 @@ impl<'a> Problem<'a> {
     }
 }
 
-fn write_objects(lists: &Lists<'_>, objects: &mut [u32]) {
+fn write(lists: &Lists<'_>, scale: Scale, objects: &mut [u32], prices: &mut [f64]) {
     for (object, place) in objects.iter_mut().zip(lists.objects.iter()) {
         *object = as_number(place_of(*place));
     }
-}
-
-fn write(lists: &Lists<'_>, scale: Scale, objects: &mut [u32], prices: &mut [f64])
-    ensures objects { length objects.new ≡ length objects.old }
-    ensures prices { length prices.new ≡ length prices.old }
-{
-    write_objects(lists, objects);
-    if prices.len() == lists.duals.len() {
-        to_prices(lists.duals, prices, scale.unit);
-    }
+    to_prices(lists.duals, prices, scale);
 }
 
 impl<'a> Lists<'a> {
     // The plan and the duals of an earlier search.
     fn enter_plan(&mut self, scale: Scale, begin: Begin<'_>) {
         self.enter(begin.objects);
-        if begin.prices.len() == self.duals.len() {
-            to_duals(begin.prices, self.duals, scale);
-        }
+        scale.form.to_duals(begin.prices, self.duals);
     }
 
     // A search from a plan: over the doubles where few persons have no object, else over whole
@@ -185,16 +161,32 @@ impl<'a> Lists<'a> {
         Ok(self.with_margin(&mut rows, scale, path) == Path::Found)
     }
 
-    // A search from nothing over all pairs, with room for them, in fewer bits first where that is
-    // faster.
+    // A search of persons and objects in order. Returns whether they have one.
+    fn search_in_order(
+        &mut self,
+        alloc: Global,
+        problem: Problem<'_>,
+        scale: Scale,
+    ) -> Result<bool, AllocError> {
+        let mut room = vec![in alloc; 0i64; problem.costs.len()]?;
+        let mut rows = problem.listed(room.as_mut_slice(), scale);
+        if !self.begin_in_order(alloc, &mut rows)? {
+            return Ok(false);
+        }
+        let path = self.augment_all(&mut rows, usize::MAX);
+        Ok(self.with_margin(&mut rows, scale, path) == Path::Found)
+    }
+
+    // A search from nothing over all pairs, in fewer bits first where that is faster.
     fn search_all(
         &mut self,
         alloc: Global,
         problem: Problem<'_>,
-        room: &mut [i64],
         row: &mut [i64],
         scale: Scale,
     ) -> Result<Path, AllocError> {
+        let mut memory = vec![in alloc; 0i64; problem.costs.len()]?;
+        let room = memory.as_mut_slice();
         if !problem.is_dense() {
             let mut rows = problem.listed(room, scale);
             let path = self.search_cold(&mut rows, problem.most_scans());
@@ -205,45 +197,46 @@ impl<'a> Lists<'a> {
         self.search_dense(alloc, problem, room, row, scale)
     }
 
-    // A search from nothing: over few pairs where that is enough.
-    fn search_from_nothing(
-        &mut self,
-        alloc: Global,
-        problem: Problem<'_>,
-        limits: &Limits,
-        room: &mut [i64],
-        row: &mut [i64],
-        scale: Scale,
-    ) -> Result<Path, AllocError> {
-        if self.search_cheap(alloc, problem, limits, row, scale)? {
-            return Ok(Path::Found);
-        }
-        let pairs = problem.costs.len();
-        if room.len() == pairs {
-            return self.search_all(alloc, problem, room, row, scale);
-        }
-        let mut memory = vec![in alloc; 0i64; pairs]?;
-        self.search_all(alloc, problem, memory.as_mut_slice(), row, scale)
-    }
-
-    // A search in this unit. Returns nothing if its plan has a cost that was cut.
+    // A search in this unit, from a plan, if there is one: over few pairs where that is enough.
     fn search_in(
         &mut self,
         alloc: Global,
         problem: Problem<'_>,
         limits: &Limits,
-        room: &mut [i64],
         row: &mut [i64],
         scale: Scale,
-        begin: Begin<'_>,
-    ) -> Result<Option<Path>, AllocError> {
-        let path = if begin.has_plan {
-            self.search_from_plan(alloc, problem, row, scale, begin)?
-        } else {
-            self.search_from_nothing(alloc, problem, limits, room, row, scale)?
-        };
-        let is_cut = path == Path::Found && scale.is_cut && problem.has_cut(self, scale);
-        Ok(if is_cut { None } else { Some(path) })
+        begin: Option<Begin<'_>>,
+    ) -> Result<Path, AllocError> {
+        if let Some(begin) = begin {
+            return self.search_from_plan(alloc, problem, row, scale, begin);
+        }
+        if self.search_cheap(alloc, problem, limits, row, scale)? {
+            return Ok(Path::Found);
+        }
+        self.search_all(alloc, problem, row, scale)
+    }
+
+    // A search, with the unit of its duals: in that of all costs unless a plan needs lesser ones.
+    fn search(
+        &mut self,
+        alloc: Global,
+        problem: Problem<'_>,
+        limits: &Limits,
+        row: &mut [i64],
+        begin: Option<Begin<'_>>,
+    ) -> Result<(Path, Scale), AllocError> {
+        let full = problem.full_scale(limits.range);
+        let may_sort = begin.is_none() && problem.is_ordered(limits.range.size());
+        if may_sort && self.search_in_order(alloc, problem, full)? {
+            return Ok((Path::Found, full));
+        }
+        let scale = problem.scale(limits.range);
+        let path = self.search_in(alloc, problem, limits, row, scale, begin)?;
+        if path != Path::Found || !problem.has_cut(self, scale) {
+            return Ok((path, scale));
+        }
+        let path = self.search_in(alloc, problem, limits, row, full, begin)?;
+        Ok((path, full))
     }
 }
 
@@ -259,36 +252,19 @@ fn search_by(
     ensures prices { length prices.new ≡ length prices.old }
 {
     let limits = Limits::of(alloc, problem)?;
-    let range = limits.range;
-    let mut scale = problem.scale(range);
     let (n, m) = (problem.persons, problem.objects);
-    let pairs = if has_plan || limits.may_be_few(problem) {
-        0
-    } else {
-        problem.costs.len()
-    };
-    let size = pairs.saturating_add(m).saturating_add(room_of(n, m));
-    let mut memory = vec![in alloc; 0i64; size]?;
-    let (room, block) = cut(memory.as_mut_slice(), pairs);
-    let (row, block) = cut(block, m);
+    let mut memory = vec![in alloc; 0i64; m.saturating_add(room_of(n, m))]?;
+    let (row, block) = cut(memory.as_mut_slice(), m);
     let mut lists = lists_in(n, m, block);
-    let begin = Begin {
-        has_plan,
-        objects,
-        prices,
-    };
-    let mut found = lists.search_in(alloc, problem, &limits, room, row, scale, begin)?;
-    if found.is_none() {
-        scale = problem.full_scale(range);
-        found = lists.search_in(alloc, problem, &limits, room, row, scale, begin)?;
-    }
-    match found {
-        Some(Path::Found) => {
+    let begin = Begin::of(has_plan, objects, prices);
+    let (path, scale) = lists.search(alloc, problem, &limits, row, begin)?;
+    match path {
+        Path::Found => {
             write(&lists, scale, objects, prices);
-            Ok(Ended::Plan(range.margin()))
+            Ok(Ended::Plan(limits.range.margin()))
         }
-        Some(Path::None(turns)) => Ok(Ended::Hall(hall_set_of(alloc, &lists, turns)?)),
-        _ => Ok(Ended::Lost),
+        Path::None(turns) => Ok(Ended::Hall(hall_set_of(alloc, &lists, turns)?)),
+        Path::Long | Path::Lost => Ok(Ended::Lost),
     }
 }
 
