@@ -1,7 +1,7 @@
 //! Plans and prices for costs that are doubles: an untrusted search over whole numbers of 64 bits,
-//! made of the doubles. Squares of many persons begin with what the search of dense problems finds
-//! in fewer bits; squares of up to 12 are tried in doubles first. Sums wrap, and a checker decides
-//! about what it finds.
+//! made of the doubles. Squares of many persons, and rectangles whose paths take long, begin with
+//! what the search of dense problems finds in fewer bits; points on a line are sorted. Squares of up
+//! to 12 are tried in doubles first. Sums wrap, and a checker decides about what it finds.
 #![tactic(auto)]
 
 mod best;

@@ -1,17 +1,20 @@
 // The range of the costs, as a search minimises them.
 use super::cheap::SPAN;
+use super::lanes::{greater_of, least_of, lesser_of};
 use assign_core::Sense;
 use std::simd::prelude::*;
 
 // 2^-52: two doubles up to the greatest one are, together, off by less than this part of it.
 const PART: f64 = 0.0000000000000002220446049250313080847263336181640625;
 
-// The finite costs of a row.
+// So many costs are looked at at once.
+const LANES: usize = 4;
+
+// The least and the greatest cost of each lane.
 #[derive(Clone, Copy)]
-struct RowRange {
-    least: f64,
-    greatest: f64,
-    has_infinite: bool,
+pub struct Ends {
+    least: f64x4,
+    greatest: f64x4,
 }
 
 // The finite costs of all rows.
@@ -24,78 +27,54 @@ pub struct Range {
     pub has_infinite: bool,
 }
 
-// So many costs are looked at at once.
-const LANES: usize = 4;
-
-// The least and the greatest cost of each lane.
-fn ends_of_lanes(lanes: &[[f64; LANES]], sign: f64) -> (f64x4, f64x4) {
-    let mut least = f64x4::splat(f64::INFINITY);
-    let mut greatest = f64x4::splat(f64::NEG_INFINITY);
-    for costs in lanes {
-        let turned = f64x4::from_array(*costs) * f64x4::splat(sign);
-        least = turned.simd_lt(least).select(turned, least);
-        greatest = turned.simd_gt(greatest).select(turned, greatest);
-    }
-    (least, greatest)
+pub fn greater(one: f64, other: f64) -> f64 {
+    if one > other { one } else { other }
 }
 
-fn least_of(lanes: f64x4) -> f64 {
-    let each = lanes.to_array();
-    lesser(lesser(each[0], each[1]), lesser(each[2], each[3]))
+pub fn lesser(one: f64, other: f64) -> f64 {
+    if one < other { one } else { other }
 }
 
 pub fn greatest_of(lanes: f64x4) -> f64 {
-    let each = lanes.to_array();
-    greater(greater(each[0], each[1]), greater(each[2], each[3]))
+    -least_of(-lanes)
 }
 
-// The costs of a row but the last few.
-fn ends_of_most(lanes: &[[f64; LANES]], sign: f64) -> (f64, f64) {
-    if lanes.is_empty() {
-        return (f64::INFINITY, f64::NEG_INFINITY);
-    }
-    let (least, greatest) = ends_of_lanes(lanes, sign);
-    (least_of(least), greatest_of(greatest))
-}
-
-fn range_of_row(row: &[f64], sign: f64) -> RowRange {
-    let (lanes, rest) = row.as_chunks::<LANES>();
-    let (mut least, mut greatest) = ends_of_most(lanes, sign);
-    for cost in rest {
-        let turned = *cost * sign;
-        least = lesser(turned, least);
-        greatest = greater(turned, greatest);
-    }
-    RowRange {
-        least,
-        greatest,
-        has_infinite: greatest == f64::INFINITY,
-    }
-}
-
-impl RowRange {
-    fn joined(self, other: RowRange) -> RowRange {
-        RowRange {
-            least: lesser(self.least, other.least),
-            greatest: greater(self.greatest, other.greatest),
-            has_infinite: self.has_infinite || other.has_infinite,
+impl Ends {
+    fn of_nothing() -> Ends {
+        let least = f64x4::splat(f64::INFINITY);
+        Ends {
+            least,
+            greatest: -least,
         }
     }
-}
 
-// The same, with the least cost of each span.
-fn range_of_spans(row: &[f64], sign: f64, least: &mut [f64]) -> RowRange {
-    let mut range = RowRange {
-        least: f64::INFINITY,
-        greatest: f64::NEG_INFINITY,
-        has_infinite: false,
-    };
-    for (span, least) in row.chunks(SPAN).zip(least.iter_mut()) {
-        let of_span = range_of_row(span, sign);
-        *least = of_span.least;
-        range = range.joined(of_span);
+    pub fn of_zero() -> Ends {
+        let zero = f64x4::splat(0.0);
+        Ends {
+            least: zero,
+            greatest: zero,
+        }
     }
-    range
+
+    #[inline(always)]
+    pub fn with(self, costs: f64x4) -> Ends {
+        Ends {
+            least: lesser_of(costs, self.least),
+            greatest: greater_of(costs, self.greatest),
+        }
+    }
+
+    fn joined(self, other: Ends) -> Ends {
+        Ends {
+            least: lesser_of(other.least, self.least),
+            greatest: greater_of(other.greatest, self.greatest),
+        }
+    }
+
+    // The greatest absolute value.
+    pub fn size(self) -> f64 {
+        greater(greatest_of(self.greatest), -least_of(self.least))
+    }
 }
 
 // The greatest finite cost of each lane.
@@ -109,8 +88,8 @@ fn greatest_of_lanes(lanes: &[[f64; LANES]], sign: f64) -> f64x4 {
     greatest
 }
 
-fn greatest_finite(row: &[f64], sign: f64) -> f64 {
-    let (lanes, rest) = row.as_chunks::<LANES>();
+fn greatest_finite(costs: &[f64], sign: f64) -> f64 {
+    let (lanes, rest) = costs.as_chunks::<LANES>();
     let mut greatest = greatest_of(greatest_of_lanes(lanes, sign));
     for cost in rest {
         let turned = *cost * sign;
@@ -121,61 +100,97 @@ fn greatest_finite(row: &[f64], sign: f64) -> f64 {
     greatest
 }
 
-pub fn greater(one: f64, other: f64) -> f64 {
-    if one > other { one } else { other }
+// The ends of costs in lanes, and of the last few.
+fn ends_of_most(lanes: &[[f64; LANES]], sign: f64) -> Ends {
+    let mut ends = Ends::of_nothing();
+    for costs in lanes {
+        ends = ends.with(f64x4::from_array(*costs) * f64x4::splat(sign));
+    }
+    ends
 }
 
-pub fn lesser(one: f64, other: f64) -> f64 {
-    if one < other { one } else { other }
+fn ends_of(costs: &[f64], sign: f64) -> Ends {
+    let (lanes, rest) = costs.as_chunks::<LANES>();
+    let mut ends = ends_of_most(lanes, sign);
+    for cost in rest {
+        ends = ends.with(f64x4::splat(*cost * sign));
+    }
+    ends
+}
+
+// The same for a row, with the least cost of each span.
+fn ends_of_spans(row: &[f64], sign: f64, least: &mut [f64]) -> Ends {
+    let mut ends = Ends::of_nothing();
+    for (span, least) in row.chunks(SPAN).zip(least.iter_mut()) {
+        let of_span = ends_of(span, sign);
+        *least = least_of(of_span.least);
+        ends = ends.joined(of_span);
+    }
+    ends
+}
+
+// The ends of the rows so far, and the greatest of their least costs.
+#[derive(Clone, Copy)]
+struct Rows {
+    ends: Ends,
+    reach: f64,
+}
+
+impl Rows {
+    fn of_nothing() -> Rows {
+        Rows {
+            ends: Ends::of_nothing(),
+            reach: f64::NEG_INFINITY,
+        }
+    }
+
+    fn with(self, row: Ends) -> Rows {
+        let least = least_of(row.least);
+        let has_any = least < f64::INFINITY;
+        Rows {
+            ends: self.ends.joined(row),
+            reach: if has_any {
+                greater(self.reach, least)
+            } else {
+                self.reach
+            },
+        }
+    }
+
+    fn range(self, costs: &[f64], sign: f64) -> Range {
+        let greatest = greatest_of(self.ends.greatest);
+        let has_infinite = greatest == f64::INFINITY;
+        Range {
+            least: least_of(self.ends.least),
+            greatest: if has_infinite {
+                greatest_finite(costs, sign)
+            } else {
+                greatest
+            },
+            reach: self.reach,
+            has_infinite,
+        }
+    }
 }
 
 impl Range {
-    fn with(self, row: &[f64], of_row: RowRange, sign: f64) -> Range {
-        if of_row.least == f64::INFINITY {
-            return Range {
-                has_infinite: true,
-                ..self
-            };
-        }
-        let greatest = if of_row.has_infinite {
-            greatest_finite(row, sign)
-        } else {
-            of_row.greatest
-        };
-        Range {
-            least: lesser(self.least, of_row.least),
-            greatest: greater(self.greatest, greatest),
-            reach: greater(self.reach, of_row.least),
-            has_infinite: self.has_infinite || of_row.has_infinite,
-        }
-    }
-
-    fn of_nothing() -> Range {
-        Range {
-            least: f64::INFINITY,
-            greatest: f64::NEG_INFINITY,
-            reach: f64::NEG_INFINITY,
-            has_infinite: false,
-        }
-    }
-
     // The range of rows of m costs each; `sign` is -1 where the greatest sum is wanted.
     pub fn of(costs: &[f64], m: usize, sign: f64) -> Range {
-        let mut range = Range::of_nothing();
+        let mut rows = Rows::of_nothing();
         for row in costs.chunks(m.max(1)) {
-            range = range.with(row, range_of_row(row, sign), sign);
+            rows = rows.with(ends_of(row, sign));
         }
-        range
+        rows.range(costs, sign)
     }
 
     // The same, with the least cost of each span of each row.
     pub fn with_least(costs: &[f64], m: usize, sign: f64, least: &mut [f64]) -> Range {
-        let mut range = Range::of_nothing();
+        let mut rows = Rows::of_nothing();
         let parts = least.chunks_mut(m.div_ceil(SPAN).max(1));
         for (row, least) in costs.chunks(m.max(1)).zip(parts) {
-            range = range.with(row, range_of_spans(row, sign, least), sign);
+            rows = rows.with(ends_of_spans(row, sign, least));
         }
-        range
+        rows.range(costs, sign)
     }
 
     // The greatest absolute value of a cost.

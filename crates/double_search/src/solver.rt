@@ -232,7 +232,7 @@ impl<'a> Lists<'a> {
         }
         let scale = problem.scale(limits.range);
         let path = self.search_in(alloc, problem, limits, row, scale, begin)?;
-        if path != Path::Found || !problem.has_cut(self, scale) {
+        if path != Path::Found || !scale.is_cut || !problem.has_cut(self, scale) {
             return Ok((path, scale));
         }
         let path = self.search_in(alloc, problem, limits, row, full, begin)?;

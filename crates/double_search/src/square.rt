@@ -5,8 +5,8 @@ ghost use Rattle.std.specs.Prelude.{◌≡◌, ◌≤◌, length};
 
 use super::best::lowest;
 use super::hall::as_number;
-use super::lanes::{MOST, first_of, greater_of, lesser_of, put_first, row_of, zero_to};
-use super::range::{Range, greatest_of};
+use super::lanes::{MOST, greater_of, lesser_of, put_first, row_of, zero_to};
+use super::range::{Ends, Range, greatest_of};
 use super::small::BIG_COST;
 use super::solver::Problem;
 use std::simd::prelude::*;
@@ -40,27 +40,6 @@ pub struct Square<'a> {
     pub owners: &'a mut [usize],
     // The cost of each person's own object.
     pub own: &'a mut [f64],
-}
-
-// The least and the greatest cost of each lane, and 0.
-#[derive(Clone, Copy)]
-struct Ends {
-    least: f64x4,
-    greatest: f64x4,
-}
-
-impl Ends {
-    fn with(self, costs: f64x4) -> Ends {
-        Ends {
-            least: lesser_of(costs, self.least),
-            greatest: greater_of(costs, self.greatest),
-        }
-    }
-
-    // The greatest absolute value.
-    fn size(self) -> f64 {
-        greatest_of(greater_of(self.greatest, -self.least))
-    }
 }
 
 #[inline(always)]
@@ -103,8 +82,8 @@ fn finite_size(numbers: &[f64]) -> f64 {
     for part in parts {
         let numbers = f64x4::from_array(*part);
         let each = greater_of(numbers, -numbers);
-        let is_greater = each.simd_gt(size) & each.simd_lt(f64x4::splat(f64::INFINITY));
-        size = is_greater.select(each, size);
+        let is_finite = each.simd_lt(f64x4::splat(f64::INFINITY));
+        size = is_finite.select(greater_of(each, size), size);
     }
     greatest_of(size)
 }
@@ -131,30 +110,17 @@ fn bits_to(count: usize) -> u64 {
 impl<'a> Square<'a> {
     #[inline(always)]
     fn read(&mut self, costs: &[f64], sign: f64, width: usize) {
-        let mut ends = Ends {
-            least: f64x4::splat(0.0),
-            greatest: f64x4::splat(0.0),
-        };
+        let mut ends = Ends::of_zero();
         let rows = costs.chunks(self.persons.max(1));
         for (row, to) in rows.zip(self.rows.chunks_mut(width.max(1))) {
             ends = read_row(row, to, sign, ends);
         }
-        let size = ends.size();
-        if size == f64::INFINITY {
-            self.cap();
-        } else {
-            self.size = size;
+        self.size = ends.size();
+        if self.size == f64::INFINITY {
+            self.size = finite_size(self.rows);
+            self.big_cost = self.size * BIG_COST;
+            cap_all(self.rows, self.big_cost);
         }
-    }
-
-    // Pairs that aren't allowed cost more than others.
-    fn cap(&mut self) {
-        let rows = &*self.rows;
-        let size = finite_size(rows);
-        let big_cost = size * BIG_COST;
-        self.size = size;
-        self.big_cost = big_cost;
-        cap_all(self.rows, big_cost);
     }
 
     #[inline(always)]

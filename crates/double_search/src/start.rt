@@ -40,8 +40,9 @@ impl<'a> Lists<'a> {
         own < FAR && own <= least_of_row(row, duals)
     }
 
-    // Takes objects from the persons that have a better one. Returns from how many.
-    pub fn settle(&mut self, rows: &mut Rows<'_>) -> usize {
+    // Takes objects from the persons that have a better one, up to one more than so many. Returns from
+    // how many.
+    pub fn settle(&mut self, rows: &mut Rows<'_>, most: usize) -> usize {
         let mut count = 0usize;
         for person in 0..self.objects.len() {
             let own = at(self.objects, person);
@@ -50,6 +51,9 @@ impl<'a> Lists<'a> {
                 self.take(person);
                 put(self.owners, object, NOBODY);
                 count = count.wrapping_add(1);
+                if count > most {
+                    return count;
+                }
             }
         }
         count
@@ -72,7 +76,7 @@ impl<'a> Lists<'a> {
 
     // A search from the duals and the plan that there are.
     pub fn search_warm(&mut self, rows: &mut Rows<'_>) -> Path {
-        let _ = self.settle(rows);
+        let _ = self.settle(rows, usize::MAX);
         let path = self.augment_all(rows, usize::MAX);
         if path == Path::Found && !self.are_unowned_on_top() {
             return self.search_cold(rows, usize::MAX);
@@ -108,7 +112,7 @@ impl<'a> Lists<'a> {
     // objects could leave these unowned below the greatest dual.
     fn search_owned(&mut self, rows: &mut Rows<'_>) {
         self.put_unowned(FAR.wrapping_neg());
-        let _ = self.settle(rows);
+        let _ = self.settle(rows, usize::MAX);
         let _ = self.augment_all(rows, usize::MAX);
         let top = self.top_dual();
         self.put_unowned(top);
@@ -120,7 +124,7 @@ impl<'a> Lists<'a> {
         if has_unowned {
             self.search_owned(rows);
         }
-        let is_exact = self.settle(rows) == 0 && self.are_all_right();
+        let is_exact = self.settle(rows, usize::MAX) == 0 && self.are_all_right();
         if is_exact && !has_unowned {
             return Path::Found;
         }
