@@ -1,7 +1,5 @@
 // Bids: a person takes its best object and lowers its dual until the second best is as good; the
 // person that owned it bids next (the augmenting row reduction of Jonker and Volgenant, 1987).
-ghost use Rattle.std.specs.Prelude.{◌≡◌, length};
-
 use super::best::first_unowned;
 use super::lists::{Lists, NOBODY, at, place_of, put};
 use super::rows::Rows;
@@ -74,29 +72,22 @@ impl<'a> Lists<'a> {
 }
 
 // The lesser of a dual and a cost, for each object.
-fn lower(row: &[i64], duals: &mut [i64])
-    requires { length duals.old ≡ length row.now }
-{
-    for k in 0..row.len() {
-        duals[k] = duals[k].min(row[k]);
+fn lower(row: &[i64], duals: &mut [i64]) {
+    for (dual, cost) in duals.iter_mut().zip(row) {
+        *dual = (*cost).min(*dual);
     }
 }
 
 fn show_unlisted(duals: &mut [i64]) {
-    for k in 0..duals.len() {
-        if duals[k] >= FAR {
-            duals[k] = 0;
-        }
+    for dual in duals.iter_mut() {
+        *dual = if *dual >= FAR { 0 } else { *dual };
     }
 }
 
 // First duals of as many objects as persons: the least cost of each object.
 pub fn begin_with_least(costs: &[i64], duals: &mut [i64]) {
-    let m = duals.len();
-    for row in costs.chunks(m.max(1)) {
-        if row.len() == m {
-            lower(row, duals);
-        }
+    for row in costs.chunks(duals.len().max(1)) {
+        lower(row, duals);
     }
     show_unlisted(duals);
 }

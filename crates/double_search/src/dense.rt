@@ -115,8 +115,7 @@ impl<'a> Lists<'a> {
         to_whole(problem.costs, room, narrow);
         if !self.begin_narrow(alloc, problem, room, narrow.forbidden, shift)? {
             let mut rows = problem.listed(room, scale);
-            let path = self.search_cold(&mut rows, usize::MAX);
-            return Ok(self.with_margin(&mut rows, scale, path));
+            return Ok(self.search_cold(&mut rows, scale, usize::MAX));
         }
         let mut rows = Rows::Made(problem.made(row, scale));
         if self.spread(&mut rows, scale, 1i64.wrapping_shl(shift)) {

@@ -1,7 +1,5 @@
 // Prices at which each other pair is worse by a margin: small steps on the prices of owned objects,
 // by longest paths among the near pairs.
-ghost use Rattle.std.specs.Prelude.{◌≡◌, length};
-
 use super::lists::{Lists, at, copy, fill, number_of, place_of, put};
 use super::near::Nearness;
 use super::rows::Rows;
@@ -21,11 +19,9 @@ fn on_grid(number: i64, grid: i64) -> i64 {
 }
 
 // The nearest numbers of the grid.
-fn to_grid(numbers: &[i64], nearest: &mut [i64], grid: i64)
-    requires { length nearest.old ≡ length numbers.now }
-{
-    for k in 0..numbers.len() {
-        nearest[k] = on_grid(numbers[k], grid);
+fn to_grid(numbers: &[i64], nearest: &mut [i64], grid: i64) {
+    for (number, to) in numbers.iter().zip(nearest.iter_mut()) {
+        *to = on_grid(*number, grid);
     }
 }
 
@@ -38,9 +34,7 @@ impl<'a> Lists<'a> {
     fn begin_keys(&mut self, grid: i64) {
         let duals = &mut *self.duals;
         let keys = &mut *self.keys;
-        if duals.len() == keys.len() {
-            to_grid(duals, keys, grid);
-        }
+        to_grid(duals, keys, grid);
     }
 
     // The greatest dual.
@@ -68,13 +62,6 @@ impl<'a> Lists<'a> {
         }
         fill(self.levels, 0);
         true
-    }
-
-    // Puts the keys in place of the duals.
-    fn enter_keys(&mut self) {
-        let keys = &mut *self.keys;
-        let duals = &mut *self.duals;
-        copy(keys, duals);
     }
 
     // The steps that a person's near pairs need. Returns whether somebody waits for a further look by
@@ -215,27 +202,20 @@ impl<'a> Lists<'a> {
         self.begin_steps(bounds) && self.step_by_order(bounds) && self.step_on(bounds)
     }
 
+    // Puts the keys, less the steps, in place of the duals.
     fn enter_steps(&mut self) {
         for person in 0..self.objects.len() {
             let object = place_of(at(self.objects, person));
             let dual = at(self.keys, object).wrapping_sub(at(self.levels, person));
             put(self.keys, object, dual);
         }
+        let keys = &mut *self.keys;
+        let duals = &mut *self.duals;
+        copy(keys, duals);
     }
 
     // Duals at which each near pair is worse by its margin, in place of these, which may be off by
     // so many units. Returns whether there are any.
-    fn spread_by(&mut self, rows: &mut Rows<'_>, bounds: Bounds, nearness: Nearness) -> bool {
-        self.begin_keys(bounds.grid);
-        if !self.gather_near(rows, nearness) || !self.take_steps(bounds) {
-            return false;
-        }
-        self.enter_steps();
-        self.enter_keys();
-        true
-    }
-
-    // The same for a margin.
     fn spread_of(
         &mut self,
         rows: &mut Rows<'_>,
@@ -262,7 +242,12 @@ impl<'a> Lists<'a> {
                 self.objects.len().saturating_mul(3).saturating_add(16)
             },
         };
-        self.spread_by(rows, bounds, nearness)
+        self.begin_keys(bounds.grid);
+        if !self.gather_near(rows, nearness) || !self.take_steps(bounds) {
+            return false;
+        }
+        self.enter_steps();
+        true
     }
 
     // Duals at which each other pair is worse by the margin that is wanted, or else each one whose

@@ -137,8 +137,7 @@ impl<'a> Lists<'a> {
         self.enter_plan(scale, begin);
         let mut room = vec![in alloc; 0i64; problem.costs.len()]?;
         let mut rows = problem.listed(room.as_mut_slice(), scale);
-        let path = self.search_warm(&mut rows);
-        Ok(self.with_margin(&mut rows, scale, path))
+        Ok(self.search_warm(&mut rows, scale))
     }
 
     // A search over cheap pairs, where few pairs are cheap. Returns whether it found a plan.
@@ -153,12 +152,10 @@ impl<'a> Lists<'a> {
         let Some(cheap) = limits.cheap_pairs(alloc, problem, scale)? else {
             return Ok(false);
         };
-        let costs = problem.costs;
-        let doubles = Doubles { costs, row, scale };
+        let doubles = problem.made(row, scale);
         let cheap = &cheap;
         let mut rows = Rows::Cheap(CheapRows { cheap, doubles });
-        let path = self.search_cold(&mut rows, usize::MAX);
-        Ok(self.with_margin(&mut rows, scale, path) == Path::Found)
+        Ok(self.search_cold(&mut rows, scale, usize::MAX) == Path::Found)
     }
 
     // A search of persons and objects in order. Returns whether they have one.
@@ -189,9 +186,9 @@ impl<'a> Lists<'a> {
         let room = memory.as_mut_slice();
         if !problem.is_dense() {
             let mut rows = problem.listed(room, scale);
-            let path = self.search_cold(&mut rows, problem.most_scans());
+            let path = self.search_cold(&mut rows, scale, problem.most_scans());
             if path != Path::Long {
-                return Ok(self.with_margin(&mut rows, scale, path));
+                return Ok(path);
             }
         }
         self.search_dense(alloc, problem, room, row, scale)
@@ -240,7 +237,6 @@ impl<'a> Lists<'a> {
     }
 }
 
-// A search for persons, no more than there are objects.
 fn search_by(
     alloc: Global,
     problem: Problem<'_>,
@@ -251,6 +247,9 @@ fn search_by(
     ensures objects { length objects.new ≡ length objects.old }
     ensures prices { length prices.new ≡ length prices.old }
 {
+    if problem.persons > problem.objects {
+        return Ok(Ended::Hall(all_persons(alloc, problem)?));
+    }
     let limits = Limits::of(alloc, problem)?;
     let (n, m) = (problem.persons, problem.objects);
     let mut memory = vec![in alloc; 0i64; m.saturating_add(room_of(n, m))]?;
@@ -283,9 +282,6 @@ pub fn search(
     ensures objects { length objects.new ≡ length objects.old }
     ensures prices { length prices.new ≡ length prices.old }
 {
-    if problem.persons > problem.objects {
-        return Ok(Ended::Hall(all_persons(alloc, problem)?));
-    }
     match problem.solve_small(objects, prices) {
         Some(margin) => Ok(Ended::Plan(margin)),
         None => search_by(alloc, problem, false, objects, prices),
@@ -306,8 +302,5 @@ pub fn search_from(
     ensures objects { length objects.new ≡ length objects.old }
     ensures prices { length prices.new ≡ length prices.old }
 {
-    if problem.persons > problem.objects {
-        return Ok(Ended::Hall(all_persons(alloc, problem)?));
-    }
     search_by(alloc, problem, true, objects, prices)
 }

@@ -25,11 +25,12 @@ impl<'a> Lists<'a> {
     }
 
     // A search from nothing, unless its paths can be expected to take more scans than so many.
-    pub fn search_cold(&mut self, rows: &mut Rows<'_>, most: usize) -> Path {
+    pub fn search_cold(&mut self, rows: &mut Rows<'_>, scale: Scale, most: usize) -> Path {
         self.release_all();
         self.begin_duals(rows);
         self.bid_all(rows);
-        self.augment_all(rows, most)
+        let path = self.augment_all(rows, most);
+        self.with_margin(rows, scale, path)
     }
 
     // Whether a person's own object is a best one.
@@ -75,13 +76,13 @@ impl<'a> Lists<'a> {
     }
 
     // A search from the duals and the plan that there are.
-    pub fn search_warm(&mut self, rows: &mut Rows<'_>) -> Path {
+    pub fn search_warm(&mut self, rows: &mut Rows<'_>, scale: Scale) -> Path {
         let _ = self.settle(rows, usize::MAX);
         let path = self.augment_all(rows, usize::MAX);
         if path == Path::Found && !self.are_unowned_on_top() {
-            return self.search_cold(rows, usize::MAX);
+            return self.search_cold(rows, scale, usize::MAX);
         }
-        path
+        self.with_margin(rows, scale, path)
     }
 
     // Other duals with a margin, where a plan was found.
@@ -128,12 +129,10 @@ impl<'a> Lists<'a> {
         if is_exact && !has_unowned {
             return Path::Found;
         }
-        let path = if is_exact {
-            Path::Found
-        } else {
-            self.search_warm(rows)
-        };
-        self.with_margin(rows, scale, path)
+        if is_exact {
+            return self.with_margin(rows, scale, Path::Found);
+        }
+        self.search_warm(rows, scale)
     }
 
     // Paths from few persons without an object, at most a sixteenth of all or one, where the others
