@@ -48,6 +48,7 @@ pub fn last_bits(sum: f64) -> i64 {
 }
 
 // The whole numbers in the last bits of sums with the number above.
+#[inline(always)]
 pub fn last_bits_of(sums: f64x4) -> i64x4 {
     let numbers = sums.simd_eq(sums).select(sums, f64x4::splat(MAGIC));
     let bits = numbers.to_bits().to_array();
@@ -86,6 +87,7 @@ impl Form {
     }
 
     // Costs of at least the limit.
+    #[inline(always)]
     fn above(self, costs: f64x4) -> i64x4 {
         let is_infinite = costs.simd_eq(f64x4::splat(f64::INFINITY))
             | costs.simd_eq(f64x4::splat(f64::NEG_INFINITY));
@@ -93,6 +95,7 @@ impl Form {
     }
 
     // The whole numbers of coarse units.
+    #[inline(always)]
     fn whole_of_coarse(self, coarse: f64x4) -> i64x4 {
         let magic = f64x4::splat(MAGIC);
         let sum = coarse + magic;
