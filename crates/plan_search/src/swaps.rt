@@ -79,9 +79,11 @@ fn own_costs(alloc: Global, best: Best<'_>) -> Result<Vec<Cost>, AllocError> {
 }
 
 // How many of these plans are to cost less than the bound: about the root of what is wanted, since
-// other plans are below it too, and the more of them, the more are wanted.
-fn few_of(count: usize) -> usize {
+// other plans are below it too, and the more of them, the more are wanted. Where there are many costs
+// most others are.
+fn few_of(count: usize, costs: usize) -> usize {
     let mut few = 1usize;
+    let count = if costs > FEW_COSTS { count / 8 } else { count };
     for _ in 0..usize::BITS {
         if few.saturating_mul(few) >= count {
             break;
@@ -91,8 +93,12 @@ fn few_of(count: usize) -> usize {
     few
 }
 
-// More costs are looked at by the cores alone, of which the first ones take little time then.
-const MOST_COSTS: usize = 1 << 10;
+// More costs are looked at by the cores alone, of which the first ones take little time then: with 80
+// rows a look at all takes longer than these.
+const MOST_COSTS: usize = 1 << 12;
+
+// Up to so many costs a plan near the best one mostly changes two persons.
+const FEW_COSTS: usize = 1 << 10;
 
 /// A bound of reduced costs below which there may be so many plans besides the best one. It is the least
 /// one where looking for another takes long, and the greatest where there are few plans.
@@ -113,7 +119,7 @@ pub fn first_bound(
         best,
         owners: owners_of(alloc, best.objects, best.prices.len())?,
         own: own_costs(alloc, best)?,
-        least: Least::new(alloc, few_of(count)),
+        least: Least::new(alloc, few_of(count, costs.len())),
         most: Cost::MAX,
     };
     swaps.add_rows()?;
