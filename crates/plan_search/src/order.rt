@@ -23,6 +23,10 @@ pub struct Order {
     most: Cost,
     /// The least costs of plans that are known, up to that number.
     costs: Least,
+    /// The rows by which parts may be split further, of each part in their order, after bounds on the costs
+    /// of what that gives, negated, and numbers that fall in the order of the first columns; and before
+    /// these columns.
+    splits: Vec<(Cost, usize, usize, usize)>,
     /// The least reduced weight of a pair of each column, of the rows after one; and that of each of these
     /// rows with a column that isn't its own.
     entering: Vec<Cost>,
@@ -40,6 +44,7 @@ impl Order {
             count,
             most,
             costs: Least::new(alloc, count),
+            splits: Vec::new(alloc),
             entering: vec![in alloc; Cost::MAX; inner.columns()]?,
             leaving: vec![in alloc; Cost::MAX; inner.rows().wrapping_add(1)]?,
             cheapest: Cheapest::new(alloc, inner)?,
@@ -190,14 +195,20 @@ impl Order {
     // Bounds the costs of the plans that differ from one first in this row.
     fn bound(&mut self, inner: &Inner, place: usize, row: usize) -> Result<(), AllocError> {
         let (least, next) = self.enter(inner, place, row);
-        let Some(part) = self.parts.get_mut(place) else {
+        let Some(part) = self.parts.get(place) else {
             return Ok(());
         };
         let cost = least.saturating_add(part.cost());
         if cost > self.most {
             return Ok(());
         }
-        part.add_split(cost, row, next)
+        let number = if least > 0 && next < part.column(row) {
+            inner.rows().wrapping_mul(2).wrapping_sub(row)
+        } else {
+            row
+        };
+        self.splits.push((cost.wrapping_neg(), number, row, next))?;
+        Ok(())
     }
 
     // Adds the next part of the plans that differ from one.
@@ -205,9 +216,11 @@ impl Order {
         let Some(part) = self.parts.get_mut(place) else {
             return Ok(());
         };
-        let Some((cost, row, next)) = part.next_split() else {
+        let Some(split) = part.next_split() else {
             return Ok(());
         };
+        let (negated, _, row, next) = value_at(self.splits.as_slice(), split, (0, 0, 0, 0));
+        let cost = negated.wrapping_neg();
         self.push(cost, Stage::Bound, (place, row), (row, Some(next)))
     }
 
@@ -216,14 +229,18 @@ impl Order {
         for least in self.entering.iter_mut() {
             *least = Cost::MAX;
         }
+        let start = self.splits.len();
         let _nobody = self.enter(inner, place, inner.rows());
         let mut row = inner.rows();
         for _ in first..inner.rows() {
             row = row.wrapping_sub(1);
             self.bound(inner, place, row)?;
         }
+        let end = self.splits.len();
+        let (_, splits) = self.splits.as_mut_slice().split_at_mut(start.min(end));
+        splits.sort_unstable();
         if let Some(part) = self.parts.get_mut(place) {
-            part.sort_splits();
+            part.set_splits(start, end);
         }
         Ok(())
     }

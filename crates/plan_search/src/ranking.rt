@@ -46,8 +46,8 @@ struct Searched {
 // The core is made wider so often at most.
 const MOST_CORES: usize = 128;
 
-// The bound of the next core, after one with too few plans. Their number grows about as the square
-// of the bound, or somewhat less.
+// The bound of the next core, after one with so many plans: their number grows about as its square, or
+// somewhat less. The first core has plans of one cost.
 fn wider(
     alloc: Global,
     core: &Arcs,
@@ -56,16 +56,17 @@ fn wider(
     count: usize,
 ) -> Result<Cost, AllocError> {
     let least = core.bound_above(alloc, 4)?.saturating_add(1);
-    let quarters = if bound == 1 {
-        0
-    } else if found >= count / 2 {
-        6
-    } else if found >= count / 4 {
-        9
-    } else {
-        16
-    };
-    Ok(least.max((bound / 4).saturating_add(1).saturating_mul(quarters)))
+    if bound == 1 {
+        return Ok(least);
+    }
+    let (wanted, mut quarters) = (count.saturating_mul(16), 5u32);
+    for more in 6..17 {
+        let square = quarters.wrapping_mul(quarters) as usize;
+        if found.saturating_mul(square) < wanted {
+            quarters = more;
+        }
+    }
+    Ok(least.max(bound.saturating_mul(Cost::from(quarters)) / 4))
 }
 
 // The first plans of the core below a bound.
