@@ -4,54 +4,20 @@ use super::part::Part;
 use super::values::{set_value, value_at};
 use std::alloc::{AllocError, Global};
 
-/// Rows that a search has met, from one end.
-#[derive(Drop)]
-struct Side {
-    /// In which search each row was met last.
-    met: Vec<usize>,
-    /// Rows whose pairs weren't looked at yet.
-    ahead: Vec<usize>,
-    /// By which column each row was met.
-    by: Vec<usize>,
-}
-
-impl Side {
-    fn new(alloc: Global, rows: usize) -> Result<Side, AllocError> {
-        Ok(Side {
-            met: vec![in alloc; 0usize; rows]?,
-            ahead: Vec::new(alloc),
-            by: vec![in alloc; 0usize; rows]?,
-        })
-    }
-
-    fn has_met(&self, row: usize, count: usize) -> bool {
-        value_at(self.met.as_slice(), row, 0) == count
-    }
-
-    fn by(&self, row: usize) -> usize {
-        value_at(self.by.as_slice(), row, 0)
-    }
-
-    // Meets a row by a column.
-    fn meet(&mut self, row: usize, column: usize, count: usize) -> Result<(), AllocError> {
-        set_value(self.met.as_mut_slice(), row, count);
-        set_value(self.by.as_mut_slice(), row, column);
-        self.ahead.push(row)?;
-        Ok(())
-    }
-}
-
-/// A search along the pairs of reduced weight 0, from both ends of a way: from the holder of a column
-/// that a first row is to take, and from the column that this row gives up.
+/// A search along the pairs of reduced weight 0: from the holder of a column that a first row is to take,
+/// to a row that can take the one that the first gives up.
 #[derive(Drop)]
 pub struct Earliest {
-    /// How many searches there were.
+    /// For how many rows was searched, and for which of them each row was met last.
     count: usize,
-    /// Rows that must give up a column, and the rows that take these.
-    forth: Side,
+    met: Vec<usize>,
+    /// The same of the rows that can take its column.
+    takers: Vec<usize>,
+    /// Rows whose pairs weren't looked at yet.
+    ahead: Vec<usize>,
+    /// The row that takes the column of each row that was met, and this column.
     from: Vec<usize>,
-    /// Rows that can take a column, so that the one given up is taken in the end.
-    back: Side,
+    by: Vec<usize>,
 }
 
 impl Earliest {
@@ -59,116 +25,62 @@ impl Earliest {
         let rows = inner.rows().wrapping_add(1);
         Ok(Earliest {
             count: 0,
-            forth: Side::new(alloc, rows)?,
+            met: vec![in alloc; 0usize; rows]?,
+            takers: vec![in alloc; 0usize; rows]?,
+            ahead: Vec::new(alloc),
             from: vec![in alloc; 0usize; rows]?,
-            back: Side::new(alloc, rows)?,
+            by: vec![in alloc; 0usize; rows]?,
         })
     }
 
-    // Looks at the pairs of a row that must give up a column. Returns a row that was met from both ends.
-    fn go_forth(
-        &mut self,
-        inner: &Inner,
-        part: &Part,
-        first: usize,
-        row: usize,
-    ) -> Result<Option<usize>, AllocError> {
-        for pair in inner.start(row)..inner.end(row) {
-            let column = inner.column(pair);
-            let holder = part.holder(column);
-            if holder > first
-                && holder != row
-                && !self.forth.has_met(holder, self.count)
-                && part.reduced(inner, row, pair) == 0
-            {
-                set_value(self.from.as_mut_slice(), holder, row);
-                self.forth.meet(holder, column, self.count)?;
-                if self.back.has_met(holder, self.count) {
-                    return Ok(Some(holder));
-                }
-            }
-        }
-        Ok(None)
-    }
-
-    // Looks at the rows that can take a column. Returns a row that was met from both ends.
-    fn take(
-        &mut self,
-        inner: &Inner,
-        part: &Part,
-        first: usize,
-        column: usize,
-    ) -> Result<Option<usize>, AllocError> {
-        let holder = part.holder(column);
-        for place in inner.taker_start(column)..inner.taker_start(column.wrapping_add(1)) {
+    // Begins with the rows that can take the column of a first one; returns whether there are any.
+    fn begin(&mut self, inner: &Inner, part: &Part, first: usize) -> bool {
+        let (own, mut is_wanted) = (part.column(first), false);
+        self.count = self.count.wrapping_add(1);
+        for place in inner.taker_start(own)..inner.taker_start(own.wrapping_add(1)) {
             let (row, pair) = inner.taker(place);
-            if row > first
-                && row != holder
-                && !self.back.has_met(row, self.count)
-                && part.reduced(inner, row, pair) == 0
-            {
-                self.back.meet(row, column, self.count)?;
-                if self.forth.has_met(row, self.count) {
-                    return Ok(Some(row));
-                }
+            if row > first && part.reduced(inner, row, pair) == 0 {
+                set_value(self.takers.as_mut_slice(), row, self.count);
+                is_wanted = true;
             }
         }
-        Ok(None)
+        is_wanted
     }
 
-    // Looks at the columns of a row that can take another one.
-    fn go_back(
+    fn has_met(&self, row: usize) -> bool {
+        value_at(self.met.as_slice(), row, 0) == self.count
+    }
+
+    // Meets the row whose column another one takes; returns whether it can take that of the first.
+    fn meet(&mut self, row: usize, from: usize, column: usize) -> Result<bool, AllocError> {
+        set_value(self.met.as_mut_slice(), row, self.count);
+        set_value(self.from.as_mut_slice(), row, from);
+        set_value(self.by.as_mut_slice(), row, column);
+        self.ahead.push(row)?;
+        Ok(value_at(self.takers.as_slice(), row, 0) == self.count)
+    }
+
+    // Looks at the pairs of a row that must give up a column. Returns a row that can take that of the first.
+    fn look(
         &mut self,
         inner: &Inner,
         part: &Part,
         first: usize,
         row: usize,
     ) -> Result<Option<usize>, AllocError> {
-        if row < inner.rows() {
-            return self.take(inner, part, first, part.column(row));
-        }
-        for pair in inner.start(row)..inner.end(row) {
-            let column = inner.column(pair);
-            if part.holder(column) == row {
-                let met = self.take(inner, part, first, column)?;
-                if met.is_some() {
-                    return Ok(met);
-                }
+        let value = part.value(row);
+        let (columns, weights) = inner.pairs(row);
+        for (column, weight) in columns.iter().zip(weights.iter()) {
+            let holder = part.holder(*column);
+            let is_next = holder > first && part.sum(*column, *weight) == value;
+            if is_next && !self.has_met(holder) && self.meet(holder, row, *column)? {
+                return Ok(Some(holder));
             }
         }
         Ok(None)
     }
 
-    // A row that was met from both ends, if there is a way.
-    fn meet_between(
-        &mut self,
-        inner: &Inner,
-        part: &Part,
-        first: usize,
-        arc_scans: &mut u64,
-    ) -> Result<Option<usize>, AllocError> {
-        for _ in 0..inner.rows().wrapping_add(2) {
-            let Some(forth) = self.forth.ahead.pop() else {
-                return Ok(None);
-            };
-            let width = inner.end(forth).saturating_sub(inner.start(forth));
-            *arc_scans = arc_scans.saturating_sub((width as u64).saturating_mul(2));
-            let met = self.go_forth(inner, part, first, forth)?;
-            if met.is_some() {
-                return Ok(met);
-            }
-            let Some(back) = self.back.ahead.pop() else {
-                return Ok(None);
-            };
-            let met = self.go_back(inner, part, first, back)?;
-            if met.is_some() {
-                return Ok(met);
-            }
-        }
-        Ok(None)
-    }
-
-    // Whether the first row can take a column: by a row that was met from both ends.
+    // The row that takes the column of the first one, if this can take a column.
     fn search(
         &mut self,
         inner: &Inner,
@@ -178,39 +90,37 @@ impl Earliest {
         arc_scans: &mut u64,
     ) -> Result<Option<usize>, AllocError> {
         let holder = part.holder(column);
-        if self.forth.has_met(holder, self.count) {
+        if self.has_met(holder) {
             return Ok(None);
         }
-        self.forth.ahead.clear();
-        set_value(self.from.as_mut_slice(), holder, first);
-        self.forth.meet(holder, column, self.count)?;
-        if self.back.has_met(holder, self.count) {
+        self.ahead.clear();
+        if self.meet(holder, first, column)? {
             return Ok(Some(holder));
         }
-        self.meet_between(inner, part, first, arc_scans)
+        for _ in 0..inner.rows().wrapping_add(1) {
+            let Some(row) = self.ahead.pop() else {
+                return Ok(None);
+            };
+            let width = inner.end(row).saturating_sub(inner.start(row));
+            *arc_scans = arc_scans.saturating_sub(width as u64);
+            let last = self.look(inner, part, first, row)?;
+            if last.is_some() {
+                return Ok(last);
+            }
+        }
+        Ok(None)
     }
 
-    // Gives the columns of a way through a row to those that take them.
-    fn give(&self, part: &mut Part, first: usize, between: usize) {
-        let own = part.column(first);
-        let mut row = between;
+    // Gives the columns of a way to those that take them, from the row that takes that of the first.
+    fn give(&self, part: &mut Part, first: usize, last: usize) {
+        let (mut row, mut column) = (last, part.column(first));
         for _ in 0..self.from.len() {
-            let column = self.back.by(row);
-            let holder = part.holder(column);
-            part.give(row, column);
-            if column == own {
-                break;
-            }
-            row = holder;
-        }
-        row = between;
-        for _ in 0..self.from.len() {
-            let column = self.forth.by(row);
-            row = value_at(self.from.as_slice(), row, first);
             part.give(row, column);
             if row == first {
                 break;
             }
+            column = value_at(self.by.as_slice(), row, 0);
+            row = value_at(self.from.as_slice(), row, first);
         }
     }
 
@@ -222,32 +132,23 @@ impl Earliest {
         row: usize,
         arc_scans: &mut u64,
     ) -> Result<(), AllocError> {
-        let own = part.column(row);
-        let mut is_begun = false;
-        for pair in inner.start(row)..inner.end(row) {
-            let column = inner.column(pair);
-            if column >= own {
+        let (own, value, mut is_begun) = (part.column(row), part.value(row), false);
+        let (columns, weights) = inner.pairs(row);
+        for (column, weight) in columns.iter().zip(weights.iter()) {
+            if *column >= own {
                 return Ok(());
             }
-            if part.reduced(inner, row, pair) == 0 && part.allows(row, column) {
-                if !is_begun {
-                    self.begin(inner, part, row)?;
-                    is_begun = true;
+            if part.sum(*column, *weight) == value && part.allows(row, *column) {
+                if !is_begun && !self.begin(inner, part, row) {
+                    return Ok(());
                 }
-                if let Some(between) = self.search(inner, part, row, column, arc_scans)? {
-                    self.give(part, row, between);
+                is_begun = true;
+                if let Some(last) = self.search(inner, part, row, *column, arc_scans)? {
+                    self.give(part, row, last);
                     return Ok(());
                 }
             }
         }
-        Ok(())
-    }
-
-    // Begins at the column that a row gives up.
-    fn begin(&mut self, inner: &Inner, part: &Part, row: usize) -> Result<(), AllocError> {
-        self.count = self.count.wrapping_add(1);
-        self.back.ahead.clear();
-        let _none = self.take(inner, part, row, part.column(row))?;
         Ok(())
     }
 
