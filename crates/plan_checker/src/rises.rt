@@ -28,7 +28,7 @@ pub struct Plan<'a> {
 
 // Whether a sum of cost and price is below another one and the bound.
 #[inline(always)]
-fn is_below(sum: Cost, own_sum: Cost, bound: Cost) -> bool
+pub fn is_below(sum: Cost, own_sum: Cost, bound: Cost) -> bool
     requires sum { IsSum sum }
     requires own_sum { IsSum own_sum }
     ensures { IsTrue result ↔ (sum <ℤ (own_sum +ℤ bound)) }

@@ -1,5 +1,5 @@
 -- An optimum as it is read, and pairs compared with the own ones of their persons.
-use Rattle.std.specs.Prelude.{◌≡◌, ◌≢◌, ◌⊎◌, ◌-◌, ◌+◌, ◌*◌, ℕ, ℤ, pos, neg_ℤ, ◌+ℤ◌, ◌≤ℤ◌, ◌<ℤ◌, ◌<◌, List, Bool, length, slice_index_or, All}
+use Rattle.std.specs.Prelude.{◌≡◌, ◌≢◌, ◌⊎◌, ◌-◌, ◌+◌, ◌*◌, ℕ, ℤ, pos, neg_ℤ, ◌+ℤ◌, ◌≤ℤ◌, ◌<ℤ◌, ◌<◌, ◌≤◌, List, Bool, length, slice_index_or, All}
 use Rattle.assign_core.specs.declared.numbers.TheConstants.{GREATEST_COST}
 use Rattle.assign_core.specs.Numbered.{IsMarked, IsNumber}
 use Rattle.assign_core.specs.Rows.{IsCost}
@@ -76,6 +76,14 @@ pub record RisesLater (p : Plan) (i k : ℕ) (cost : ℤ) : Type 0 where
 abbrev pub Rises : Plan → ℕ → ℕ → ℤ → Type 0
 Rises p i k cost =
     (minimised p.sense cost +ℤ price_at p k) <ℤ (sum_at p i +ℤ p.bound) → k ≢ object_at p i → RisesLater p i k cost
+
+-- from one place of a row up to another each sum of cost and price is above a sum by the bound
+abbrev pub AllReach : Plan → List ℤ → ℤ → ℕ → ℕ → Type 0
+AllReach p row sum from to = (k : ℕ) → k < to → from ≤ k → (sum +ℤ p.bound) ≤ℤ (minimised p.sense (slice_index_or row k (pos 0)) +ℤ price_at p (k + 1))
+
+-- the objects of a row of person i from one place up to another
+abbrev pub PartRises : Plan → ℕ → List ℤ → ℕ → ℕ → Type 0
+PartRises p i row from to = (j : ℕ) → j < to → from ≤ j → Rises p i (j + 1) (slice_index_or row j (pos 0))
 
 -- the objects of a row of costs, of person i
 abbrev pub RowRises : Plan → ℕ → List ℤ → Type 0

@@ -1,16 +1,24 @@
-use Rattle.std.proofs.Common.{pos, below_more, get_or, rules, sym, ◌∙◌, SFits, w64}
+use Rattle.std.proofs.Common.{arith, sym, ◌∙◌}
 use mathlib.Core.Bool.{true≢false}
-use Rattle.std.proofs.lemmas.Int.{to_z-of_z}
+use Rattle.plan_checker.proofs.Parts.{parts_rise}
 use Rattle.plan_checker.proofs.rows.row_rises.Goals as goal
 
-pub returns-then-not-pair_rises : goal.returns-then-not-pair_rises
-returns-then-not-pair_rises c =
-    let f : SFits w64 (get_or c.args.row.now c.loop-j.j (pos 0)) = search rules in
-    let here = simp to_z-of_z at c.pair_rises.ensures in
-    ((λ e. absurd (true≢false (sym e))), (λ all. absurd (true≢false (sym (here.1 (all c.loop-j.j c.loop-j-test.true)) ∙ c.if-not-pair_rises.true))))
+pub returns-then-not-block_rises : goal.returns-then-not-block_rises
+returns-then-not-block_rises c = (
+  (λ e. absurd (true≢false (sym e))),
+  (λ all. absurd (true≢false (sym (c.block_rises.ensures.1 (λ j lt from. all j (omega arith))) ∙ c.if-not-block_rises.true))),
+)
 
-pub loop-j-preserved : goal.loop-j-preserved
-loop-j-preserved c =
-    let f : SFits w64 (get_or c.args.row.now c.loop-j.j (pos 0)) = search rules in
-    let here = simp to_z-of_z at c.pair_rises.ensures in
-    below_more _ _ c.loop-j.invariant (here.0 c.if-not-pair_rises.false)
+pub loop-at-preserved : goal.loop-at-preserved
+loop-at-preserved c = record {
+  within = omega arith;
+  rise = parts_rise c.args.plan c.args.person c.args.row.now c.loop-at.at _ c.loop-at.invariant.rise
+      (c.block_rises.ensures.0 c.if-not-block_rises.false);
+}
+
+pub returns : goal.returns
+returns c = (
+  (λ yes j lt. parts_rise c.args.plan c.args.person c.args.row.now c.loop-at.at _ c.loop-at.invariant.rise
+      (c.part_rises.ensures.0 yes) j lt (omega arith)),
+  (λ all. c.part_rises.ensures.1 (λ j lt from. all j lt)),
+)

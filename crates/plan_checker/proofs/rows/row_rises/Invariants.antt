@@ -1,6 +1,13 @@
-use Rattle.std.proofs.Common.{ℕ, pos, ◌<◌, ◌+◌, get_or}
-use Rattle.plan_checker.specs.inside.Rises.{Rises}
+use Rattle.std.proofs.Common.{◌≤◌, ◌-◌, length}
+use Rattle.plan_checker.specs.inside.Rises.{PartRises}
 use Rattle.plan_checker.proofs.rows.row_rises.Given as goal
 
-abbrev pub invariant-loop-j : goal.invariant-loop-j
-invariant-loop-j l = (k : ℕ) → k < l.j → Rises l.plan l.person (k + 1) (get_or l.row k (pos 0))
+-- the ranks of all passed objects rise
+abbrev pub invariant-loop-at : goal.invariant-loop-at
+invariant-loop-at l = record {
+  within : l.at ≤ length l.row;
+  rise : PartRises l.plan l.person l.row 0 l.at;
+}
+
+abbrev pub decreases-loop-at : goal.decreases-loop-at
+decreases-loop-at l = length l.row - l.at
