@@ -47,13 +47,11 @@ fn differences(sense: Sense, costs: &[Cost; 8], prices: &[Price; 8], bound: i64x
 
 // Whether a sum of a block is below a bound: the signs of differences show it, so that nothing branches on a cost.
 fn has_below(sense: Sense, costs: &[Cost; BLOCK], prices: &[Price; BLOCK], bound: Cost) -> bool {
-    let (costs, _) = costs.as_slice().as_chunks::<8>();
-    let (prices, _) = prices.as_slice().as_chunks::<8>();
-    let mut signs = i64x8::splat(0);
-    for (costs, prices) in costs.iter().zip(prices.iter()) {
-        signs |= differences(sense, costs, prices, i64x8::splat(bound));
+    let mut signs: Cost = 0;
+    for (cost, price) in costs.iter().zip(prices.iter()) {
+        signs |= sum_of(sense, *cost, *price).wrapping_sub(bound);
     }
-    signs.simd_lt(i64x8::splat(0)).to_bitmask() != 0
+    signs < 0
 }
 
 // Which sums of a block are below a bound, as bits.
