@@ -10,15 +10,19 @@ ghost use Rattle.exact_checker.specs.inside.Sums.{sum_at};
 
 use assign_core::{Cost, GREATEST_COST, Sense};
 use cost_lists::{Price, part};
-use exact_checker::sum_of;
 
-// Whether a cost is in range, and its sum with a price at least a value.
+// Whether a cost, which may be any number, is in range, and its sum with a price at least a value. It has no branch, so
+// that several are looked at in one step.
 fn holds(sense: Sense, cost: Cost, price: Price, value: Cost) -> bool
     requires { IsPriceInLimits price }
     ensures cost { IsTrue result → IsCost cost }
     ensures sum { IsTrue result → value ≤ℤ (minimised sense cost +ℤ price) }
 {
-    -GREATEST_COST <= cost && cost <= GREATEST_COST && value <= sum_of(sense, cost, price)
+    let sum = match sense {
+        Sense::Min => price.wrapping_add(cost),
+        Sense::Max => price.wrapping_sub(cost),
+    };
+    (-GREATEST_COST <= cost) & (cost <= GREATEST_COST) & (value <= sum)
 }
 
 // Whether this holds of each cost of a row. It reads on after one of which it doesn't, so that several
