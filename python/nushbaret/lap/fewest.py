@@ -17,12 +17,11 @@ def fewest_changes(problem: AssignmentProblem, kept: Collection[Tuple[int, int]]
     Rows and columns of `kept` count from 0. The plan's prices are whole, and prove it for the costs alone; the library
     proves at combined ones that no best plan changes fewer."""
     asked = proved.instance_of(problem)
-    given = dict(zip(*oriented(problem, *zip(*kept)))) if kept else {}
-    if not asked.n or len(given) < len(kept):
-        return None
     own = [0] * asked.n
-    for person, item in given.items():
+    for person, item in zip(*oriented(problem, *zip(*kept))) if kept else ():
         own[person] = item + 1
+    if not asked.n or asked.n - own.count(0) < len(kept):
+        return None
     found = wide.solved(problem.maximize, asked, array("I", own))
     if isinstance(found, proved.HallSet):
         return None
