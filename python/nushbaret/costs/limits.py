@@ -53,6 +53,6 @@ class WideNumbers(BorrowedNumbers):
     def listed(self) -> List[int]:
         """The numbers as a list of Python's."""
         data = self.words.tobytes()
-        if not any(self.words[1::2]) and data[7::16].isascii():
+        if isinstance(self.words, array) and not any(self.words[1::2]) and data[7::16].isascii():
             return self.words[::2].tolist()
         return [int.from_bytes(data[begin:begin + 16], "little", signed=True) for begin in range(0, len(data), 16)]
