@@ -96,7 +96,7 @@ def swaps_of(nodes: RosterNodes, best: BestPlan) -> List[Swap]:
         items[number].append(place)
     # After the objects come those of who stays out.
     most = max(len(nodes.of_rows), len(nodes.of_columns))
-    stay = _who_stays(nodes, best, numbers) if best.answer.m > most else set()
+    stay = _who_stays(nodes, best, numbers, most) if best.answer.m > most else set()
     joined = (([person for person in persons[number] if person not in stay] if stay else persons[number],
                own if own[-1] < most else [place for place in own if place < most])
               for number, own in items.items() if len(own) > 1)
@@ -105,10 +105,10 @@ def swaps_of(nodes: RosterNodes, best: BestPlan) -> List[Swap]:
                   for rows, columns in sides)
 
 
-def _who_stays(nodes: RosterNodes, best: BestPlan, numbers: Sequence[int]) -> Set[int]:
-    """Persons who stay out in each best plan: none of their pairs is as good as that and of their group."""
+def _who_stays(nodes: RosterNodes, best: BestPlan, numbers: Sequence[int], most: int) -> Set[int]:
+    """Persons who have an object beyond `most`, which is staying out, in each best plan: none of their pairs is as good
+    as that and of their group."""
     objects, prices = best.answer.objects, best.answer.prices
-    most = max(len(nodes.of_rows), len(nodes.of_columns))
     out = {person for person, item in enumerate(objects) if item > most}
     pairs = zip(*oriented(best.problem, nodes.rows, nodes.columns), best.problem.costs.numbers)
     return out.difference(person for person, item, cost in pairs if person in out
