@@ -1,14 +1,13 @@
 -- Tight pairs, one object or one person after another.
 use Rattle.std.proofs.Common.{ℕ, ℤ, pos, ◌+◌, ◌<ℤ◌, ◌⊎◌, ◌≡◌, ◌++◌, ◌∷◌, [], List, length, get_or, sym, subst, inl, inr}
 use Rattle.std.specs.List.{Contains}
-use Rattle.std.proofs.lemmas.Bool.{cases_lt}
 use Rattle.std.proofs.lemmas.List.Elements.{Contains-append_left, Contains-push}
 use Rattle.assign_core.specs.declared.sense.Sense.{Sense}
 use Rattle.assign_core.proofs.NumberedLemmas.{low_or_same}
 use Rattle.cost_lists.specs.Source.{part_of}
 use Rattle.exact_checker.specs.inside.Sums.{sum_at}
 use Rattle.c_wide.specs.declared.fewest.tight.Tight.{Tight}
-use Rattle.c_wide.specs.fewest.Tight.{AreAbove, AreNoted, AreTight, IsIn, pair}
+use Rattle.c_wide.specs.fewest.Tight.{AreNoted, AreTight, IsIn, pair}
 
 still_noted : (sense : Sense) (row prices : List ℤ) (value : ℤ) (person k : ℕ) (before after : List Tight) → IsIn before after →
     AreNoted sense row prices value person k before → AreNoted sense row prices value person k after
@@ -38,14 +37,6 @@ pair_pushed sense row prices value person k start before after is noted stays =
 pub pair_skipped : (sense : Sense) (row prices : List ℤ) (value : ℤ) (person k : ℕ) (before : List Tight) →
     AreNoted sense row prices value person k before → value <ℤ sum_at sense row prices k → AreNoted sense row prices value person (k + 1) before
 pair_skipped sense row prices value person k before noted above = object_noted sense row prices value person k before before (λ t has. has) noted (inl above)
-
--- a block that is left out
-pub block_skipped : (sense : Sense) (row prices : List ℤ) (value : ℤ) (person from to : ℕ) (before : List Tight) →
-    AreNoted sense row prices value person from before → AreAbove sense row prices value from to → AreNoted sense row prices value person to before
-block_skipped sense row prices value person from to before noted above j lt = elim (cases_lt j from) [
-  | inl less ↦ noted j less
-  | inr upto ↦ inl (above j lt upto)
-]
 
 pub person_noted : (sense : Sense) (costs prices values : List ℤ) (k : ℕ) (before after : List Tight) → IsIn before after →
     AreTight sense costs prices values k before →
