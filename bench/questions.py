@@ -20,7 +20,7 @@ from nushbaret.lap import fewest, library
 from nushbaret.lap.solving import best_plan, rents_of
 from nushbaret.roster import single_nodes
 
-SECONDS, MOST = 1.5, 9
+SECONDS, MOST = 2.0, 40
 
 
 def uniform(dice, n, m):
