@@ -109,15 +109,21 @@ def questions(costs):
             "groups": groups, "fewest changes": fewest_changes}
 
 
+def seconds_of(run):
+    """The lesser processor time of two calls in a row: the first one may find the matrix out of the cache."""
+    begin = time.thread_time()
+    run()
+    between = time.thread_time()
+    run()
+    return min(between - begin, time.thread_time() - between)
+
+
 def least_times(asked):
-    """The least processor time of each; they take turns, each two calls in a row, since the first one may find the
-    matrix out of the cache."""
+    """The least processor time of each; they take turns."""
     least, begin = {}, time.monotonic()
     for turn in range(MOST):
-        for name in (name for name in asked for _ in range(2)):
-            start = time.thread_time()
-            asked[name]()
-            least[name] = min(time.thread_time() - start, least.get(name, 1e9))
+        for name, run in asked.items():
+            least[name] = min(seconds_of(run), least.get(name, 1e9))
         if turn and time.monotonic() - begin > SECONDS:
             break
     return least
